@@ -1,0 +1,61 @@
+-- Document 01, "The book": the bytes of a book, and what makes one sound.
+use Prim.Native.Nat.{ℕ, suc, _+_, _/_, _%_}
+use mathlib.Core.Bool.{Bool, true, false, _&&_}
+use mathlib.Core.List.{List, [], _∷_, _++_}
+use lib.Dec.{leb, ltb}
+use lib.ListN.{length}
+use Rattle.book.specs.declared.item.Item.{Item}
+use Rattle.book.specs.declared.item.Item.the-variants.{Key, Call}
+
+-- a macro is its items in order
+abbrev pub Macro : Type 0
+Macro = List Item
+
+-- "two-byte numbers have the low byte first"
+abbrev pub word : ℕ → List ℕ
+word n = n % 256 ∷ n / 256 ∷ []
+
+-- "An item from 1 to 255 is a key. An item 256 + j calls macro j"
+abbrev pub code : Item → ℕ
+code (Key k) = k
+code (Call j) = 256 + j
+
+-- "that many two-byte items"
+unfoldable pub encodeItems : List Item → List ℕ
+encodeItems [] = []
+encodeItems (i ∷ is) = word (code i) ++ encodeItems is
+
+-- "Each is a two-byte item count .. and that many two-byte items"
+unfoldable pub encodeMacros : List Macro → List ℕ
+encodeMacros [] = []
+encodeMacros (m ∷ ms) = word (length m) ++ (encodeItems m ++ encodeMacros ms)
+
+-- "The first three bytes are the mark `MBK` (hex 4D 42 4B)"
+abbrev pub mark : List ℕ
+mark = 0x4D ∷ 0x42 ∷ 0x4B ∷ []
+
+-- "Then a two-byte version, 1, and a two-byte macro count M .. Then M macros .. Nothing follows."
+unfoldable pub encode : List Macro → List ℕ
+encode ms = mark ++ (word 1 ++ (word (length ms) ++ encodeMacros ms))
+
+-- the item of macro n is a key "from 1 to 255", or a call of macro j "and j is lower than the number of the macro it stands in"
+unfoldable pub soundItem : ℕ → Item → Bool
+soundItem n (Key k) = leb 1 k && leb k 255
+soundItem n (Call j) = ltb j n
+
+unfoldable pub soundItems : ℕ → List Item → Bool
+soundItems n [] = true
+soundItems n (i ∷ is) = soundItem n i && soundItems n is
+
+-- "a two-byte item count, 1 to 64"
+unfoldable pub soundMacro : ℕ → Macro → Bool
+soundMacro n m = leb 1 (length m) && (leb (length m) 64 && soundItems n m)
+
+-- the macros from number n on
+unfoldable pub soundMacros : ℕ → List Macro → Bool
+soundMacros n [] = true
+soundMacros n (m ∷ ms) = soundMacro n m && soundMacros (suc n) ms
+
+-- "a two-byte macro count M, 1 to 1,024. Then M macros, numbered from 0."
+unfoldable pub wellFormed : List Macro → Bool
+wellFormed ms = leb 1 (length ms) && (leb (length ms) 1024 && soundMacros 0 ms)

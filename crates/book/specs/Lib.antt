@@ -1,0 +1,5 @@
+-- The macro book of document 01: its format, its reading, the written-out run, what a macro reaches.
+pub mod Format
+pub mod Reading
+pub mod Run
+pub mod Reach

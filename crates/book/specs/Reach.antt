@@ -1,0 +1,57 @@
+-- Document 01, "The book": what a macro reaches, and books that are alike in a macro.
+use Prim.Native.Nat.{ℕ, zero, suc, _+_, _<_}
+use mathlib.Core.Path.{_≡_}
+use mathlib.Core.Bool.{Bool, true, false, _||_, cond}
+use mathlib.Core.List.{List, [], _∷_, List·Memᴰ}
+use lib.Dec.{eqb}
+use lib.ListN.{length, getD, drop}
+use Rattle.book.specs.declared.item.Item.{Item}
+use Rattle.book.specs.declared.item.Item.the-variants.{Key, Call}
+use Rattle.book.specs.Format.{Macro}
+
+-- macro m calls macro j
+abbrev pub Calls : List Macro → ℕ → ℕ → Type 0
+Calls ms m j = List·Memᴰ (Call j) (getD ms m [])
+
+-- "A macro reaches itself and every macro it calls, directly or through others."
+pub data Reaches (ms : List Macro) : ℕ → ℕ → Type 0 where
+  itself : {m : ℕ} → Reaches ms m m
+  through : {m i j : ℕ} → Calls ms m i → Reaches ms i j → Reaches ms m j
+
+-- "Two books are alike in a macro if both have one of that number, with the same items in the same order."
+pub record Alike (ms ns : List Macro) (m : ℕ) : Type 0 where
+  pub here : m < length ms
+  pub there : m < length ns
+  pub same : getD ms m [] ≡ getD ns m []
+
+-- some call among the items leads to a macro that has p
+unfoldable pub anyCall : (ℕ → Bool) → Macro → Bool
+anyCall p [] = false
+anyCall p (Key k ∷ is) = anyCall p is
+anyCall p (Call i ∷ is) = p i || anyCall p is
+
+unfoldable pub reachesTo : ℕ → List Macro → ℕ → ℕ → Bool
+reachesTo zero ms m j = false
+reachesTo (suc d) ms m j = eqb m j || anyCall (λ i. reachesTo d ms i j) (getD ms m [])
+
+-- the same as a test; calls go to lower macros, so m of them, one after the other, are the most there are
+unfoldable pub reaches : List Macro → ℕ → ℕ → Bool
+reaches ms m j = reachesTo (suc m) ms m j
+
+-- how many numbers below n have p
+unfoldable pub countBelow : ℕ → (ℕ → Bool) → ℕ
+countBelow zero p = 0
+countBelow (suc n) p = cond (p n) 1 0 + countBelow n p
+
+-- how many macros m reaches: all are m or lower
+unfoldable pub reachCount : List Macro → ℕ → ℕ
+reachCount ms m = countBelow (suc m) (λ j. reaches ms m j)
+
+-- The reach list of m: `written` numbers stand at the front of a lent list that held `before` and now holds `after`.
+-- "the numbers of m and of every macro it calls, directly or through others, each once. Their order is open." "later entries are not touched"
+pub record ReachList (ms : List Macro) (m written : ℕ) (before after : List ℕ) : Type 0 where
+  pub count : written ≡ reachCount ms m
+  pub only : (e : ℕ) → e < written → Reaches ms m (getD after e 0)
+  pub every : (j : ℕ) → Reaches ms m j → (e : ℕ) × (e < written) × (getD after e 0 ≡ j)
+  pub once : (d e : ℕ) → d < written → e < written → getD after d 0 ≡ getD after e 0 → d ≡ e
+  pub later : drop written after ≡ drop written before

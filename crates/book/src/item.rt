@@ -1,0 +1,51 @@
+// One item of a book. Everything that looks at items goes through `read_item`.
+ghost use mathlib.Core.Path.{_≡_};
+ghost use Prim.Native.Nat.{_+_, _*_, _<_};
+ghost use lib.ListN.{length, drop};
+ghost use Rattle.book.specs.Reading.{itemAt, number};
+
+// Document 01, "The book": an item from 1 to 255 is a key, 256 + j calls macro j. A key of 0 is in no sound book.
+pub enum Item {
+    Key(u8),
+    Call(u16),
+}
+
+// What stands at a place: an item, or fewer bytes than an item has.
+pub enum ItemRead {
+    Found(Item),
+    Short,
+}
+
+fn wide(b: u8) -> u16
+    ensures { λ r. ⌜ (r ≡ b) × (r < 256) ⌝ }
+{
+    b as u16
+}
+
+// The two-byte number at `at`, low byte first.
+pub(crate) fn number_at(s: &[u8], at: usize) -> u16
+    requires { ⌜ at + 1 < length (now s) ⌝ }
+    ensures { λ r. ⌜ r ≡ number (drop at (now (s .entry))) ⌝ }
+{
+    let low = wide(s[at]);
+    let high = wide(s[at + 1]);
+    low + 256 * high
+}
+
+// The item whose two bytes start at `at`.
+pub fn read_item(s: &[u8], at: usize) -> ItemRead
+    ensures { λ r. ⌜ r ≡ itemAt (drop at (now (s .entry))) ⌝ }
+{
+    if s.len() < 2 {
+        return ItemRead::Short;
+    }
+    if s.len() - 2 < at {
+        return ItemRead::Short;
+    }
+    let code = number_at(s, at);
+    if code < 256 {
+        ItemRead::Found(Item::Key(code as u8))
+    } else {
+        ItemRead::Found(Item::Call(code - 256))
+    }
+}
