@@ -1,2 +1,4 @@
 -- Laws of the book's definitions, which the proofs of functions cite.
+pub mod Header
 pub mod Items
+pub mod Walks

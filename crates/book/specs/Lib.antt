@@ -3,3 +3,4 @@ pub mod Format
 pub mod Reading
 pub mod Run
 pub mod Reach
+pub mod Answer

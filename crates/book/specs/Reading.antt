@@ -44,14 +44,14 @@ itemOf c = cond (ltb c 256) (Key c) (Call (c - 256))
 abbrev pub itemAt : List ℕ → ItemRead
 itemAt b = cond (ltb (length b) 2) Short (Found (itemOf (number b)))
 
--- 5, "item 0"; 6, "256 or more, and not a lower macro" than the macro n that it stands in
-abbrev pub judge : ℕ → Item → Reader Item
-judge n (Key k) = cond (eqb k 0) (λ b. refused InvalidKey) (done (Key k))
-judge n (Call j) = cond (ltb j n) (done (Call j)) (λ b. refused ForwardReference)
+-- an item of macro n: 4, "bytes run out"; 5, "item 0"; 6, "256 or more, and not a lower macro"
+abbrev pub judge : ℕ → ItemRead → Reader Item
+judge n Short rest = refused MalformedBody
+judge n (Found (Key k)) rest = cond (eqb k 0) (refused InvalidKey) (got (Key k) rest)
+judge n (Found (Call j)) rest = cond (ltb j n) (got (Call j) rest) (refused ForwardReference)
 
--- an item of macro n; 4, "bytes run out"
 unfoldable pub readItem : ℕ → Reader Item
-readItem n b = cond (ltb (length b) 2) (refused MalformedBody) (judge n (itemOf (number b)) (drop 2 b))
+readItem n b = judge n (itemAt b) (drop 2 b)
 
 -- k items of macro n
 unfoldable pub readItems : ℕ → ℕ → Reader Macro

@@ -1,3 +1,4 @@
+mod check;
 mod item;
 
 pub use item::{Item, ItemRead, read_item};
