@@ -8,7 +8,7 @@ use lib.Dec.{eqb}
 use lib.ListN.{length, drop, getD}
 use borrow.Author.Tests.{lt-leb, le-leb, eq-eqb, ne-eqb, not-true, not-false}
 use Rattle.refusal.specs.declared.Refusal.the-variants.{BadMagic, UnsupportedVersion, BadMacroCount}
-use Rattle.book.specs.declared.check.Header.{Header}
+use Rattle.book.specs.declared.layout.Header.{Header}
 use Rattle.book.specs.Reading.{marked, number, readHeader}
 use Rattle.book.specs.Answer.{headed}
 

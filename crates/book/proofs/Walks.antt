@@ -14,8 +14,8 @@ use Rattle.book.specs.declared.item.Item.{Item}
 use Rattle.book.specs.declared.item.Item.the-variants.{Key, Call}
 use Rattle.book.specs.declared.item.ItemRead.{ItemRead}
 use Rattle.book.specs.declared.item.ItemRead.the-variants.{Found, Short}
-use Rattle.book.specs.declared.check.Walk.{Walk}
-use Rattle.book.specs.declared.check.Walk.the-variants.{At, Refused}
+use Rattle.book.specs.declared.layout.Walk.{Walk}
+use Rattle.book.specs.declared.layout.Walk.the-variants.{At, Refused}
 use Rattle.book.specs.Reading.{Reading, got, refused, next, done, itemAt, itemOf, number, judge, readItem, readItems, readMacro}
 use Rattle.book.specs.Format.{Macro}
 use Rattle.book.specs.Answer.{walked}

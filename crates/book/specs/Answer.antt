@@ -1,11 +1,73 @@
 -- What each operation of the book answers, by the definitions of the book.
-use Prim.Native.Nat.{ℕ, _-_}
-use mathlib.Core.List.{List}
-use lib.ListN.{length}
+use Prim.Native.Nat.{ℕ, suc, _+_, _-_}
+use mathlib.Core.Path.{_≡_}
+use mathlib.Core.Bool.{Bool, cond}
+use mathlib.Core.List.{List, [], _++_}
+use lib.Dec.{ltb}
+use lib.ListN.{length, replicate}
 use Rattle.refusal.specs.declared.Refusal.{Refusal}
-use Rattle.book.specs.declared.check.Header.{Header}
-use Rattle.book.specs.declared.check.Walk.{Walk}
-use Rattle.book.specs.Reading.{Reading, got, refused}
+use Rattle.refusal.specs.declared.Refusal.the-variants.{NoSuchMacro, InsufficientSpace}
+use Rattle.refusal.specs.Number as Number
+use Rattle.book.specs.declared.layout.Checked.{Checked}
+use Rattle.book.specs.declared.layout.Header.{Header}
+use Rattle.book.specs.declared.layout.Layout.{Layout}
+use Rattle.book.specs.declared.layout.Walk.{Walk}
+use Rattle.book.specs.Format.{Macro}
+use Rattle.book.specs.Place.{starts, bodyPart}
+use Rattle.book.specs.Reach.{ReachList}
+use Rattle.book.specs.Reading.{Reading, Reader, got, refused, done, _>>=_, readBook}
+
+-- The paper's figures for an answer: the refusal's number, 0 if accepted, and the one value. "A refusal's other numbers are 0"
+pub record Figures : Type 0 where
+  pub refusal : ℕ
+  pub value : ℕ
+
+abbrev pub accepted : ℕ → Figures
+accepted n = record { refusal = 0; value = n }
+
+abbrev pub refusedFor : Refusal → Figures
+refusedFor r = record { refusal = Number.number r; value = 0 }
+
+-- the check of a book: its macro count
+abbrev pub checkedFigures : Checked → Figures
+checkedFigures (Checked.Sound n) = accepted n
+checkedFigures (Checked.Refused r) = refusedFor r
+
+abbrev pub checkFigures : Reading (List Macro) → Figures
+checkFigures (got ms rest) = accepted (length ms)
+checkFigures (refused r) = refusedFor r
+
+-- a book's layout: its macro count and where its macros stand; zeros in the places that are left over, or where it is refused
+abbrev pub layoutFor : Reading (List Macro) → Layout
+layoutFor (got ms rest) = record { answer = Checked.Sound (length ms); places = starts 7 ms ++ replicate (1024 - length ms) 0 }
+layoutFor (refused r) = record { answer = Checked.Refused r; places = replicate 1025 0 }
+
+-- 10 after 1 to 6: "m not below M"
+unfoldable pub readMacroOf : ℕ → Reader (List Macro)
+readMacroOf m = do
+  ms ← readBook
+  λ rest. cond (ltb m (length ms)) (got ms rest) (refused NoSuchMacro)
+
+-- the body of macro m; "a refused body is an empty part"
+abbrev pub bodyOf : List ℕ → ℕ → Reading (List Macro) → List ℕ
+bodyOf b m (got ms rest) = bodyPart b ms m
+bodyOf b m (refused r) = []
+
+-- "its refusal stands in a lent number (0 if accepted)"
+abbrev pub refusalOf : {A : Type 0} → Reading A → ℕ
+refusalOf (got a rest) = 0
+refusalOf (refused r) = Number.number r
+
+-- 11 after 10: "fewer .. entries than stated", which is m + 1
+unfoldable pub readReach : ℕ → ℕ → Reader (List Macro)
+readReach m entries = do
+  ms ← readMacroOf m
+  λ rest. cond (ltb entries (m + 1)) (refused InsufficientSpace) (got ms rest)
+
+-- the reach list of macro m: the figures of the answer, and the lent list before and after; a refusal leaves it "unchanged"
+abbrev pub ReachAnswer : Reading (List Macro) → ℕ → Figures → List ℕ → List ℕ → Type 0
+ReachAnswer (got ms rest) m f before after = (f .refusal ≡ 0) × ReachList ms m (f .value) before after
+ReachAnswer (refused r) m f before after = (f ≡ refusedFor r) × (after ≡ before)
 
 -- where reading goes on in a book of n bytes
 abbrev pub walked : {A : Type 0} → ℕ → Reading A → Walk

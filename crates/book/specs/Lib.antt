@@ -1,6 +1,7 @@
--- The macro book of document 01: its format, its reading, the written-out run, what a macro reaches.
+-- The macro book of document 01: its format, its reading, the written-out run, what a macro reaches, and what the operations answer.
 pub mod Format
 pub mod Reading
+pub mod Place
 pub mod Run
 pub mod Reach
 pub mod Answer

@@ -94,9 +94,14 @@ readHeader b =
 abbrev pub atEnd : {A : Type 0} → A → Reader A
 atEnd a b = cond (eqb (length b) 0) (got a b) (refused MalformedBody)
 
+-- k macros and nothing more
+unfoldable pub readAll : ℕ → Reader (List Macro)
+readAll k = do
+  ms ← readMacros 0 k
+  atEnd ms
+
 -- a whole book: its macros, or what it is refused for
 unfoldable pub readBook : Reader (List Macro)
 readBook = do
   k ← readHeader
-  ms ← readMacros 0 k
-  atEnd ms
+  readAll k

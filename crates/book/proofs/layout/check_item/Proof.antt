@@ -2,10 +2,10 @@ use denote.Ref.{now}
 use native.Mathlib.Omega.{arith}
 use Rattle.book.proofs.Walks.{item-cut, item-fits, key-zero, key-on, call-high, call-on}
 use borrow.Author.Needs.{needs}
-use Rattle.book.proofs.check.check_item.Statement.{statement}
-use Rattle.book.proofs.check.check_item.Tie as tie
-use Rattle.book.proofs.check.check_item.Reads as reads
-use Rattle.book.proofs.check.check_item.Lts as lts
+use Rattle.book.proofs.layout.check_item.Statement.{statement}
+use Rattle.book.proofs.layout.check_item.Tie as tie
+use Rattle.book.proofs.layout.check_item.Reads as reads
+use Rattle.book.proofs.layout.check_item.Lts as lts
 use Rattle.book.proofs.item.read_item.Reads as read-item-reads
 
 -- src/check.rt:21:9

@@ -1,10 +1,10 @@
 use Rattle.book.proofs.Walks.{macro-cut, macro-none, macro-many, macro-items}
 use borrow.Author.Needs.{needs}
-use Rattle.book.proofs.check.check_macro.Statement.{statement}
-use Rattle.book.proofs.check.check_macro.Tie as tie
-use Rattle.book.proofs.check.check_macro.Reads as reads
-use Rattle.book.proofs.check.check_macro.Lts as lts
-use Rattle.book.proofs.check.check_items.Reads as check-items-reads
+use Rattle.book.proofs.layout.check_macro.Statement.{statement}
+use Rattle.book.proofs.layout.check_macro.Tie as tie
+use Rattle.book.proofs.layout.check_macro.Reads as reads
+use Rattle.book.proofs.layout.check_macro.Lts as lts
+use Rattle.book.proofs.layout.check_items.Reads as check-items-reads
 use Rattle.book.proofs.item.number_at.Reads as number-at-reads
 
 -- src/check.rt:67:8

@@ -1,10 +1,10 @@
 use Rattle.book.proofs.Header.{header-short, header-mark, header-version, header-none, header-many, header-good}
 use borrow.Author.Needs.{needs}
-use Rattle.book.proofs.check.read_header.Statement.{statement}
-use Rattle.book.proofs.check.read_header.Tie as tie
-use Rattle.book.proofs.check.read_header.Reads as reads
-use Rattle.book.proofs.check.read_header.Lts as lts
-use Rattle.book.proofs.check.has_mark.Reads as has-mark-reads
+use Rattle.book.proofs.layout.read_header.Statement.{statement}
+use Rattle.book.proofs.layout.read_header.Tie as tie
+use Rattle.book.proofs.layout.read_header.Reads as reads
+use Rattle.book.proofs.layout.read_header.Lts as lts
+use Rattle.book.proofs.layout.has_mark.Reads as has-mark-reads
 use Rattle.book.proofs.item.number_at.Reads as number-at-reads
 
 -- src/check.rt:43:9

@@ -7,11 +7,11 @@ use lib.ListN.{length, drop}
 use borrow.Author.Needs.{needs}
 use Rattle.book.specs.Reading.{readItems}
 use Rattle.book.specs.Answer.{walked}
-use Rattle.book.proofs.check.check_items.Statement.{statement}
-use Rattle.book.proofs.check.check_items.Tie as tie
-use Rattle.book.proofs.check.check_items.Reads as reads
-use Rattle.book.proofs.check.check_items.Lts as lts
-use Rattle.book.proofs.check.check_item.Reads as check-item-reads
+use Rattle.book.proofs.layout.check_items.Statement.{statement}
+use Rattle.book.proofs.layout.check_items.Tie as tie
+use Rattle.book.proofs.layout.check_items.Reads as reads
+use Rattle.book.proofs.layout.check_items.Lts as lts
+use Rattle.book.proofs.layout.check_item.Reads as check-item-reads
 
 abbrev Inv-loop : tie.InvT-loop
 Inv-loop s start count n at₀ left₀ at left =

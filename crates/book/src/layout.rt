@@ -1,12 +1,12 @@
-// The check of a whole book, in reading order (document 01, "Refused", 1 to 6).
+// The check of a whole book, in reading order (document 01, "Refused", 1 to 6), and the places of its macros.
 use crate::item::{Item, ItemRead, number_at, read_item};
 use refusal::Refusal;
 
 ghost use mathlib.Core.Path.{_≡_};
 ghost use Prim.Native.Nat.{_≤_};
 ghost use lib.ListN.{length, drop};
-ghost use Rattle.book.specs.Reading.{marked, readHeader, readItem, readItems, readMacro};
-ghost use Rattle.book.specs.Answer.{headed, walked};
+ghost use Rattle.book.specs.Reading.{marked, readAll, readBook, readHeader, readItem, readItems, readMacro, refused};
+ghost use Rattle.book.specs.Answer.{headed, layoutFor, walked};
 
 // The mark that a book begins with.
 const MARK: [u8; 3] = *b"MBK";
@@ -15,6 +15,19 @@ const MARK: [u8; 3] = *b"MBK";
 enum Header {
     Macros(u16),
     Refused(Refusal),
+}
+
+// A book's macro count, or why it is refused.
+pub enum Checked {
+    Sound(u16),
+    Refused(Refusal),
+}
+
+// The check of a book and, where it is sound, the places of its macros: macro i starts at places[i] and ends at
+// places[i + 1].
+pub struct Layout {
+    pub answer: Checked,
+    pub places: [usize; 1025],
 }
 
 // Where reading goes on, or why it stops.
@@ -119,4 +132,53 @@ fn check_macro(s: &[u8], at: usize, n: u16) -> Walk
         return Walk::Refused(Refusal::MalformedBody);
     }
     check_items(s, at + 2, count, n)
+}
+
+fn refused_layout(r: Refusal) -> Layout
+    ensures { λ x. ⌜ x ≡ layoutFor (refused r) ⌝ }
+{
+    Layout {
+        answer: Checked::Refused(r),
+        places: [0; 1025],
+    }
+}
+
+// The macros of a book whose header gives `count`.
+fn layout_macros(s: &[u8], count: u16) -> Layout
+    requires { ⌜ (7 ≤ length (now s)) × (count ≤ 1024) ⌝ }
+    ensures { λ r. ⌜ r ≡ layoutFor (readAll count (drop 7 (now (s .entry)))) ⌝ }
+{
+    let mut places = [0; 1025];
+    let mut at = 7;
+    let mut n = 0;
+    places[0] = 7;
+    while n < count {
+        match check_macro(s, at, n) {
+            Walk::At(next) => {
+                at = next;
+            }
+            Walk::Refused(r) => {
+                return refused_layout(r);
+            }
+        }
+        n += 1;
+        places[n as usize] = at;
+    }
+    if at < s.len() {
+        return refused_layout(Refusal::MalformedBody);
+    }
+    Layout {
+        answer: Checked::Sound(count),
+        places,
+    }
+}
+
+// One walk over the book: the check of each byte, and the places.
+pub fn layout_of(book: &[u8]) -> Layout
+    ensures { λ r. ⌜ r ≡ layoutFor (readBook (now (book .entry))) ⌝ }
+{
+    match read_header(book) {
+        Header::Macros(count) => layout_macros(book, count),
+        Header::Refused(r) => refused_layout(r),
+    }
 }

@@ -1,9 +1,9 @@
 use Rattle.book.proofs.Header.{mark-first, mark-second, mark-third}
 use borrow.Author.Needs.{needs}
-use Rattle.book.proofs.check.has_mark.Statement.{statement}
-use Rattle.book.proofs.check.has_mark.Tie as tie
-use Rattle.book.proofs.check.has_mark.Reads as reads
-use Rattle.book.proofs.check.has_mark.Lts as lts
+use Rattle.book.proofs.layout.has_mark.Statement.{statement}
+use Rattle.book.proofs.layout.has_mark.Tie as tie
+use Rattle.book.proofs.layout.has_mark.Reads as reads
+use Rattle.book.proofs.layout.has_mark.Lts as lts
 
 -- src/check.rt:30:8
 shared-slice-read-if1 : tie.Need-shared-slice-read-if1

@@ -1,0 +1,22 @@
+-- Where the macros of a book stand among its bytes.
+use Prim.Native.Nat.{ℕ, _+_, _*_}
+use mathlib.Core.List.{List, [], _∷_}
+use lib.ListN.{length, getD, take, drop}
+use Rattle.book.specs.Format.{Macro}
+
+-- the bytes of a macro: "a two-byte item count .. and that many two-byte items"
+abbrev pub size : Macro → ℕ
+size m = 2 + 2 * length m
+
+-- where each macro starts, the first of them at `at`, and where the last one ends
+unfoldable pub starts : ℕ → List Macro → List ℕ
+starts at [] = at ∷ []
+starts at (m ∷ ms) = at ∷ starts (at + size m) ms
+
+-- where macro i starts in a book with these macros: the header has 7 bytes
+abbrev pub place : List Macro → ℕ → ℕ
+place ms i = getD (starts 7 ms) i 0
+
+-- "The body of a macro, its items without the count, is answered as that part of the lent book."
+abbrev pub bodyPart : List ℕ → List Macro → ℕ → List ℕ
+bodyPart b ms m = take (2 * length (getD ms m [])) (drop (place ms m + 2) b)
