@@ -2,3 +2,5 @@
 pub mod Header
 pub mod Items
 pub mod Walks
+pub mod Reach
+pub mod Run

@@ -1,15 +1,19 @@
 -- Document 01, "The book": the bytes of a book, and what makes one sound.
-use Prim.Native.Nat.{ℕ, suc, _+_, _/_, _%_}
+use Prim.Native.Nat.{ℕ, suc, _+_, _/_, _%_, _<_}
 use mathlib.Core.Bool.{Bool, true, false, _&&_}
 use mathlib.Core.List.{List, [], _∷_, _++_}
 use lib.Dec.{leb, ltb}
-use lib.ListN.{length}
+use lib.ListN.{length, getD}
 use Rattle.book.specs.declared.item.Item.{Item}
 use Rattle.book.specs.declared.item.Item.the-variants.{Key, Call}
 
 -- a macro is its items in order
 abbrev pub Macro : Type 0
 Macro = List Item
+
+-- every number of the list is a byte
+abbrev pub Bytes : List ℕ → Type 0
+Bytes b = (i : ℕ) → getD b i 0 < 256
 
 -- "two-byte numbers have the low byte first"
 abbrev pub word : ℕ → List ℕ

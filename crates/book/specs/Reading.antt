@@ -44,6 +44,12 @@ itemOf c = cond (ltb c 256) (Key c) (Call (c - 256))
 abbrev pub itemAt : List ℕ → ItemRead
 itemAt b = cond (ltb (length b) 2) Short (Found (itemOf (number b)))
 
+-- the items that bytes hold, two bytes each
+unfoldable pub itemsOf : List ℕ → List Item
+itemsOf [] = []
+itemsOf (l ∷ []) = []
+itemsOf (l ∷ h ∷ b) = itemOf (l + 256 * h) ∷ itemsOf b
+
 -- an item of macro n: 4, "bytes run out"; 5, "item 0"; 6, "256 or more, and not a lower macro"
 abbrev pub judge : ℕ → ItemRead → Reader Item
 judge n Short rest = refused MalformedBody
