@@ -2,5 +2,7 @@
 pub mod Header
 pub mod Items
 pub mod Walks
+pub mod Layouts
+pub mod Places
 pub mod Reach
 pub mod Run

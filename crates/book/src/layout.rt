@@ -4,7 +4,8 @@ use refusal::Refusal;
 
 ghost use mathlib.Core.Path.{_≡_};
 ghost use Prim.Native.Nat.{_≤_};
-ghost use lib.ListN.{length, drop};
+ghost use mathlib.Core.List.{_∷_};
+ghost use lib.ListN.{length, drop, replicate};
 ghost use Rattle.book.specs.Reading.{marked, readAll, readBook, readHeader, readItem, readItems, readMacro, refused};
 ghost use Rattle.book.specs.Answer.{headed, layoutFor, walked};
 
@@ -143,15 +144,23 @@ fn refused_layout(r: Refusal) -> Layout
     }
 }
 
+// The places before any macro was read: the first one follows the header.
+fn first_place() -> [usize; 1025]
+    ensures { λ r. ⌜ r ≡ 7 ∷ replicate 1024 0 ⌝ }
+{
+    let mut places = [0; 1025];
+    places[0] = 7;
+    places
+}
+
 // The macros of a book whose header gives `count`.
 fn layout_macros(s: &[u8], count: u16) -> Layout
     requires { ⌜ (7 ≤ length (now s)) × (count ≤ 1024) ⌝ }
     ensures { λ r. ⌜ r ≡ layoutFor (readAll count (drop 7 (now (s .entry)))) ⌝ }
 {
-    let mut places = [0; 1025];
+    let mut places = first_place();
     let mut at = 7;
     let mut n = 0;
-    places[0] = 7;
     while n < count {
         match check_macro(s, at, n) {
             Walk::At(next) => {
