@@ -19,21 +19,7 @@ use Rattle.book.specs.declared.layout.Walk.the-variants.{At, Refused}
 use Rattle.book.specs.Reading.{Reading, got, refused, next, done, itemAt, itemOf, number, judge, readItem, readItems, readMacro}
 use Rattle.book.specs.Format.{Macro}
 use Rattle.book.specs.Answer.{walked}
-
--- two constructors that are equal prove anything
-pub clash : {A : Type 0} → _≡_ {A = ℕ} 0 1 → A
-clash z = absurd (no-less z)
-  where
-    no-less : _≡_ {A = ℕ} 0 1 → ⊥
-    no-less z = omega arith
-
--- an item that was found has its two bytes
-pub found-long : (b : List ℕ) (i : Item) → itemAt b ≡ Found i → 2 ≤ length b
-found-long b i e = go (ltb (length b) 2) refl
-  where
-    go : (t : Bool) → ltb (length b) 2 ≡ t → 2 ≤ length b
-    go true h = clash (cc (rw h at e))
-    go false h = ltb-false _ _ h
+pub use Rattle.book.proofs.Items.{clash, found-long}
 
 module _ (s : List ℕ) (at n : ℕ) (r : ItemRead) (e : r ≡ itemAt (drop at s)) where
   judged : (v : ItemRead) → r ≡ v → readItem n (drop at s) ≡ judge n v (drop 2 (drop at s))

@@ -1,5 +1,5 @@
 -- What each operation of the book answers, by the definitions of the book.
-use Prim.Native.Nat.{ℕ, suc, _+_, _-_}
+use Prim.Native.Nat.{ℕ, _+_, _-_, _<_}
 use mathlib.Core.Path.{_≡_}
 use mathlib.Core.Bool.{Bool, cond}
 use mathlib.Core.List.{List, [], _++_}
@@ -12,10 +12,11 @@ use Rattle.book.specs.declared.layout.Checked.{Checked}
 use Rattle.book.specs.declared.layout.Header.{Header}
 use Rattle.book.specs.declared.layout.Layout.{Layout}
 use Rattle.book.specs.declared.layout.Walk.{Walk}
+use Rattle.book.specs.declared.reachable.Reached.{Reached}
 use Rattle.book.specs.Format.{Macro}
 use Rattle.book.specs.Place.{starts, bodyPart}
 use Rattle.book.specs.Reach.{ReachList}
-use Rattle.book.specs.Reading.{Reading, Reader, got, refused, done, _>>=_, readBook}
+use Rattle.book.specs.Reading.{Reading, Reader, got, refused, done, _>>=_, readBook, macrosIn}
 
 -- The paper's figures for an answer: the refusal's number, 0 if accepted, and the one value. "A refusal's other numbers are 0"
 pub record Figures : Type 0 where
@@ -41,6 +42,11 @@ checkFigures (refused r) = refusedFor r
 abbrev pub layoutFor : Reading (List Macro) → Layout
 layoutFor (got ms rest) = record { answer = Checked.Sound (length ms); places = starts 7 ms ++ replicate (1024 - length ms) 0 }
 layoutFor (refused r) = record { answer = Checked.Refused r; places = replicate 1025 0 }
+
+-- the places of a book's layout, and a macro of the book
+pub record Located (b places : List ℕ) (i : ℕ) : Type 0 where
+  pub table : places ≡ (layoutFor (readBook b)) .places
+  pub inside : i < length (macrosIn b)
 
 -- 10 after 1 to 6: "m not below M"
 unfoldable pub readMacroOf : ℕ → Reader (List Macro)
@@ -68,6 +74,10 @@ readReach m entries = do
 abbrev pub ReachAnswer : Reading (List Macro) → ℕ → Figures → List ℕ → List ℕ → Type 0
 ReachAnswer (got ms rest) m f before after = (f .refusal ≡ 0) × ReachList ms m (f .value) before after
 ReachAnswer (refused r) m f before after = (f ≡ refusedFor r) × (after ≡ before)
+
+abbrev pub reachedFigures : Reached → Figures
+reachedFigures (Reached.Written n) = accepted n
+reachedFigures (Reached.Refused r) = refusedFor r
 
 -- where reading goes on in a book of n bytes
 abbrev pub walked : {A : Type 0} → ℕ → Reading A → Walk

@@ -3,8 +3,8 @@ use Prim.Native.Nat.{ℕ, zero, suc, _+_, _<_}
 use mathlib.Core.Path.{_≡_}
 use mathlib.Core.Bool.{Bool, true, false, _||_, cond}
 use mathlib.Core.List.{List, [], _∷_, List·Memᴰ}
-use lib.Dec.{eqb}
-use lib.ListN.{length, getD, drop}
+use lib.Dec.{eqb, ltb}
+use lib.ListN.{length, getD, drop, set}
 use Rattle.book.specs.declared.item.Item.{Item}
 use Rattle.book.specs.declared.item.Item.the-variants.{Key, Call}
 use Rattle.book.specs.Format.{Macro}
@@ -55,3 +55,13 @@ pub record ReachList (ms : List Macro) (m written : ℕ) (before after : List �
   pub every : (j : ℕ) → Reaches ms m j → (e : ℕ) × (e < written) × (getD after e 0 ≡ j)
   pub once : (d e : ℕ) → d < written → e < written → getD after d 0 ≡ getD after e 0 → d ≡ e
   pub later : drop written after ≡ drop written before
+
+-- 1,024 marks, one for each macro that a book can have, with that set which an item calls
+abbrev pub markItem : Item → List Bool → List Bool
+markItem (Key k) marks = marks
+markItem (Call j) marks = cond (ltb j 1024) (set marks j true) marks
+
+-- the same for some items
+unfoldable pub markCalls : List Item → List Bool → List Bool
+markCalls [] marks = marks
+markCalls (i ∷ is) marks = markCalls is (markItem i marks)

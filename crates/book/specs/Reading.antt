@@ -111,3 +111,11 @@ unfoldable pub readBook : Reader (List Macro)
 readBook = do
   k ← readHeader
   readAll k
+
+-- the macros of a sound book
+abbrev pub macrosOf : Reading (List Macro) → List Macro
+macrosOf (got ms rest) = ms
+macrosOf (refused r) = []
+
+abbrev pub macrosIn : List ℕ → List Macro
+macrosIn b = macrosOf (readBook b)

@@ -6,8 +6,9 @@ ghost use mathlib.Core.Path.{_≡_};
 ghost use Prim.Native.Nat.{_≤_};
 ghost use mathlib.Core.List.{_∷_};
 ghost use lib.ListN.{length, drop, replicate};
-ghost use Rattle.book.specs.Reading.{marked, readAll, readBook, readHeader, readItem, readItems, readMacro, refused};
-ghost use Rattle.book.specs.Answer.{headed, layoutFor, walked};
+ghost use Rattle.book.specs.Reading.{macrosIn, marked, readAll, readBook, readHeader, readItem, readItems, readMacro, refused};
+ghost use Rattle.book.specs.Answer.{Located, headed, layoutFor, walked};
+ghost use Rattle.book.specs.Place.{bodyPart};
 
 // The mark that a book begins with.
 const MARK: [u8; 3] = *b"MBK";
@@ -190,4 +191,14 @@ pub fn layout_of(book: &[u8]) -> Layout
         Header::Macros(count) => layout_macros(book, count),
         Header::Refused(r) => refused_layout(r),
     }
+}
+
+// The body of macro i, where the places are those of the book's layout.
+pub(crate) fn part_of<'a>(book: &'a [u8], places: &[usize; 1025], i: usize) -> &'a [u8]
+    requires { ⌜ Located (now book) (now places) i ⌝ }
+    ensures { λ r. ⌜ now r ≡ bodyPart (now (book .entry)) (macrosIn (now (book .entry))) i ⌝ }
+{
+    let start = places[i] + 2;
+    let end = places[i + 1];
+    &book[start..end]
 }

@@ -1,0 +1,60 @@
+-- What is asked of macro m of a book: the answer of the book's layout decides what is read.
+use Prim.Native.Nat.{ℕ, _+_, _<_, _≤_}
+use native.Mathlib.Omega.{arith}
+use mathlib.Core.Path.{_≡_, refl, sym, ap, _∙_}
+use mathlib.Core.List.{List, []}
+use lib.ListN.{length}
+use borrow.Author.Tests.{lt-ltb, le-ltb}
+use Rattle.refusal.specs.declared.Refusal.{Refusal}
+use Rattle.refusal.specs.declared.Refusal.the-variants.{NoSuchMacro, InsufficientSpace}
+use Rattle.refusal.specs.Number.{number}
+use Rattle.book.specs.declared.layout.Checked.{Checked}
+use Rattle.book.specs.declared.layout.Layout.{Layout}
+use Rattle.book.specs.Format.{Macro}
+use Rattle.book.specs.Place.{bodyPart}
+use Rattle.book.specs.Reading.{Reading, got, refused, readBook, macrosIn}
+use Rattle.book.specs.Answer.{Located, layoutFor, readMacroOf, bodyOf, refusalOf}
+use Rattle.book.proofs.Walks.{clash}
+
+-- the answer of a layout says how the book was read
+answer-refused : (g : Reading (List Macro)) (r : Refusal) → (layoutFor g) .answer ≡ Checked.Refused r → g ≡ refused r
+answer-refused (got ms rest) r e = cc
+answer-refused (refused q) r e = let same : q ≡ r = cc in ap refused same
+
+answer-sound : (g : Reading (List Macro)) (k : ℕ) → (layoutFor g) .answer ≡ Checked.Sound k → (ms : List Macro) × (rest : List ℕ) × (g ≡ got ms rest) × (length ms ≡ k)
+answer-sound (got ms rest) k e = let same : length ms ≡ k = cc in (ms, rest, refl, same)
+answer-sound (refused q) k e = clash (cc)
+
+module _ (b : List ℕ) (m : ℕ) (x : Layout) (e : x ≡ layoutFor (readBook b)) (a : Checked) (f : x .answer ≡ a) where
+  told : (layoutFor (readBook b)) .answer ≡ a
+  told = ap (λ (y : Layout). y .answer) (sym e) ∙ f
+
+  pub asked-refused : (r : Refusal) → a ≡ Checked.Refused r → readMacroOf m b ≡ refused r
+  unfolding readMacroOf
+  asked-refused r g = rw (answer-refused (readBook b) r (told ∙ g))
+
+  module _ (k : ℕ) (g : a ≡ Checked.Sound k) where
+    pub asked-out : k ≤ m → readMacroOf m b ≡ refused NoSuchMacro
+    unfolding readMacroOf
+    asked-out h =
+        let (ms, rest, i, many) = answer-sound (readBook b) k (told ∙ g) in
+        rw (i, many, le-ltb _ _ h)
+
+    pub asked-in : m < k → (rest : List ℕ) × (readBook b ≡ got (macrosIn b) rest) × (readMacroOf m b ≡ got (macrosIn b) rest)
+    unfolding readMacroOf
+    asked-in h = on (answer-sound (readBook b) k (told ∙ g))
+      where
+        on : ((ms : List Macro) × (rest : List ℕ) × (readBook b ≡ got ms rest) × (length ms ≡ k)) → (rest : List ℕ) × (readBook b ≡ got (macrosIn b) rest) × (readMacroOf m b ≡ got (macrosIn b) rest)
+        on (ms, rest, i, many) = (rest, rw i, rw (i, many, lt-ltb _ _ h))
+
+    pub asked-located : m < k → Located b (x .places) m
+    asked-located h =
+        let (ms, rest, i, many) = answer-sound (readBook b) k (told ∙ g) in
+        record { table = ap (λ (y : Layout). y .places) e; inside = rw (i, many) h }
+
+-- the two results of a body
+pub body-none : (b : List ℕ) (m : ℕ) (g : Reading (List Macro)) (r : Refusal) (q : ℕ) → g ≡ refused r → q ≡ number r → ([] ≡ bodyOf b m g) × (q ≡ refusalOf g)
+body-none b m g r q e f = (rw e, rw e f)
+
+pub body-some : (b : List ℕ) (m : ℕ) (g : Reading (List Macro)) (ms : List Macro) (rest p : List ℕ) → g ≡ got ms rest → p ≡ bodyPart b ms m → (p ≡ bodyOf b m g) × (0 ≡ refusalOf g)
+body-some b m g ms rest p e f = (rw e f, rw e)

@@ -1,0 +1,85 @@
+// The reach list of a macro: the numbers of the macros that it reaches, each once.
+use crate::item::{Item, ItemRead, read_item};
+use crate::layout::{Checked, layout_of, part_of};
+use refusal::Refusal;
+
+ghost use mathlib.Core.Path.{_≡_};
+ghost use Prim.Native.Nat.{_<_};
+ghost use lib.ListN.{length};
+ghost use Rattle.book.specs.Reading.{itemsOf, macrosIn};
+ghost use Rattle.book.specs.Reach.{ReachList, markCalls, markItem};
+ghost use Rattle.book.specs.Answer.{Located, ReachAnswer, reachedFigures, readReach};
+
+// How many numbers were written, or why none was.
+pub enum Reached {
+    Written(usize),
+    Refused(Refusal),
+}
+
+// Marks the macro that an item calls.
+fn mark_item(item: Item, marks: &mut [bool; 1024])
+    ensures { λ _. ⌜ now (marks .exit) ≡ markItem item (now (marks .entry)) ⌝ }
+{
+    if let Item::Call(j) = item {
+        let j = j as usize;
+        if j < 1024 {
+            marks[j] = true;
+        }
+    }
+}
+
+// Marks the macros that the items of a body call.
+fn mark_calls(body: &[u8], marks: &mut [bool; 1024])
+    ensures { λ _. ⌜ now (marks .exit) ≡ markCalls (itemsOf (now (body .entry))) (now (marks .entry)) ⌝ }
+{
+    let mut at = 0;
+    while at < body.len() {
+        let read = read_item(body, at);
+        let ItemRead::Found(item) = read else {
+            return;
+        };
+        mark_item(item, marks);
+        at += 2;
+    }
+}
+
+// Calls go to lower macros, so a walk from m down meets a macro after all that call it.
+fn list_reached(book: &[u8], places: &[usize; 1025], m: usize, list: &mut [u16]) -> usize
+    requires { ⌜ Located (now book) (now places) m ⌝ }
+    requires { ⌜ m < length (now list) ⌝ }
+    ensures { λ n. ⌜ ReachList (macrosIn (now (book .entry))) m n (now (list .entry)) (now (list .exit)) ⌝ }
+{
+    let mut marks = [false; 1024];
+    marks[m] = true;
+    let mut n = 0;
+    let mut i = m + 1;
+    while 0 < i {
+        i -= 1;
+        if marks[i] {
+            list[n] = i as u16;
+            n += 1;
+            mark_calls(part_of(book, places, i), &mut marks);
+        }
+    }
+    n
+}
+
+// The reach list of macro m (document 01, "The book"), from the front of a lent list of m + 1 entries or more.
+pub fn reach_list(book: &[u8], m: usize, list: &mut [u16]) -> Reached
+    ensures { λ r. ⌜ ReachAnswer (readReach m (length (now (list .entry))) (now (book .entry))) m (reachedFigures r) (now (list .entry)) (now (list .exit)) ⌝ }
+{
+    let found = layout_of(book);
+    let answer = found.answer;
+    match answer {
+        Checked::Refused(r) => Reached::Refused(r),
+        Checked::Sound(count) => {
+            if count as usize <= m {
+                return Reached::Refused(Refusal::NoSuchMacro);
+            }
+            if list.len() <= m {
+                return Reached::Refused(Refusal::InsufficientSpace);
+            }
+            Reached::Written(list_reached(book, &found.places, m, list))
+        }
+    }
+}
