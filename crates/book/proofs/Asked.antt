@@ -13,7 +13,8 @@ use Rattle.book.specs.declared.layout.Layout.{Layout}
 use Rattle.book.specs.Format.{Macro}
 use Rattle.book.specs.Place.{bodyPart}
 use Rattle.book.specs.Reading.{Reading, got, refused, readBook, macrosIn}
-use Rattle.book.specs.Answer.{Located, layoutFor, readMacroOf, bodyOf, refusalOf}
+use Rattle.book.specs.Reach.{ReachList}
+use Rattle.book.specs.Answer.{Located, ReachAnswer, accepted, refusedFor, layoutFor, readMacroOf, readReach, bodyOf, refusalOf}
 use Rattle.book.proofs.Walks.{clash}
 
 -- the answer of a layout says how the book was read
@@ -58,3 +59,28 @@ body-none b m g r q e f = (rw e, rw e f)
 
 pub body-some : (b : List ℕ) (m : ℕ) (g : Reading (List Macro)) (ms : List Macro) (rest p : List ℕ) → g ≡ got ms rest → p ≡ bodyPart b ms m → (p ≡ bodyOf b m g) × (0 ≡ refusalOf g)
 body-some b m g ms rest p e f = (rw e f, rw e)
+
+-- the reach list: 11 comes after all that a macro is refused for
+module _ (b : List ℕ) (m k : ℕ) where
+  pub reach-refused : (r : Refusal) → readMacroOf m b ≡ refused r → readReach m k b ≡ refused r
+  unfolding readReach
+  reach-refused r e = rw e
+
+  pub reach-short : (ms : List Macro) (rest : List ℕ) → readMacroOf m b ≡ got ms rest → k ≤ m → readReach m k b ≡ refused InsufficientSpace
+  unfolding readReach
+  reach-short ms rest e h =
+      let less : k < m + 1 = omega arith in
+      rw (e, lt-ltb _ _ less)
+
+  pub reach-enough : (ms : List Macro) (rest : List ℕ) → readMacroOf m b ≡ got ms rest → m < k → readReach m k b ≡ got ms rest
+  unfolding readReach
+  reach-enough ms rest e h =
+      let most : m + 1 ≤ k = omega arith in
+      rw (e, le-ltb _ _ most)
+
+-- the two results of a reach list
+pub reach-none : (g : Reading (List Macro)) (m : ℕ) (r : Refusal) (before after : List ℕ) → g ≡ refused r → after ≡ before → ReachAnswer g m (refusedFor r) before after
+reach-none g m r before after e f = rw e (refl, f)
+
+pub reach-some : (g : Reading (List Macro)) (m n : ℕ) (ms : List Macro) (rest before after : List ℕ) → g ≡ got ms rest → ReachList ms m n before after → ReachAnswer g m (accepted n) before after
+reach-some g m n ms rest before after e l = rw e (refl, l)

@@ -69,8 +69,10 @@ header-read s rest k e = go (leb 7 (length s) && marked s) (eqb v 1) (leb 1 c &&
   where
     v : ℕ
     v = number (drop 3 s)
+
     c : ℕ
     c = number (drop 5 s)
+
     go : (t u w : Bool) → (leb 7 (length s) && marked s) ≡ t → eqb v 1 ≡ u → (leb 1 c && leb c 1024) ≡ w → cond t (cond u (cond w (got c (drop 7 s)) (refused BadMacroCount)) (refused UnsupportedVersion)) (refused BadMagic) ≡ got k rest → HeaderRead s k rest
     go true true true f g h i =
         let p = and-eq-true-iff (leb 7 (length s)) (marked s) .0 f in
@@ -78,13 +80,14 @@ header-read s rest k e = go (leb 7 (length s) && marked s) (eqb v 1) (leb 1 c &&
         let same : k ≡ c = cc in
         let rest-is : rest ≡ drop 7 s = cc in
         record {
-            long = leb-true _ _ (p .0);
-            mark = p .1;
-            version = eqb-true _ _ g;
-            count = same;
-            some = rw same (leb-true _ _ (q .0));
-            few = rw same (leb-true _ _ (q .1));
-            after = rest-is }
+          long = leb-true _ _ (p .0);
+          mark = p .1;
+          version = eqb-true _ _ g;
+          count = same;
+          some = rw same (leb-true _ _ (q .0));
+          few = rw same (leb-true _ _ (q .1));
+          after = rest-is;
+        }
     go true true false f g h i = clash (cc)
     go true false w f g h i = clash (cc)
     go false u w f g h i = clash (cc)

@@ -75,15 +75,18 @@ module _ (s : List ℕ) (count : ℕ) where
             let place : p ≡ at + size m = omega arith in
             let there : rest ≡ drop p s = rw (same, place, drop-drop (size m) at s) in
             let more : starts 7 (l .macros ++ (m ∷ [])) ≡ starts 7 (l .macros) ++ (p ∷ []) =
-                rw (place, ← (l .here), ← (l .many)) (starts-more 7 (l .macros) m) in
+            rw (place, ← (l .here), ← (l .many)) (starts-more 7 (l .macros) m) in
             let wide : length (starts 7 (l .macros)) ≡ n + 1 = rw (← (l .many)) (starts-length 7 (l .macros)) in
-            let room : 1024 - n ≡ suc (1024 - (n + 1)) = omega arith in
-            (omega arith, record {
+            let room : 1024 - n ≡ suc (1024 - (n + 1)) = omega arith in (
+              omega arith,
+              record {
                 macros = l .macros ++ (m ∷ []);
                 many = rw length-append (ap (λ (k : ℕ). k + 1) (l .many));
                 here = rw more (getD-at (starts 7 (l .macros)) p [] 0 (n + 1) wide);
                 table = rw (more, append-snoc, l .table, room) (set-at (starts 7 (l .macros)) 0 (replicate (1024 - (n + 1)) 0) p (n + 1) wide);
-                reading = l .reading ∙ rw (less, macros-step n (count - (n + 1)) (drop at s) rest m g, prepend-more (l .macros) m (readMacros (suc n) (count - (n + 1)) rest), there, add-one n) })
+                reading = l .reading ∙ rw (less, macros-step n (count - (n + 1)) (drop at s) rest m g, prepend-more (l .macros) m (readMacros (suc n) (count - (n + 1)) rest), there, add-one n);
+              },
+            )
 
   module _ (places : List ℕ) (at n : ℕ) (l : Laid s count places at n) (h : count ≤ n) (k : n ≤ count) where
     all : readMacros 0 count (drop 7 s) ≡ got (l .macros) (drop at s)

@@ -2,6 +2,7 @@
 use Prim.Native.Nat.{ℕ, zero, suc, _+_, _-_, _<_, _≤_}
 use native.Mathlib.Omega.{arith}
 use native.Mathlib.Numerals.{add-one}
+use native.Mathlib.Decide.{decLe}
 use mathlib.Core.Path.{_≡_, refl, sym, ap, _∙_, subst}
 use mathlib.Core.Bool.{Bool, true, false}
 use mathlib.Core.Logic.{_⊎_, inl, inr, ⊎-elim}
@@ -10,8 +11,17 @@ use lib.ListN.{length, drop, getD, set, replicate, length-set, length-append, le
 use lib.Seq.{getD-set-same, getD-set-other, set-at, drop-cons, append-snoc}
 use Rattle.book.specs.Format.{Macro, wellFormed}
 use Rattle.book.specs.Reach.{Calls, Reaches, itself, reaches, markCalls, ReachList}
+use Rattle.book.specs.Reading.{Reading, got, refused, readBook, macrosIn}
+use Rattle.book.specs.Answer.{Located}
+use Rattle.book.proofs.Coding.{read-well}
+use Rattle.book.proofs.Items.{clash}
 use Rattle.book.proofs.Marks.{marks-length, marks-stay, marks-calls, marks-from, set-from}
 use Rattle.book.proofs.Reach.{calls-lower, reach-calls, reach-last, reach-lower, reaches-sound, reaches-complete, down, down-none, down-in, down-out, down-short, reach-listed}
+
+unmarked : (n j : ℕ) → getD (replicate n false) j false ≡ false
+unmarked zero j = refl
+unmarked (suc n) zero = refl
+unmarked (suc n) (suc j) = unmarked n j
 
 module _ (ms : List Macro) (m : ℕ) where
   -- the marks above macro i: only macros that m reaches, and all that those from i on call
@@ -29,28 +39,136 @@ module _ (ms : List Macro) (m : ℕ) where
     pub marked : Marked i marks
 
   module _ (well : wellFormed ms ≡ true) where
-    marked-none : m < 1024 → Marked (m + 1) (set (replicate 1024 false) m true)
-    marked-none few = record {
-        wide = length-set _ m true ∙ length-replicate 1024 false;
-        first = getD-set-same (replicate 1024 false) m true false (rw length-replicate few);
-        only = λ j h. ⊎-elim (λ e. ?old) (λ e. rw e itself) (set-from (replicate 1024 false) m j h);
-        every = λ k j h r c. ?every }
+    -- where no macro was looked at, m alone is marked
+    marked-none : (n : ℕ) → n ≡ 1024 → m < n → Marked (m + 1) (set (replicate n false) m true)
+    marked-none n e few = record {
+      wide = length-set (replicate n false) m true ∙ length-replicate n false ∙ e;
+      first = getD-set-same (replicate n false) m true false (rw length-replicate few);
+      only = λ j h. ⊎-elim (λ old. clash (clear (unmarked n j) old)) (λ same. rw same itself) (set-from (replicate n false) m j h);
+      every = λ k j h r c. absurd (above h (reach-lower ms well r));
+    }
+      where
+        clear : {t : Bool} → t ≡ false → t ≡ true → _≡_ {A = ℕ} 0 1
+        clear f g = cc
+
+        above : {k : ℕ} → m + 1 ≤ k → k ≤ m → ⊥
+        above h g = omega arith
 
     pub listed-none : (before : List ℕ) (marks : List Bool) → m < 1024 → marks ≡ set (replicate 1024 false) m true → Listed before before marks 0 (m + 1)
-    listed-none before marks few e = ?none
+    listed-none before marks few e =
+        let start : m + 1 - (m + 1) ≡ 0 = omega arith in
+        record {
+          high = omega arith;
+          count = rw (start, down-none);
+          front = rw (start, down-none);
+          marked = rw e (marked-none 1024 refl few);
+        }
+
+    -- the mark of the next lower macro says whether m reaches it
+    module _ (marks : List Bool) (i : ℕ) (k : Marked i marks) (h : 0 < i) where
+      mark-told : getD marks (i - 1) false ≡ true → reaches ms m (i - 1) ≡ true
+      mark-told e = reaches-complete ms well (k .only (i - 1) e)
+
+      mark-reached : Reaches ms m (i - 1) → getD marks (i - 1) false ≡ true
+      mark-reached r = ⊎-elim (λ e. rw (← e) (k .first)) (λ (j, s, c). k .every j (i - 1) (after (calls-lower ms well {m = j} c)) s c) (reach-last r)
+        where
+          after : {j : ℕ} → i - 1 < j → i ≤ j
+          after g = omega arith
+
+      mark-untold : getD marks (i - 1) false ≡ false → reaches ms m (i - 1) ≡ false
+      mark-untold e = go (reaches ms m (i - 1)) refl
+        where
+          go : (t : Bool) → reaches ms m (i - 1) ≡ t → reaches ms m (i - 1) ≡ false
+          go true g = cc (mark-reached (reaches-sound ms m (i - 1) g))
+          go false g = g
+
+      near : (j : ℕ) → i - 1 ≤ j → (j ≡ i - 1) ⊎ (i ≤ j)
+      near j g = elim (decLe i j) [ yes p ↦ inr p | no q ↦ inl (omega arith) ]
+
+      -- the calls of a reached macro are marked, and one that is not reached has none to mark
+      marked-in : (more : List Bool) → m < 1024 → getD marks (i - 1) false ≡ true → more ≡ markCalls (getD ms (i - 1) []) marks → Marked (i - 1) more
+      marked-in more few e f = record {
+        wide = rw f (marks-length (getD ms (i - 1) []) marks) ∙ k .wide;
+        first = rw f (marks-stay (getD ms (i - 1) []) marks m (k .first));
+        only = λ j g. ⊎-elim (λ old. k .only j old) (λ c. reach-calls (k .only (i - 1) e) c) (marks-from (getD ms (i - 1) []) marks j (rw f at g));
+        every = λ j c g r d. ⊎-elim
+            (λ same. rw f (marks-calls (getD ms (i - 1) []) marks c (k .wide) (low (calls-lower ms well {m = j} d) (reach-lower ms well r)) (rw same at d)))
+            (λ above. rw f (marks-stay (getD ms (i - 1) []) marks c (k .every j c above r d)))
+            (near j g);
+      }
+        where
+          low : {c j : ℕ} → c < j → j ≤ m → c < 1024
+          low a b = omega arith
+
+      marked-out : getD marks (i - 1) false ≡ false → Marked (i - 1) marks
+      marked-out e = record {
+        wide = k .wide;
+        first = k .first;
+        only = k .only;
+        every = λ j c g r d. ⊎-elim (λ same. cc (mark-reached (rw same at r))) (λ above. k .every j c above r d) (near j g);
+      }
 
     module _ (before list : List ℕ) (marks : List Bool) (n i : ℕ) (l : Listed before list marks n i) (room : m < length before) where
+      few-listed : n ≤ m + 1 - i
+      few-listed = rw (l .count) (down-short (λ j. reaches ms m j) m (m + 1 - i))
+
       pub listed-length : length list ≡ length before
-      listed-length = ?length
+      listed-length =
+          let f : n ≤ m + 1 - i = few-listed in
+          rw (l .front, length-append, length-drop, ← (l .count)) (omega arith)
 
       pub listed-room : 0 < i → n < length list
-      listed-room h = ?room
+      listed-room h = let f : n ≤ m + 1 - i = few-listed in omega (arith, listed-length)
 
-      pub listed-in : 0 < i → (more : List Bool) → getD marks (i - 1) false ≡ true → more ≡ markCalls (getD ms (i - 1) []) marks → Listed before (set list n (i - 1)) more (n + 1) (i - 1)
-      listed-in h more e f = ?in
+      pub listed-small : 0 < i → m < 1024 → n < 1024
+      listed-small h few = let f : n ≤ m + 1 - i = few-listed in omega (arith, l .high)
+
+      next-down : 0 < i → m + 1 - (i - 1) ≡ m + 1 - i + 1
+      next-down h = omega (arith, l .high)
+
+      pub listed-in : 0 < i → (more : List Bool) → m < 1024 → getD marks (i - 1) false ≡ true → more ≡ markCalls (getD ms (i - 1) []) marks → Listed before (set list n (i - 1)) more (n + 1) (i - 1)
+      listed-in h more few e f =
+          let here : m - (m + 1 - i) ≡ i - 1 = omega (arith, l .high) in
+          let told : reaches ms m (m - (m + 1 - i)) ≡ true = rw here (mark-told marks i (l .marked) h e) in
+          let longer : down (λ j. reaches ms m j) m (m + 1 - (i - 1)) ≡ down (λ j. reaches ms m j) m (m + 1 - i) ++ ((i - 1) ∷ []) =
+          rw (next-down h, down-in (λ j. reaches ms m j) m (m + 1 - i) told, here) in
+          let inside : n < length before = rw listed-length at (listed-room h) in
+          record {
+            high = omega (arith, l .high);
+            count = rw (longer, length-append, ← (l .count));
+            front = rw (longer, append-snoc, l .front, drop-cons before n 0 inside, add-one n) (set-at (down (λ j. reaches ms m j) m (m + 1 - i)) (getD before n 0) (drop (suc n) before) (i - 1) n (sym (l .count)));
+            marked = marked-in marks i (l .marked) h more few e f;
+          }
 
       pub listed-out : 0 < i → getD marks (i - 1) false ≡ false → Listed before list marks n (i - 1)
-      listed-out h e = ?out
+      listed-out h e =
+          let here : m - (m + 1 - i) ≡ i - 1 = omega (arith, l .high) in
+          let untold : reaches ms m (m - (m + 1 - i)) ≡ false = rw here (mark-untold marks i (l .marked) h e) in
+          let same : down (λ j. reaches ms m j) m (m + 1 - (i - 1)) ≡ down (λ j. reaches ms m j) m (m + 1 - i) =
+          rw (next-down h, down-out (λ j. reaches ms m j) m (m + 1 - i) untold) in
+          record {
+            high = omega (arith, l .high);
+            count = rw same (l .count);
+            front = rw same (l .front);
+            marked = marked-out marks i (l .marked) h e;
+          }
 
       pub listed-end : i ≤ 0 → ReachList ms m n before list
-      listed-end h = ?end
+      listed-end h =
+          let all : m + 1 - i ≡ m + 1 = omega arith in
+          let f : n ≤ m + 1 - i = few-listed in
+          reach-listed ms well m before list n (rw all at (l .count)) (rw all at (l .front)) (omega arith)
+
+-- a sound book's macros are well formed, and its places serve every macro up to m
+pub located-well : (b places : List ℕ) (i : ℕ) → Located b places i → wellFormed (macrosIn b) ≡ true
+located-well b places i l = go (readBook b) refl
+  where
+    never : i < 0 → ⊥
+    never h = omega arith
+
+    go : (g : Reading (List Macro)) → readBook b ≡ g → wellFormed (macrosIn b) ≡ true
+    go (got ms rest) e = rw e (read-well b ms rest e)
+    go (refused r) e = absurd (never (rw e at (l .inside)))
+
+pub located-lower : (b places : List ℕ) (m i : ℕ) → Located b places m → i ≤ m → Located b places i
+located-lower b places m i l h = record { table = l .table; inside = omega (arith, l .inside) }

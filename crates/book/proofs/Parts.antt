@@ -34,11 +34,12 @@ located b places i l = go (readBook b) refl
         let here : getD places i 0 ≡ place ms i = rw table (List·getD-append (starts 7 ms) _ 0 i (rw starts-length (omega arith))) in
         let there : getD places (i + 1) 0 ≡ place ms (i + 1) = rw table (List·getD-append (starts 7 ms) _ 0 (i + 1) (rw starts-length (omega arith))) in
         record {
-            few = omega arith;
-            from = rw e here;
-            to = rw e (there ∙ step ∙ ap (λ (x : ℕ). x + size (getD ms i [])) (sym here));
-            fits = rw there fits;
-            items = rw e (book-body b ms rest e i inside) }
+          few = omega arith;
+          from = rw e here;
+          to = rw e (there ∙ step ∙ ap (λ (x : ℕ). x + size (getD ms i [])) (sym here));
+          fits = rw there fits;
+          items = rw e (book-body b ms rest e i inside);
+        }
 
 -- the bytes from the end of macro i's item count to its end
 pub part-is : (b places : List ℕ) (i : ℕ) → Located b places i → take (getD places (i + 1) 0 - (getD places i 0 + 2)) (drop (getD places i 0 + 2) b) ≡ bodyPart b (macrosIn b) i

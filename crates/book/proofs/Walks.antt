@@ -73,9 +73,11 @@ item-got n b rest i e = go (itemAt b) refl (e)
     key : (t : Bool) (k : ℕ) → cond t (refused InvalidKey) (got (Key k) (drop 2 b)) ≡ got i rest → rest ≡ drop 2 b
     key true k g = cc
     key false k g = cc
+
     call : (t : Bool) (j : ℕ) → cond t (got (Call j) (drop 2 b)) (refused ForwardReference) ≡ got i rest → rest ≡ drop 2 b
     call true j g = cc
     call false j g = cc
+
     go : (r : ItemRead) → itemAt b ≡ r → judge n r (drop 2 b) ≡ got i rest → (rest ≡ drop 2 b) × (2 ≤ length b)
     go Short h g = clash (cc)
     go (Found (Key k)) h g = (key (eqb k 0) k g, found-long b (Key k) h)

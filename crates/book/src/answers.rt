@@ -1,7 +1,9 @@
 // What is asked of a whole book.
-use crate::layout::{Checked, layout_of, part_of};
-use refusal::{Refusal, code};
-
+use crate::layout::Checked;
+use crate::layout::layout_of;
+use crate::layout::part_of;
+use refusal::Refusal;
+use refusal::code;
 ghost use mathlib.Core.Path.{_≡_};
 ghost use Rattle.book.specs.Reading.{readBook};
 ghost use Rattle.book.specs.Answer.{bodyOf, checkFigures, checkedFigures, readMacroOf, refusalOf};

@@ -1,7 +1,9 @@
 // The check of a whole book, in reading order (document 01, "Refused", 1 to 6), and the places of its macros.
-use crate::item::{Item, ItemRead, number_at, read_item};
+use crate::item::Item;
+use crate::item::ItemRead;
+use crate::item::number_at;
+use crate::item::read_item;
 use refusal::Refusal;
-
 ghost use mathlib.Core.Path.{_≡_};
 ghost use Prim.Native.Nat.{_≤_};
 ghost use mathlib.Core.List.{_∷_};

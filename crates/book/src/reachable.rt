@@ -1,11 +1,15 @@
 // The reach list of a macro: the numbers of the macros that it reaches, each once.
-use crate::item::{Item, ItemRead, read_item};
-use crate::layout::{Checked, layout_of, part_of};
+use crate::item::Item;
+use crate::item::ItemRead;
+use crate::item::read_item;
+use crate::layout::Checked;
+use crate::layout::layout_of;
+use crate::layout::part_of;
 use refusal::Refusal;
-
 ghost use mathlib.Core.Path.{_≡_};
 ghost use Prim.Native.Nat.{_<_};
-ghost use lib.ListN.{length};
+ghost use mathlib.Core.Bool.{true, false};
+ghost use lib.ListN.{length, replicate, set};
 ghost use Rattle.book.specs.Reading.{itemsOf, macrosIn};
 ghost use Rattle.book.specs.Reach.{ReachList, markCalls, markItem};
 ghost use Rattle.book.specs.Answer.{Located, ReachAnswer, reachedFigures, readReach};
@@ -43,14 +47,23 @@ fn mark_calls(body: &[u8], marks: &mut [bool; 1024])
     }
 }
 
+// The marks before any macro was looked at: m alone.
+fn first_mark(m: usize) -> [bool; 1024]
+    requires { ⌜ m < 1024 ⌝ }
+    ensures { λ r. ⌜ r ≡ set (replicate 1024 false) m true ⌝ }
+{
+    let mut marks = [false; 1024];
+    marks[m] = true;
+    marks
+}
+
 // Calls go to lower macros, so a walk from m down meets a macro after all that call it.
 fn list_reached(book: &[u8], places: &[usize; 1025], m: usize, list: &mut [u16]) -> usize
     requires { ⌜ Located (now book) (now places) m ⌝ }
     requires { ⌜ m < length (now list) ⌝ }
     ensures { λ n. ⌜ ReachList (macrosIn (now (book .entry))) m n (now (list .entry)) (now (list .exit)) ⌝ }
 {
-    let mut marks = [false; 1024];
-    marks[m] = true;
+    let mut marks = first_mark(m);
     let mut n = 0;
     let mut i = m + 1;
     while 0 < i {

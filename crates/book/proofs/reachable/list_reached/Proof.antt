@@ -1,83 +1,140 @@
+use Prim.Native.Nat.{ℕ, _-_}
+use mathlib.Core.Path.{_≡_, ap, _∙_}
+use mathlib.Core.List.{List}
+use mathlib.Core.Bool.{true}
+use lib.ListN.{length}
+use Rattle.book.specs.Format.{wellFormed}
+use Rattle.book.specs.Answer.{Located}
+use Prim.Native.Nat.{_<_}
+use native.Mathlib.Omega.{arith}
+use denote.Ref.{now}
+use borrow.Author.Needs.{needs}
+use Rattle.book.specs.declared.item.Item.{Item}
+use Rattle.book.specs.Reading.{itemsOf, macrosIn}
+use Rattle.book.specs.Reach.{markCalls}
+use Rattle.book.proofs.Parts.{located}
+use Rattle.book.proofs.Listing.{Listed, listed-none, listed-length, listed-room, listed-small, listed-in, listed-out, listed-end, located-well, located-lower}
 use Rattle.book.proofs.reachable.list_reached.Statement.{statement}
 use Rattle.book.proofs.reachable.list_reached.Tie as tie
 use Rattle.book.proofs.reachable.list_reached.Reads as reads
 use Rattle.book.proofs.reachable.list_reached.Lts as lts
 use Rattle.book.proofs.layout.part_of.Reads as part-of-reads
+use Rattle.book.proofs.reachable.first_mark.Reads as first-mark-reads
 use Rattle.book.proofs.reachable.mark_calls.Reads as mark-calls-reads
 
 abbrev Inv-loop : tie.InvT-loop
-Inv-loop book places m list₀ marks₀ n₀ i₀ list marks n i = ?
+Inv-loop book places m list₀ marks₀ n₀ i₀ list marks n i = Listed (macrosIn book) m list₀ list marks n i
 
 abbrev μ-loop : tie.MeasureT-loop
-μ-loop book places m list₀ marks₀ n₀ i₀ list marks n i = ?
+μ-loop book places m list₀ marks₀ n₀ i₀ list marks n i = i
 
--- src/reachable.rt:53:5
-array-write-marks : tie.Need-array-write-marks Inv-loop μ-loop
-array-write-marks c = ?
+few : (c : tie.Start Inv-loop μ-loop) → c .args .m < 1024
+few c = located (now (c .args .book)) (now (c .args .places)) (c .args .m) (c .pre .0) .few
 
--- src/reachable.rt:55:17
+well : (c : tie.Start Inv-loop μ-loop) → wellFormed (macrosIn (now (c .args .book))) ≡ true
+well c = located-well (now (c .args .book)) (now (c .args .places)) (c .args .m) (c .pre .0)
+
+here : (l : tie.At-loop Inv-loop μ-loop) → Located (now (l .before .before .before .before .args .book)) (now (l .before .before .before .before .args .places)) (l .loop .i - 1)
+here l =
+    let s = l .before .before .before .before in
+    located-lower (now (s .args .book)) (now (s .args .places)) (s .args .m) (l .loop .i - 1) (s .pre .0) (omega (arith, l .loop .inv .high))
+
+room : (l : tie.At-loop Inv-loop μ-loop) → 0 < l .loop .i → l .loop .n < length (l .loop .list)
+room l h =
+    let s = l .before .before .before .before in
+    listed-room (macrosIn (now (s .args .book))) (s .args .m) (well s) _ _ _ _ _ (l .loop .inv) (s .pre .1) h
+
+small : (l : tie.At-loop Inv-loop μ-loop) → 0 < l .loop .i → l .loop .n < 1024
+small l h =
+    let s = l .before .before .before .before in
+    listed-small (macrosIn (now (s .args .book))) (s .args .m) (well s) _ _ _ _ _ (l .loop .inv) (s .pre .1) h (few s)
+
+-- src/reachable.rt:63:21
+first-mark-requires : tie.Need-first-mark-requires Inv-loop μ-loop
+first-mark-requires c κs = few (c .before .before)
+
+-- src/reachable.rt:65:17
 add-i : tie.Need-add-i Inv-loop μ-loop
-add-i c = ?
+add-i c = omega (arith, few (c .before .before .before))
 
--- src/reachable.rt:56:5
+-- src/reachable.rt:66:5
 loop-holds : tie.Need-loop-holds Inv-loop μ-loop
-loop-holds c = ?
+loop-holds c =
+    let s = c .before .before .before in
+    listed-none (macrosIn (now (s .args .book))) (s .args .m) (well s) (now (s .args .list)) (c .first-mark .result) (few s) (c .first-mark .ensures)
 
--- src/reachable.rt:57:9
+-- src/reachable.rt:67:9
 sub-i : tie.Need-sub-i Inv-loop μ-loop
-sub-i c = ?
+sub-i c = search needs
 
--- src/reachable.rt:58:12
+-- src/reachable.rt:68:12
 array-read-if1 : tie.Need-array-read-if1 Inv-loop μ-loop
-array-read-if1 c = ?
+array-read-if1 c = omega (arith, few (c .before .before .before .before .before), c .before .loop .inv .high)
 
--- src/reachable.rt:59:23
+-- src/reachable.rt:69:23
 cast-list : tie.Need-cast-list Inv-loop μ-loop
-cast-list c = ?
+cast-list c = omega (arith, few (c .before .before .before .before .before .before), c .before .before .loop .inv .high)
 
--- src/reachable.rt:59:13
+-- src/reachable.rt:69:13
 mul-list : tie.Need-mul-list Inv-loop μ-loop
-mul-list c = ?
+mul-list c = omega (arith, small (c .before .before) (omega arith))
 
--- src/reachable.rt:59:13
+-- src/reachable.rt:69:13
 slice-write-list : tie.Need-slice-write-list Inv-loop μ-loop
-slice-write-list c = ?
+slice-write-list c = room (c .before .before) (omega arith)
 
--- src/reachable.rt:60:13
+-- src/reachable.rt:70:13
 add-n : tie.Need-add-n Inv-loop μ-loop
-add-n c = ?
+add-n c = omega (arith, small (c .before .before) (omega arith))
 
--- src/reachable.rt:61:24
+-- src/reachable.rt:71:24
 part-of-requires : tie.Need-part-of-requires Inv-loop μ-loop
-part-of-requires c κs = ?
+part-of-requires c κs = here (c .before .before)
 
--- src/reachable.rt:61:13
+-- src/reachable.rt:71:13
 mark-calls-requires : tie.Need-mark-calls-requires Inv-loop μ-loop
-mark-calls-requires c κs = ?
+mark-calls-requires c κs = search needs
 
--- src/reachable.rt:56:5
+-- src/reachable.rt:66:5
 loop-less : tie.Need-loop-less Inv-loop μ-loop
-loop-less c = ?
+loop-less c = search needs
 
--- src/reachable.rt:56:5
+-- src/reachable.rt:66:5
 loop-again : tie.Need-loop-again Inv-loop μ-loop
-loop-again c = ?
+loop-again c =
+    let l = c .before .before .before .before .before in
+    let s = l .before .before .before .before in
+    let h = here l in
+    let items = located (now (s .args .book)) (now (s .args .places)) (l .loop .i - 1) h .items in
+    listed-in (macrosIn (now (s .args .book))) (s .args .m) (well s) _ _ _ _ _ (l .loop .inv) (s .pre .1) (omega arith) _ (few s) (c .before .before .before .if1 .taken)
+    (c .mark-calls .ensures
+    ∙ ap (λ (x : List ℕ). markCalls (itemsOf x) (l .loop .marks)) (c .before .before .part-of .ensures)
+    ∙ ap (λ (x : List Item). markCalls x (l .loop .marks)) items)
 
--- src/reachable.rt:56:5
+-- src/reachable.rt:66:5
 loop-less-2 : tie.Need-loop-less-2 Inv-loop μ-loop
-loop-less-2 c = ?
+loop-less-2 c = search needs
 
--- src/reachable.rt:56:5
+-- src/reachable.rt:66:5
 loop-again-2 : tie.Need-loop-again-2 Inv-loop μ-loop
-loop-again-2 c = ?
+loop-again-2 c =
+    let l = c .before .before in
+    let s = l .before .before .before .before in
+    listed-out (macrosIn (now (s .args .book))) (s .args .m) (well s) _ _ _ _ _ (l .loop .inv) (s .pre .1) (omega arith) (c .if1 .left)
 
--- src/reachable.rt:47:1
+-- src/reachable.rt:58:1
 same-length : tie.Need-same-length Inv-loop μ-loop
-same-length c = ?
+same-length c =
+    let l = c .before in
+    let s = l .before .before .before .before in
+    listed-length (macrosIn (now (s .args .book))) (s .args .m) (well s) _ _ _ _ _ (l .loop .inv) (s .pre .1)
 
--- src/reachable.rt:47:1
+-- src/reachable.rt:58:1
 returns : tie.Need-returns Inv-loop μ-loop
-returns c = ?
+returns c =
+    let l = c .before in
+    let s = l .before .before .before .before in
+    listed-end (macrosIn (now (s .args .book))) (s .args .m) (well s) _ _ _ _ _ (l .loop .inv) (s .pre .1) (omega arith)
 
 pub list-reached-spec : {M : Type 1} → statement M
 list-reached-spec =
@@ -85,7 +142,7 @@ list-reached-spec =
     (tie.spec
     Inv-loop
     μ-loop
-    array-write-marks
+    first-mark-requires
     add-i
     loop-holds
     sub-i
