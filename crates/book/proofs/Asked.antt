@@ -15,7 +15,7 @@ use Rattle.book.specs.Place.{bodyPart}
 use Rattle.book.specs.Reading.{Reading, got, refused, readBook, macrosIn}
 use Rattle.book.specs.Reach.{ReachList}
 use Rattle.book.specs.Answer.{Located, ReachAnswer, accepted, refusedFor, layoutFor, readMacroOf, readReach, bodyOf, refusalOf}
-use Rattle.book.proofs.Walks.{clash}
+use Rattle.book.proofs.Readings.{clash}
 
 -- the answer of a layout says how the book was read
 answer-refused : (g : Reading (List Macro)) (r : Refusal) → (layoutFor g) .answer ≡ Checked.Refused r → g ≡ refused r

@@ -14,8 +14,9 @@ use Rattle.book.specs.declared.item.Item.the-variants.{Key, Call}
 use Rattle.book.specs.Reading.{got, itemOf, number, readItem, readItems, readMacro, readMacros, marked, readHeader, readAll, readBook}
 use Rattle.book.specs.Format.{Macro, Bytes, word, code, mark, encodeItems, encodeMacros, encode, soundItem, soundItems, soundMacro, soundMacros, wellFormed}
 use Rattle.book.specs.Place.{size, place, bodyPart}
+use Rattle.book.proofs.Readings.{more-got}
 use Rattle.book.proofs.Walks.{item-got}
-use Rattle.book.proofs.Places.{more-got, items-got, macro-parts, item-is, macro-got, whole, book-at}
+use Rattle.book.proofs.Places.{items-got, macro-parts, item-is, macro-got, whole, book-at}
 
 -- items that were read are sound
 items-sound : (n k : ℕ) (b rest : List ℕ) (is : List Item) → readItems n k b ≡ got is rest → soundItems n is ≡ true

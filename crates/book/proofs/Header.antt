@@ -1,8 +1,8 @@
 -- The header of a book: one law for each way out of the code that reads it.
 use Prim.Native.Nat.{ℕ, _<_, _≤_}
 use native.Mathlib.Omega.{arith}
-use mathlib.Core.Path.{_≡_, refl, sym, ap, _∙_}
-use mathlib.Core.Bool.{Bool, true, false, not, _&&_, cond, and-eq-true-iff}
+use mathlib.Core.Path.{_≡_, sym, ap, _∙_}
+use mathlib.Core.Bool.{Bool, true, false, not, and-eq-true-iff}
 use mathlib.Core.List.{List}
 use lib.Dec.{leb, eqb}
 use lib.ListN.{length, drop, getD}
@@ -12,7 +12,7 @@ use Rattle.refusal.specs.declared.Refusal.the-variants.{BadMagic, UnsupportedVe
 use Rattle.book.specs.declared.layout.Header.{Header}
 use Rattle.book.specs.Reading.{Reading, got, refused, marked, number, readHeader}
 use Rattle.book.specs.Answer.{headed}
-use Rattle.book.proofs.Walks.{clash}
+use Rattle.book.proofs.Readings.{clash, test-got, same-got}
 
 module _ (s : List ℕ) where
   pub mark-first : (getD s 0 0 ≡ 0x4D → ⊥) → false ≡ marked s
@@ -53,44 +53,17 @@ module _ (s : List ℕ) where
         unfolding readHeader
         header-good l u = rw (le-leb _ _ h, sym e ∙ not-false m f, ← ev, eq-eqb _ _ one, ← ek, le-leb _ _ l, le-leb _ _ u)
 
--- what a header that was read says of the book
-pub record HeaderRead (s : List ℕ) (k : ℕ) (rest : List ℕ) : Type 0 where
-  pub long : 7 ≤ length s
-  pub mark : marked s ≡ true
-  pub version : number (drop 3 s) ≡ 1
-  pub count : k ≡ number (drop 5 s)
-  pub some : 1 ≤ k
-  pub few : k ≤ 1024
-  pub after : rest ≡ drop 7 s
-
-pub header-read : (s rest : List ℕ) (k : ℕ) → readHeader s ≡ got k rest → HeaderRead s k rest
+-- the header took seven bytes
+pub header-got : (b : List ℕ) (k : ℕ) (rest : List ℕ) → readHeader b ≡ got k rest → (7 ≤ length b) × (marked b ≡ true) × (number (drop 3 b) ≡ 1) × (number (drop 5 b) ≡ k) × (1 ≤ k) × (k ≤ 1024) × (rest ≡ drop 7 b)
 unfolding readHeader
-header-read s rest k e = go (leb 7 (length s) && marked s) (eqb v 1) (leb 1 c && leb c 1024) refl refl refl e
-  where
-    v : ℕ
-    v = number (drop 3 s)
-
-    c : ℕ
-    c = number (drop 5 s)
-
-    go : (t u w : Bool) → (leb 7 (length s) && marked s) ≡ t → eqb v 1 ≡ u → (leb 1 c && leb c 1024) ≡ w → cond t (cond u (cond w (got c (drop 7 s)) (refused BadMacroCount)) (refused UnsupportedVersion)) (refused BadMagic) ≡ got k rest → HeaderRead s k rest
-    go true true true f g h i =
-        let p = and-eq-true-iff (leb 7 (length s)) (marked s) .0 f in
-        let q = and-eq-true-iff (leb 1 c) (leb c 1024) .0 h in
-        let same : k ≡ c = cc in
-        let rest-is : rest ≡ drop 7 s = cc in
-        record {
-          long = leb-true _ _ (p .0);
-          mark = p .1;
-          version = eqb-true _ _ g;
-          count = same;
-          some = rw same (leb-true _ _ (q .0));
-          few = rw same (leb-true _ _ (q .1));
-          after = rest-is;
-        }
-    go true true false f g h i = clash (cc)
-    go true false w f g h i = clash (cc)
-    go false u w f g h i = clash (cc)
+header-got b k rest e =
+    let (first, e1) = test-got _ _ BadMagic k rest e in
+    let (one, e2) = test-got _ _ UnsupportedVersion k rest e1 in
+    let (counted, e3) = test-got _ _ BadMacroCount k rest e2 in
+    let (long, mark) = and-eq-true-iff (leb 7 (length b)) (marked b) .0 first in
+    let (low, high) = and-eq-true-iff (leb 1 (number (drop 5 b))) (leb (number (drop 5 b)) 1024) .0 counted in
+    let (count, there) = same-got e3 in
+    (leb-true _ _ long, mark, eqb-true _ _ one, count, rw count at (leb-true 1 (number (drop 5 b)) low), rw count at (leb-true (number (drop 5 b)) 1024 high), sym there)
 
 -- what the answer of the header's reader says of its reading
 pub headed-macros : (g : Reading ℕ) (k : ℕ) → headed g ≡ Header.Macros k → (rest : List ℕ) × (g ≡ got k rest)

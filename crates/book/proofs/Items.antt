@@ -1,11 +1,11 @@
 -- The item at a place of some bytes.
 use Prim.Native.Nat.{ℕ, suc, _+_, _-_, _*_, _<_, _≤_}
 use native.Mathlib.Omega.{arith}
-use mathlib.Core.Path.{_≡_, refl, sym, ap, _∙_}
+use mathlib.Core.Path.{_≡_, refl, sym, _∙_}
 use mathlib.Core.List.{List, [], _∷_}
+use mathlib.Core.Bool.{Bool, true, false}
 use lib.ListN.{length, drop, getD, length-drop}
 use lib.Seq.{getD-drop, drop-drop}
-use mathlib.Core.Bool.{Bool, true, false}
 use lib.Dec.{ltb}
 use borrow.Author.Tests.{lt-ltb, le-ltb, ltb-true, ltb-false}
 use Rattle.book.specs.declared.item.Item.{Item}
@@ -13,13 +13,7 @@ use Rattle.book.specs.declared.item.Item.the-variants.{Key, Call}
 use Rattle.book.specs.declared.item.ItemRead.{ItemRead}
 use Rattle.book.specs.declared.item.ItemRead.the-variants.{Found, Short}
 use Rattle.book.specs.Reading.{itemAt, itemOf, itemsOf, number}
-
--- two constructors that are equal prove anything
-pub clash : {A : Type 0} → _≡_ {A = ℕ} 0 1 → A
-clash z = absurd (no-less z)
-  where
-    no-less : _≡_ {A = ℕ} 0 1 → ⊥
-    no-less z = omega arith
+use Rattle.book.proofs.Readings.{clash}
 
 -- an item that was found has its two bytes
 pub found-long : (b : List ℕ) (i : Item) → itemAt b ≡ Found i → 2 ≤ length b

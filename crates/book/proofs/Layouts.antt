@@ -1,5 +1,5 @@
 -- The walk over the macros of a book: what is known after n of them, and one law for each way on and out.
-use Prim.Native.Nat.{ℕ, zero, suc, _+_, _-_, _<_, _≤_}
+use Prim.Native.Nat.{ℕ, suc, _+_, _-_, _<_, _≤_}
 use native.Mathlib.Omega.{arith}
 use native.Mathlib.Numerals.{add-one}
 use mathlib.Core.Path.{_≡_, refl, sym, ap, _∙_}
@@ -17,7 +17,7 @@ use Rattle.book.specs.Format.{Macro}
 use Rattle.book.specs.Place.{size, starts}
 use Rattle.book.specs.Reading.{Reading, got, refused, next, done, readHeader, readMacro, readMacros, readAll, readBook}
 use Rattle.book.specs.Answer.{walked, headed, layoutFor, checkFigures, checkedFigures}
-use Rattle.book.proofs.Header.{header-read, headed-macros, headed-refused}
+use Rattle.book.proofs.Header.{header-got, headed-macros, headed-refused}
 use Rattle.book.proofs.Places.{macro-got, starts-length, starts-more}
 use Rattle.book.proofs.Walks.{walked-refused, walked-at}
 
@@ -114,14 +114,14 @@ module _ (s : List ℕ) (g : Header) (e : g ≡ headed (readHeader s)) where
   pub header-fits : (k : ℕ) → g ≡ Header.Macros k → (7 ≤ length s) × (k ≤ 1024)
   header-fits k f =
       let (rest, h) = headed-macros (readHeader s) k (sym e ∙ f) in
-      let r = header-read s rest k h in
-      (r .long, r .few)
+      let r = header-got s k rest h in
+      (r .0, r .5)
 
   pub whole-macros : (x : Layout) (k : ℕ) → g ≡ Header.Macros k → x ≡ layoutFor (readAll k (drop 7 s)) → x ≡ layoutFor (readBook s)
   unfolding readBook
   whole-macros x k f i =
       let (rest, h) = headed-macros (readHeader s) k (sym e ∙ f) in
-      i ∙ rw (h, header-read s rest k h .after)
+      i ∙ rw (h, header-got s k rest h .6)
 
   pub whole-refused : (x : Layout) (r : Refusal) → g ≡ Header.Refused r → x ≡ layoutFor (refused r) → x ≡ layoutFor (readBook s)
   unfolding readBook

@@ -1,13 +1,14 @@
 -- Laws of the book's definitions, which the proofs of functions cite.
-pub mod Asked
-pub mod Coding
-pub mod Header
+pub mod Readings
 pub mod Items
 pub mod Walks
-pub mod Layouts
-pub mod Listing
-pub mod Marks
-pub mod Parts
+pub mod Header
 pub mod Places
-pub mod Reach
+pub mod Coding
+pub mod Layouts
+pub mod Parts
 pub mod Run
+pub mod Reach
+pub mod Marks
+pub mod Listing
+pub mod Asked

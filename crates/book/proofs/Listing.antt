@@ -3,18 +3,18 @@ use Prim.Native.Nat.{ℕ, zero, suc, _+_, _-_, _<_, _≤_}
 use native.Mathlib.Omega.{arith}
 use native.Mathlib.Numerals.{add-one}
 use native.Mathlib.Decide.{decLe}
-use mathlib.Core.Path.{_≡_, refl, sym, ap, _∙_, subst}
+use mathlib.Core.Path.{_≡_, refl, sym, _∙_}
 use mathlib.Core.Bool.{Bool, true, false}
 use mathlib.Core.Logic.{_⊎_, inl, inr, ⊎-elim}
 use mathlib.Core.List.{List, [], _∷_, _++_}
-use lib.ListN.{length, drop, getD, set, replicate, length-set, length-append, length-drop, length-replicate, getD-replicate}
-use lib.Seq.{getD-set-same, getD-set-other, set-at, drop-cons, append-snoc}
+use lib.ListN.{length, drop, getD, set, replicate, length-set, length-append, length-drop, length-replicate}
+use lib.Seq.{getD-set-same, set-at, drop-cons, append-snoc}
 use Rattle.book.specs.Format.{Macro, wellFormed}
 use Rattle.book.specs.Reach.{Calls, Reaches, itself, reaches, markCalls, ReachList}
 use Rattle.book.specs.Reading.{Reading, got, refused, readBook, macrosIn}
 use Rattle.book.specs.Answer.{Located}
 use Rattle.book.proofs.Coding.{read-well}
-use Rattle.book.proofs.Items.{clash}
+use Rattle.book.proofs.Readings.{clash}
 use Rattle.book.proofs.Marks.{marks-length, marks-stay, marks-calls, marks-from, set-from}
 use Rattle.book.proofs.Reach.{calls-lower, reach-calls, reach-last, reach-lower, reaches-sound, reaches-complete, down, down-none, down-in, down-out, down-short, reach-listed}
 

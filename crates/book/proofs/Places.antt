@@ -2,48 +2,23 @@
 use Prim.Native.Nat.{ℕ, zero, suc, _+_, _-_, _*_, _<_, _≤_}
 use native.Mathlib.Nat.{add-zero, add-suc, suc-add, zero-add}
 use native.Mathlib.Omega.{arith}
-use mathlib.Core.Path.{_≡_, refl, sym, ap, _∙_}
+use mathlib.Core.Path.{_≡_, refl, ap, _∙_}
 use mathlib.Core.Bool.{Bool, true, false, cond, and-eq-true-iff}
 use mathlib.Core.List.{List, [], _∷_, _++_}
 use lib.Dec.{leb, ltb, eqb}
 use lib.ListN.{length, take, drop, getD, length-drop, drop-of-length-le}
 use lib.Seq.{drop-drop}
 use borrow.Author.Tests.{ltb-true, ltb-false, leb-true, eqb-true, eqb-false, le-leb}
-use Rattle.refusal.specs.declared.Refusal.{Refusal}
-use Rattle.refusal.specs.declared.Refusal.the-variants.{BadMagic, UnsupportedVersion, BadMacroCount, MalformedBody, InvalidKey, ForwardReference}
+use Rattle.refusal.specs.declared.Refusal.the-variants.{MalformedBody, InvalidKey, ForwardReference}
 use Rattle.book.specs.declared.item.Item.{Item}
 use Rattle.book.specs.declared.item.Item.the-variants.{Key, Call}
 use Rattle.book.specs.declared.item.ItemRead.the-variants.{Found, Short}
-use Rattle.book.specs.Reading.{Reading, Reader, got, refused, next, done, itemOf, itemsOf, number, judge, readItem, readItems, readMacro, readMacros, marked, readHeader, atEnd, readAll, readBook}
+use Rattle.book.specs.Reading.{got, next, itemOf, itemsOf, number, judge, readItem, readItems, readMacro, readMacros, marked, readHeader, atEnd, readAll, readBook}
 use Rattle.book.specs.Format.{Macro, soundItem}
 use Rattle.book.specs.Place.{size, starts, place, bodyPart}
-use Rattle.book.proofs.Walks.{clash, item-got}
-
--- what was read behind a test passed it
-pub test-got : {A : Type 0} (t : Bool) (g : Reading A) (r : Refusal) (a : A) (rest : List ℕ) → cond t g (refused r) ≡ got a rest → (t ≡ true) × (g ≡ got a rest)
-test-got true g r a rest e = (refl, e)
-test-got false g r a rest e = clash (cc)
-
--- and it failed a test that refuses
-pub untest-got : {A : Type 0} (t : Bool) (g : Reading A) (r : Refusal) (a : A) (rest : List ℕ) → cond t (refused r) g ≡ got a rest → (t ≡ false) × (g ≡ got a rest)
-untest-got true g r a rest e = clash (cc)
-untest-got false g r a rest e = (refl, e)
-
--- two answers that are equal have equal parts
-same-got : {A : Type 0} {a b : A} {r s : List ℕ} → _≡_ {A = Reading A} (got a r) (got b s) → (a ≡ b) × (r ≡ s)
-same-got e = (cc, cc)
-
--- one thing was read and then another
-pub next-got : {A B : Type 0} (g : Reading A) (f : A → Reader B) (b : B) (rest : List ℕ) → next g f ≡ got b rest → (a : A) × (mid : List ℕ) × (g ≡ got a mid) × (f a mid ≡ got b rest)
-next-got (got a mid) f b rest e = (a, mid, refl, e)
-next-got (refused r) f b rest e = clash (cc)
-
--- an element was read and then others
-pub more-got : {A : Type 0} (g : Reading A) (h : Reader (List A)) (l : List A) (rest : List ℕ) → next g (λ a b. next (h b) (λ xs. done (a ∷ xs))) ≡ got l rest → (a : A) × (xs : List A) × (mid : List ℕ) × (l ≡ a ∷ xs) × (g ≡ got a mid) × (h mid ≡ got xs rest)
-more-got g h l rest e =
-    let (a, mid, one, f) = next-got g (λ a b. next (h b) (λ xs. done (a ∷ xs))) l rest e in
-    let (xs, r, others, q) = next-got (h mid) (λ xs. done (a ∷ xs)) l rest f in
-    (a, xs, mid, cc, one, cc)
+use Rattle.book.proofs.Header.{header-got}
+use Rattle.book.proofs.Readings.{clash, test-got, untest-got, next-got, more-got}
+use Rattle.book.proofs.Walks.{item-got}
 
 -- k items take two bytes each
 pub items-got : (n k : ℕ) (b rest : List ℕ) (is : List Item) → readItems n k b ≡ got is rest → (length is ≡ k) × (rest ≡ drop (2 * k) b) × (2 * k ≤ length b)
@@ -184,18 +159,6 @@ pub record Whole (b : List ℕ) (ms : List Macro) (rest : List ℕ) : Type 0 whe
   pub few : length ms ≤ 1024
   pub macros : readMacros 0 (length ms) (drop 7 b) ≡ got ms []
   pub end : rest ≡ []
-
--- the header took seven bytes
-header-got : (b : List ℕ) (k : ℕ) (rest : List ℕ) → readHeader b ≡ got k rest → (7 ≤ length b) × (marked b ≡ true) × (number (drop 3 b) ≡ 1) × (number (drop 5 b) ≡ k) × (1 ≤ k) × (k ≤ 1024) × (rest ≡ drop 7 b)
-unfolding readHeader
-header-got b k rest e =
-    let (first, e1) = test-got _ _ BadMagic k rest e in
-    let (one, e2) = test-got _ _ UnsupportedVersion k rest e1 in
-    let (counted, e3) = test-got _ _ BadMacroCount k rest e2 in
-    let (long, mark) = and-eq-true-iff (leb 7 (length b)) (marked b) .0 first in
-    let (low, high) = and-eq-true-iff (leb 1 (number (drop 5 b))) (leb (number (drop 5 b)) 1024) .0 counted in
-    let (count, there) = same-got e3 in
-    (leb-true _ _ long, mark, eqb-true _ _ one, count, rw count at (leb-true 1 (number (drop 5 b)) low), rw count at (leb-true (number (drop 5 b)) 1024 high), sym there)
 
 -- a book that was read has these
 pub whole : (b : List ℕ) (ms : List Macro) (rest : List ℕ) → readBook b ≡ got ms rest → Whole b ms rest

@@ -1,13 +1,13 @@
 -- Where the check of items and macros goes on, or why it stops: one law for each way out of the code.
-use Prim.Native.Nat.{ℕ, zero, suc, _+_, _-_, _*_, _<_, _≤_}
+use Prim.Native.Nat.{ℕ, suc, _+_, _-_, _<_, _≤_}
 use native.Mathlib.Omega.{arith}
 use mathlib.Core.Path.{_≡_, refl, sym, ap, _∙_}
 use mathlib.Core.Bool.{Bool, true, false, cond}
 use mathlib.Core.List.{List, _∷_}
 use lib.Dec.{ltb, eqb}
-use lib.ListN.{length, drop, getD, length-drop}
+use lib.ListN.{length, drop, length-drop}
 use lib.Seq.{drop-drop}
-use borrow.Author.Tests.{lt-ltb, le-ltb, lt-leb, le-leb, eq-eqb, ne-eqb, ltb-false}
+use borrow.Author.Tests.{lt-ltb, le-ltb, lt-leb, le-leb, eq-eqb, ne-eqb}
 use Rattle.refusal.specs.declared.Refusal.{Refusal}
 use Rattle.refusal.specs.declared.Refusal.the-variants.{MalformedBody, InvalidKey, ForwardReference}
 use Rattle.book.specs.declared.item.Item.{Item}
@@ -16,10 +16,11 @@ use Rattle.book.specs.declared.item.ItemRead.{ItemRead}
 use Rattle.book.specs.declared.item.ItemRead.the-variants.{Found, Short}
 use Rattle.book.specs.declared.layout.Walk.{Walk}
 use Rattle.book.specs.declared.layout.Walk.the-variants.{At, Refused}
-use Rattle.book.specs.Reading.{Reading, got, refused, next, done, itemAt, itemOf, number, judge, readItem, readItems, readMacro}
+use Rattle.book.specs.Reading.{Reading, got, refused, next, done, itemAt, number, judge, readItem, readItems, readMacro}
 use Rattle.book.specs.Format.{Macro}
 use Rattle.book.specs.Answer.{walked}
-pub use Rattle.book.proofs.Items.{clash, found-long}
+use Rattle.book.proofs.Items.{found-long}
+use Rattle.book.proofs.Readings.{clash}
 
 module _ (s : List ℕ) (at n : ℕ) (r : ItemRead) (e : r ≡ itemAt (drop at s)) where
   judged : (v : ItemRead) → r ≡ v → readItem n (drop at s) ≡ judge n v (drop 2 (drop at s))

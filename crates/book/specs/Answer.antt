@@ -1,7 +1,7 @@
 -- What each operation of the book answers, by the definitions of the book.
 use Prim.Native.Nat.{ℕ, _+_, _-_, _<_}
 use mathlib.Core.Path.{_≡_}
-use mathlib.Core.Bool.{Bool, cond}
+use mathlib.Core.Bool.{cond}
 use mathlib.Core.List.{List, [], _++_}
 use lib.Dec.{ltb}
 use lib.ListN.{length, replicate}
@@ -16,7 +16,7 @@ use Rattle.book.specs.declared.reachable.Reached.{Reached}
 use Rattle.book.specs.Format.{Macro}
 use Rattle.book.specs.Place.{starts, bodyPart}
 use Rattle.book.specs.Reach.{ReachList}
-use Rattle.book.specs.Reading.{Reading, Reader, got, refused, done, _>>=_, readBook, macrosIn}
+use Rattle.book.specs.Reading.{Reading, Reader, got, refused, _>>=_, readBook, macrosIn}
 
 -- The paper's figures for an answer: the refusal's number, 0 if accepted, and the one value. "A refusal's other numbers are 0"
 pub record Figures : Type 0 where

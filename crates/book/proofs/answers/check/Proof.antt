@@ -1,18 +1,14 @@
+-- `book::check`: the figures are those of the layout's answer.
 use denote.Ref.{now}
+use borrow.Author.Needs.{needs}
 use Rattle.book.specs.Reading.{readBook}
 use Rattle.book.proofs.Layouts.{layout-figures}
-use borrow.Author.Needs.{needs}
 use Rattle.book.proofs.answers.check.Statement.{statement}
 use Rattle.book.proofs.answers.check.Tie as tie
-use Rattle.book.proofs.answers.check.Reads as reads
-use Rattle.book.proofs.answers.check.Lts as lts
-use Rattle.book.proofs.layout.layout_of.Reads as layout-of-reads
 
--- src/answers.rt:12:9
 layout-of-requires : tie.Need-layout-of-requires
 layout-of-requires c κs = search needs
 
--- src/answers.rt:9:1
 returns : tie.Need-returns
 returns c = layout-figures (readBook (now (c .before .before .args .book))) _ (c .layout-of .ensures)
 

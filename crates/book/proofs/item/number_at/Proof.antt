@@ -1,41 +1,31 @@
+-- `number_at`: two bytes, the low one first.
 use denote.Ref.{now}
-use Rattle.book.proofs.Items.{number-bytes}
 use borrow.Author.Needs.{needs}
+use Rattle.book.proofs.Items.{number-bytes}
 use Rattle.book.proofs.item.number_at.Statement.{statement}
 use Rattle.book.proofs.item.number_at.Tie as tie
-use Rattle.book.proofs.item.number_at.Reads as reads
-use Rattle.book.proofs.item.number_at.Lts as lts
-use Rattle.book.proofs.item.wide.Reads as wide-reads
 
--- src/item.rt:30:20
 shared-slice-read-wide : tie.Need-shared-slice-read-wide
 shared-slice-read-wide c = search needs
 
--- src/item.rt:30:9
 wide-requires : tie.Need-wide-requires
 wide-requires c κs = search needs
 
--- src/item.rt:31:23
 add-wide : tie.Need-add-wide
 add-wide c = search needs
 
--- src/item.rt:31:21
 shared-slice-read-wide-2 : tie.Need-shared-slice-read-wide-2
 shared-slice-read-wide-2 c = search needs
 
--- src/item.rt:31:9
 wide-requires-2 : tie.Need-wide-requires-2
 wide-requires-2 c κs = search needs
 
--- src/item.rt:32:11
 mul-result : tie.Need-mul-result
 mul-result c = search needs
 
--- src/item.rt:32:5
 add-result : tie.Need-add-result
 add-result c = search needs
 
--- src/item.rt:26:1
 returns : tie.Need-returns
 returns c =
     let a = c .before .before .before .before .before .args in

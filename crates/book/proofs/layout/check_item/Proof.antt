@@ -1,64 +1,50 @@
-use denote.Ref.{now}
+-- `check_item`: each way out is a case of reading one item.
 use native.Mathlib.Omega.{arith}
-use Rattle.book.proofs.Walks.{item-cut, item-fits, key-zero, key-on, call-high, call-on}
+use denote.Ref.{now}
 use borrow.Author.Needs.{needs}
+use Rattle.book.proofs.Walks.{item-cut, item-fits, key-zero, key-on, call-high, call-on}
 use Rattle.book.proofs.layout.check_item.Statement.{statement}
 use Rattle.book.proofs.layout.check_item.Tie as tie
-use Rattle.book.proofs.layout.check_item.Reads as reads
-use Rattle.book.proofs.layout.check_item.Lts as lts
-use Rattle.book.proofs.item.read_item.Reads as read-item-reads
 
--- src/check.rt:21:9
 read-item-requires : tie.Need-read-item-requires
 read-item-requires c κs = search needs
 
--- src/check.rt:22:25
 enum-known-read : tie.Need-enum-known-read
 enum-known-read c = search needs
 
--- src/check.rt:23:30
 enum-told : tie.Need-enum-told
 enum-told c = search needs
 
--- src/check.rt:23:9
 returns : tie.Need-returns
 returns c = search (item-cut)
 
--- src/check.rt:26:19
 enum-known-item : tie.Need-enum-known-item
 enum-known-item c = search needs
 
--- src/check.rt:28:17
 returns-2 : tie.Need-returns-2
 returns-2 c = search (key-zero)
 
--- src/check.rt:30:22
 add-t12 : tie.Need-add-t12
 add-t12 c =
     let k = c .before .before .before .before .before in
     let a = k .before .before .before .before .args in
     omega (arith, item-fits (now (a .s)) (a .at) (a .n) _ (k .before .before .read-item .ensures) _ (k .read .given .1))
 
--- src/check.rt:32:20
 enum-known-item-2 : tie.Need-enum-known-item-2
 enum-known-item-2 c = search needs
 
--- src/check.rt:34:17
 returns-3 : tie.Need-returns-3
 returns-3 c = search (call-high)
 
--- src/check.rt:36:22
 add-t15 : tie.Need-add-t15
 add-t15 c =
     let k = c .before .before .before .before .before in
     let a = k .before .before .before .before .args in
     omega (arith, item-fits (now (a .s)) (a .at) (a .n) _ (k .before .before .read-item .ensures) _ (k .read .given .1))
 
--- src/check.rt:18:1
 returns-4 : tie.Need-returns-4
 returns-4 c = search (key-on)
 
--- src/check.rt:18:1
 returns-5 : tie.Need-returns-5
 returns-5 c = search (call-on)
 

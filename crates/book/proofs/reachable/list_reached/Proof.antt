@@ -1,14 +1,14 @@
-use Prim.Native.Nat.{ℕ, _-_}
+-- `list_reached`. Invariant: the macros from i on that m reaches are listed, and all that they call are marked.
+use Prim.Native.Nat.{ℕ, _-_, _<_}
+use native.Mathlib.Omega.{arith}
 use mathlib.Core.Path.{_≡_, ap, _∙_}
 use mathlib.Core.List.{List}
 use mathlib.Core.Bool.{true}
 use lib.ListN.{length}
-use Rattle.book.specs.Format.{wellFormed}
-use Rattle.book.specs.Answer.{Located}
-use Prim.Native.Nat.{_<_}
-use native.Mathlib.Omega.{arith}
 use denote.Ref.{now}
 use borrow.Author.Needs.{needs}
+use Rattle.book.specs.Format.{wellFormed}
+use Rattle.book.specs.Answer.{Located}
 use Rattle.book.specs.declared.item.Item.{Item}
 use Rattle.book.specs.Reading.{itemsOf, macrosIn}
 use Rattle.book.specs.Reach.{markCalls}
@@ -16,11 +16,6 @@ use Rattle.book.proofs.Parts.{located}
 use Rattle.book.proofs.Listing.{Listed, listed-none, listed-length, listed-room, listed-small, listed-in, listed-out, listed-end, located-well, located-lower}
 use Rattle.book.proofs.reachable.list_reached.Statement.{statement}
 use Rattle.book.proofs.reachable.list_reached.Tie as tie
-use Rattle.book.proofs.reachable.list_reached.Reads as reads
-use Rattle.book.proofs.reachable.list_reached.Lts as lts
-use Rattle.book.proofs.layout.part_of.Reads as part-of-reads
-use Rattle.book.proofs.reachable.first_mark.Reads as first-mark-reads
-use Rattle.book.proofs.reachable.mark_calls.Reads as mark-calls-reads
 
 abbrev Inv-loop : tie.InvT-loop
 Inv-loop book places m list₀ marks₀ n₀ i₀ list marks n i = Listed (macrosIn book) m list₀ list marks n i
@@ -49,57 +44,44 @@ small l h =
     let s = l .before .before .before .before in
     listed-small (macrosIn (now (s .args .book))) (s .args .m) (well s) _ _ _ _ _ (l .loop .inv) (s .pre .1) h (few s)
 
--- src/reachable.rt:63:21
 first-mark-requires : tie.Need-first-mark-requires Inv-loop μ-loop
 first-mark-requires c κs = few (c .before .before)
 
--- src/reachable.rt:65:17
 add-i : tie.Need-add-i Inv-loop μ-loop
 add-i c = omega (arith, few (c .before .before .before))
 
--- src/reachable.rt:66:5
 loop-holds : tie.Need-loop-holds Inv-loop μ-loop
 loop-holds c =
     let s = c .before .before .before in
     listed-none (macrosIn (now (s .args .book))) (s .args .m) (well s) (now (s .args .list)) (c .first-mark .result) (few s) (c .first-mark .ensures)
 
--- src/reachable.rt:67:9
 sub-i : tie.Need-sub-i Inv-loop μ-loop
 sub-i c = search needs
 
--- src/reachable.rt:68:12
 array-read-if1 : tie.Need-array-read-if1 Inv-loop μ-loop
 array-read-if1 c = omega (arith, few (c .before .before .before .before .before), c .before .loop .inv .high)
 
--- src/reachable.rt:69:23
 cast-list : tie.Need-cast-list Inv-loop μ-loop
 cast-list c = omega (arith, few (c .before .before .before .before .before .before), c .before .before .loop .inv .high)
 
--- src/reachable.rt:69:13
 mul-list : tie.Need-mul-list Inv-loop μ-loop
 mul-list c = omega (arith, small (c .before .before) (omega arith))
 
--- src/reachable.rt:69:13
 slice-write-list : tie.Need-slice-write-list Inv-loop μ-loop
 slice-write-list c = room (c .before .before) (omega arith)
 
--- src/reachable.rt:70:13
 add-n : tie.Need-add-n Inv-loop μ-loop
 add-n c = omega (arith, small (c .before .before) (omega arith))
 
--- src/reachable.rt:71:24
 part-of-requires : tie.Need-part-of-requires Inv-loop μ-loop
 part-of-requires c κs = here (c .before .before)
 
--- src/reachable.rt:71:13
 mark-calls-requires : tie.Need-mark-calls-requires Inv-loop μ-loop
 mark-calls-requires c κs = search needs
 
--- src/reachable.rt:66:5
 loop-less : tie.Need-loop-less Inv-loop μ-loop
 loop-less c = search needs
 
--- src/reachable.rt:66:5
 loop-again : tie.Need-loop-again Inv-loop μ-loop
 loop-again c =
     let l = c .before .before .before .before .before in
@@ -111,25 +93,21 @@ loop-again c =
     ∙ ap (λ (x : List ℕ). markCalls (itemsOf x) (l .loop .marks)) (c .before .before .part-of .ensures)
     ∙ ap (λ (x : List Item). markCalls x (l .loop .marks)) items)
 
--- src/reachable.rt:66:5
 loop-less-2 : tie.Need-loop-less-2 Inv-loop μ-loop
 loop-less-2 c = search needs
 
--- src/reachable.rt:66:5
 loop-again-2 : tie.Need-loop-again-2 Inv-loop μ-loop
 loop-again-2 c =
     let l = c .before .before in
     let s = l .before .before .before .before in
     listed-out (macrosIn (now (s .args .book))) (s .args .m) (well s) _ _ _ _ _ (l .loop .inv) (s .pre .1) (omega arith) (c .if1 .left)
 
--- src/reachable.rt:58:1
 same-length : tie.Need-same-length Inv-loop μ-loop
 same-length c =
     let l = c .before in
     let s = l .before .before .before .before in
     listed-length (macrosIn (now (s .args .book))) (s .args .m) (well s) _ _ _ _ _ (l .loop .inv) (s .pre .1)
 
--- src/reachable.rt:58:1
 returns : tie.Need-returns Inv-loop μ-loop
 returns c =
     let l = c .before in

@@ -1,34 +1,27 @@
-use Rattle.book.proofs.Marks.{mark-call, mark-high}
+-- `mark_item`: a call sets its mark, a key none.
 use borrow.Author.Needs.{needs}
+use Rattle.book.proofs.Marks.{mark-call, mark-high}
 use Rattle.book.proofs.reachable.mark_item.Statement.{statement}
 use Rattle.book.proofs.reachable.mark_item.Tie as tie
-use Rattle.book.proofs.reachable.mark_item.Reads as reads
-use Rattle.book.proofs.reachable.mark_item.Lts as lts
 
--- src/reachable.rt:23:23
 enum-known-item : tie.Need-enum-known-item
 enum-known-item c = search needs
 
--- src/reachable.rt:24:17
 cast-j : tie.Need-cast-j
 cast-j c = search needs
 
--- src/reachable.rt:26:13
 element-write-marks : tie.Need-element-write-marks
 element-write-marks c = search needs
 
 enum-told : tie.Need-enum-told
 enum-told c = search needs
 
--- src/reachable.rt:20:1
 returns : tie.Need-returns
 returns c = search mark-call
 
--- src/reachable.rt:20:1
 returns-2 : tie.Need-returns-2
 returns-2 c = search mark-high
 
--- src/reachable.rt:20:1
 returns-3 : tie.Need-returns-3
 returns-3 c = search needs
 

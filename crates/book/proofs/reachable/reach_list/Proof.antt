@@ -1,33 +1,25 @@
+-- `book::reach_list`: each way out is a case of what is read of macro m.
 use mathlib.Core.Path.{refl}
 use lib.ListN.{length}
 use denote.Ref.{now}
+use borrow.Author.Needs.{needs}
 use Rattle.book.specs.Answer.{readReach}
 use Rattle.book.proofs.Asked.{asked-refused, asked-out, asked-in, asked-located, reach-refused, reach-short, reach-enough, reach-none, reach-some}
-use borrow.Author.Needs.{needs}
 use Rattle.book.proofs.reachable.reach_list.Statement.{statement}
 use Rattle.book.proofs.reachable.reach_list.Tie as tie
-use Rattle.book.proofs.reachable.reach_list.Reads as reads
-use Rattle.book.proofs.reachable.reach_list.Lts as lts
-use Rattle.book.proofs.layout.layout_of.Reads as layout-of-reads
-use Rattle.book.proofs.reachable.list_reached.Reads as list-reached-reads
 
--- src/reachable.rt:81:17
 layout-of-requires : tie.Need-layout-of-requires
 layout-of-requires c κs = search needs
 
--- src/reachable.rt:84:26
 enum-known-answer : tie.Need-enum-known-answer
 enum-known-answer c = search needs
 
--- src/reachable.rt:85:24
 enum-known-answer-2 : tie.Need-enum-known-answer-2
 enum-known-answer-2 c = search needs
 
--- src/reachable.rt:86:16
 cast-if1 : tie.Need-cast-if1
 cast-if1 c = search needs
 
--- src/reachable.rt:87:17
 returns : tie.Need-returns
 returns c =
     let k = c .before .before in
@@ -36,7 +28,6 @@ returns c =
     let out = asked-out (now (a .book)) (a .m) _ (l .layout-of .ensures) _ refl _ (k .answer2 .given .1) (c .if1 .taken) in
     reach-none (readReach (a .m) (length (now (a .list))) (now (a .book))) (a .m) _ _ _ (reach-refused (now (a .book)) (a .m) (length (now (a .list))) _ out) refl
 
--- src/reachable.rt:90:17
 returns-2 : tie.Need-returns-2
 returns-2 c =
     let k = c .before .before .before in
@@ -45,7 +36,6 @@ returns-2 c =
     let read = asked-in (now (a .book)) (a .m) _ (l .layout-of .ensures) _ refl _ (k .answer2 .given .1) (c .before .if1 .left) in
     reach-none (readReach (a .m) (length (now (a .list))) (now (a .book))) (a .m) _ _ _ (reach-short (now (a .book)) (a .m) (length (now (a .list))) _ _ (read .2) (c .if2 .taken)) refl
 
--- src/reachable.rt:92:30
 list-reached-requires : tie.Need-list-reached-requires
 list-reached-requires c κs =
     let e = c .before .before .before in
@@ -54,7 +44,6 @@ list-reached-requires c κs =
     let a = l .before .before .before .args in
     (asked-located (now (a .book)) (a .m) _ (l .layout-of .ensures) _ refl _ (k .answer2 .given .1) (e .before .if1 .left), e .if2 .left)
 
--- src/reachable.rt:78:1
 returns-3 : tie.Need-returns-3
 returns-3 c =
     let k = c .before in
@@ -63,11 +52,9 @@ returns-3 c =
     let out = asked-refused (now (a .book)) (a .m) _ (l .layout-of .ensures) _ refl _ (k .answer .given .1) in
     reach-none (readReach (a .m) (length (now (a .list))) (now (a .book))) (a .m) _ _ _ (reach-refused (now (a .book)) (a .m) (length (now (a .list))) _ out) refl
 
--- src/reachable.rt:78:1
 same-length : tie.Need-same-length
 same-length c = search needs
 
--- src/reachable.rt:78:1
 returns-4 : tie.Need-returns-4
 returns-4 c =
     let e = c .before .before .before .before .before .before in
