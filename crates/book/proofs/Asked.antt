@@ -11,10 +11,10 @@ use Rattle.refusal.specs.Number.{number}
 use Rattle.book.specs.declared.layout.Checked.{Checked}
 use Rattle.book.specs.declared.layout.Layout.{Layout}
 use Rattle.book.specs.Format.{Macro}
-use Rattle.book.specs.Place.{bodyPart}
+use Rattle.book.specs.Place.{bodyPart, place}
 use Rattle.book.specs.Reading.{Reading, got, refused, readBook, macrosIn}
 use Rattle.book.specs.Reach.{ReachList}
-use Rattle.book.specs.Answer.{Located, ReachAnswer, accepted, refusedFor, layoutFor, readMacroOf, readReach, bodyOf, refusalOf}
+use Rattle.book.specs.Answer.{Located, ReachAnswer, accepted, refusedFor, layoutFor, readMacroOf, readReach, bodyOf, bodyAt, refusalOf}
 use Rattle.book.proofs.Readings.{clash}
 
 -- the answer of a layout says how the book was read
@@ -54,11 +54,11 @@ module _ (b : List ℕ) (m : ℕ) (x : Layout) (e : x ≡ layoutFor (readBook b)
         record { table = ap (λ (y : Layout). y .places) e; inside = rw (i, many) h }
 
 -- the two results of a body
-pub body-none : (b : List ℕ) (m : ℕ) (g : Reading (List Macro)) (r : Refusal) (q : ℕ) → g ≡ refused r → q ≡ number r → ([] ≡ bodyOf b m g) × (q ≡ refusalOf g)
-body-none b m g r q e f = (rw e, rw e f)
+pub body-none : (b : List ℕ) (at : ℕ × ℕ) (m : ℕ) (g : Reading (List Macro)) (r : Refusal) (q : ℕ) → g ≡ refused r → q ≡ number r → ([] ≡ bodyOf b m g) × ((at ≡ bodyAt at m g) × (q ≡ refusalOf g))
+body-none b at m g r q e f = (rw e, (rw e, rw e f))
 
-pub body-some : (b : List ℕ) (m : ℕ) (g : Reading (List Macro)) (ms : List Macro) (rest p : List ℕ) → g ≡ got ms rest → p ≡ bodyPart b ms m → (p ≡ bodyOf b m g) × (0 ≡ refusalOf g)
-body-some b m g ms rest p e f = (rw e f, rw e)
+pub body-some : (b : List ℕ) (at : ℕ × ℕ) (m : ℕ) (g : Reading (List Macro)) (ms : List Macro) (rest p : List ℕ) (there : ℕ × ℕ) → g ≡ got ms rest → p ≡ bodyPart b ms m → there ≡ (at .0, place ms m + 2 + at .1) → (p ≡ bodyOf b m g) × ((there ≡ bodyAt at m g) × (0 ≡ refusalOf g))
+body-some b at m g ms rest p there e f h = (rw e f, (rw e h, rw e))
 
 -- the reach list: 11 comes after all that a macro is refused for
 module _ (b : List ℕ) (m k : ℕ) where

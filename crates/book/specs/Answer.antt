@@ -14,7 +14,7 @@ use Rattle.book.specs.declared.layout.Layout.{Layout}
 use Rattle.book.specs.declared.layout.Walk.{Walk}
 use Rattle.book.specs.declared.reachable.Reached.{Reached}
 use Rattle.book.specs.Format.{Macro}
-use Rattle.book.specs.Place.{starts, bodyPart}
+use Rattle.book.specs.Place.{starts, bodyPart, place}
 use Rattle.book.specs.Reach.{ReachList}
 use Rattle.book.specs.Reading.{Reading, Reader, got, refused, _>>=_, readBook, macrosIn}
 
@@ -58,6 +58,11 @@ readMacroOf m = do
 abbrev pub bodyOf : List ℕ → ℕ → Reading (List Macro) → List ℕ
 bodyOf b m (got ms rest) = bodyPart b ms m
 bodyOf b m (refused r) = []
+
+-- where the body of macro m stands, in a book that stands at p
+abbrev pub bodyAt : ℕ × ℕ → ℕ → Reading (List Macro) → ℕ × ℕ
+bodyAt p m (got ms rest) = (p .0, place ms m + 2 + p .1)
+bodyAt p m (refused r) = p
 
 -- "its refusal stands in a lent number (0 if accepted)"
 abbrev pub refusalOf : {A : Type 0} → Reading A → ℕ

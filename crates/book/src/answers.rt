@@ -4,9 +4,10 @@ use crate::layout::layout_of;
 use crate::layout::part_of;
 use refusal::Refusal;
 use refusal::code;
+ghost use denote.Ref.{ptr};
 ghost use mathlib.Core.Path.{_≡_};
 ghost use Rattle.book.specs.Reading.{readBook};
-ghost use Rattle.book.specs.Answer.{bodyOf, checkFigures, checkedFigures, readMacroOf, refusalOf};
+ghost use Rattle.book.specs.Answer.{bodyAt, bodyOf, checkFigures, checkedFigures, readMacroOf, refusalOf};
 
 // Whether a book is sound (document 01, "The book"): its macro count, or the first fault in reading order.
 pub fn check(book: &[u8]) -> Checked
@@ -19,6 +20,7 @@ pub fn check(book: &[u8]) -> Checked
 // The body of macro m, as that part of the book; the refusal's number goes to `refused`, 0 if there is none.
 pub fn body<'a>(book: &'a [u8], m: usize, refused: &mut u8) -> &'a [u8]
     ensures part { λ r. ⌜ now r ≡ bodyOf (now (book .entry)) m (readMacroOf m (now (book .entry))) ⌝ }
+    ensures place { λ r. ⌜ ptr r ≡ bodyAt (ptr (book .entry)) m (readMacroOf m (now (book .entry))) ⌝ }
     ensures number { λ _. ⌜ now (refused .exit) ≡ refusalOf (readMacroOf m (now (book .entry))) ⌝ }
 {
     let found = layout_of(book);

@@ -5,12 +5,13 @@ use crate::item::number_at;
 use crate::item::read_item;
 use refusal::Refusal;
 ghost use mathlib.Core.Path.{_≡_};
-ghost use Prim.Native.Nat.{_≤_};
+ghost use Prim.Native.Nat.{_≤_, _+_};
 ghost use mathlib.Core.List.{_∷_};
 ghost use lib.ListN.{length, drop, replicate};
 ghost use Rattle.book.specs.Reading.{macrosIn, marked, readAll, readBook, readHeader, readItem, readItems, readMacro, refused};
 ghost use Rattle.book.specs.Answer.{Located, headed, layoutFor, walked};
-ghost use Rattle.book.specs.Place.{bodyPart};
+ghost use Rattle.book.specs.Place.{bodyPart, place};
+ghost use denote.Ref.{ptr};
 
 // The mark that a book begins with.
 const MARK: [u8; 3] = *b"MBK";
@@ -198,7 +199,7 @@ pub fn layout_of(book: &[u8]) -> Layout
 // The body of macro i, where the places are those of the book's layout.
 pub(crate) fn part_of<'a>(book: &'a [u8], places: &[usize; 1025], i: usize) -> &'a [u8]
     requires { ⌜ Located (now book) (now places) i ⌝ }
-    ensures { λ r. ⌜ now r ≡ bodyPart (now (book .entry)) (macrosIn (now (book .entry))) i ⌝ }
+    ensures { λ r. ⌜ (now r ≡ bodyPart (now (book .entry)) (macrosIn (now (book .entry))) i) × (ptr r ≡ (ptr (book .entry) .0, place (macrosIn (now (book .entry))) i + 2 + ptr (book .entry) .1)) ⌝ }
 {
     let start = places[i] + 2;
     let end = places[i + 1];

@@ -1,5 +1,7 @@
 -- `part_of`: macro i ends where the next one starts, within the book.
 use native.Mathlib.Omega.{arith}
+use Prim.Native.Nat.{ℕ, _+_}
+use mathlib.Core.Path.{ap}
 use denote.Ref.{now}
 use Rattle.book.proofs.Parts.{PartPlaces, located, part-is}
 use Rattle.book.proofs.layout.part_of.Statement.{statement}
@@ -38,7 +40,9 @@ part-result-end c = let p = facts (c .before .before) in omega arith
 returns : tie.Need-returns
 returns c =
     let k = c .before .before .before in
-    part-is (now (k .args .book)) (now (k .args .places)) (k .args .i) (k .pre)
+    let p = facts (k) in
+    (part-is (now (k .args .book)) (now (k .args .places)) (k .args .i) (k .pre),
+    ap (λ (x : ℕ). (k .args .book .ptr .0, x + 2 + k .args .book .ptr .1)) (p .from))
 
 pub part-of-spec : {M : Type 1} → statement M
 part-of-spec =

@@ -90,7 +90,7 @@ loop-again c =
     let items = located (now (s .args .book)) (now (s .args .places)) (l .loop .i - 1) h .items in
     listed-in (macrosIn (now (s .args .book))) (s .args .m) (well s) _ _ _ _ _ (l .loop .inv) (s .pre .1) (omega arith) _ (few s) (c .before .before .before .if1 .taken)
     (c .mark-calls .ensures
-    ∙ ap (λ (x : List ℕ). markCalls (itemsOf x) (l .loop .marks)) (c .before .before .part-of .ensures)
+    ∙ ap (λ (x : List ℕ). markCalls (itemsOf x) (l .loop .marks)) (c .before .before .part-of .ensures .0)
     ∙ ap (λ (x : List Item). markCalls x (l .loop .marks)) items)
 
 loop-less-2 : tie.Need-loop-less-2 Inv-loop μ-loop
