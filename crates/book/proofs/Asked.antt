@@ -11,10 +11,10 @@ use Rattle.refusal.specs.Number.{number}
 use Rattle.book.specs.declared.layout.Checked.{Checked}
 use Rattle.book.specs.declared.layout.Layout.{Layout}
 use Rattle.book.specs.Format.{Macro}
-use Rattle.book.specs.Place.{bodyPart, place}
+use Rattle.book.specs.Offset.{bodyPart, offset}
 use Rattle.book.specs.Reading.{Reading, got, refused, readBook, macrosIn}
 use Rattle.book.specs.Reach.{ReachList}
-use Rattle.book.specs.Answer.{Located, ReachAnswer, accepted, refusedFor, layoutFor, readMacroOf, readReach, bodyOf, bodyAt, refusalOf}
+use Rattle.book.specs.Answer.{Located, ReachAnswer, accepted, refusedFor, layoutFor, requireMacro, requireEntries, bodyOf, bodyAt, refusalOf}
 use Rattle.book.proofs.Readings.{clash}
 
 -- the answer of a layout says how the book was read
@@ -30,50 +30,50 @@ module _ (b : List ℕ) (m : ℕ) (x : Layout) (e : x ≡ layoutFor (readBook b)
   told : (layoutFor (readBook b)) .answer ≡ a
   told = ap (λ (y : Layout). y .answer) (sym e) ∙ f
 
-  pub asked-refused : (r : Refusal) → a ≡ Checked.Refused r → readMacroOf m b ≡ refused r
-  unfolding readMacroOf
+  pub asked-refused : (r : Refusal) → a ≡ Checked.Refused r → requireMacro m b ≡ refused r
+  unfolding requireMacro
   asked-refused r g = rw (answer-refused (readBook b) r (told ∙ g))
 
   module _ (k : ℕ) (g : a ≡ Checked.Sound k) where
-    pub asked-out : k ≤ m → readMacroOf m b ≡ refused NoSuchMacro
-    unfolding readMacroOf
+    pub asked-out : k ≤ m → requireMacro m b ≡ refused NoSuchMacro
+    unfolding requireMacro
     asked-out h =
         let (ms, rest, i, many) = answer-sound (readBook b) k (told ∙ g) in
         rw (i, many, le-ltb _ _ h)
 
-    pub asked-in : m < k → (rest : List ℕ) × (readBook b ≡ got (macrosIn b) rest) × (readMacroOf m b ≡ got (macrosIn b) rest)
-    unfolding readMacroOf
+    pub asked-in : m < k → (rest : List ℕ) × (readBook b ≡ got (macrosIn b) rest) × (requireMacro m b ≡ got (macrosIn b) rest)
+    unfolding requireMacro
     asked-in h = on (answer-sound (readBook b) k (told ∙ g))
       where
-        on : ((ms : List Macro) × (rest : List ℕ) × (readBook b ≡ got ms rest) × (length ms ≡ k)) → (rest : List ℕ) × (readBook b ≡ got (macrosIn b) rest) × (readMacroOf m b ≡ got (macrosIn b) rest)
+        on : ((ms : List Macro) × (rest : List ℕ) × (readBook b ≡ got ms rest) × (length ms ≡ k)) → (rest : List ℕ) × (readBook b ≡ got (macrosIn b) rest) × (requireMacro m b ≡ got (macrosIn b) rest)
         on (ms, rest, i, many) = (rest, rw i, rw (i, many, lt-ltb _ _ h))
 
-    pub asked-located : m < k → Located b (x .places) m
+    pub asked-located : m < k → Located b (x .offsets) m
     asked-located h =
         let (ms, rest, i, many) = answer-sound (readBook b) k (told ∙ g) in
-        record { table = ap (λ (y : Layout). y .places) e; inside = rw (i, many) h }
+        record { table = ap (λ (y : Layout). y .offsets) e; inside = rw (i, many) h }
 
 -- the two results of a body
 pub body-none : (b : List ℕ) (at : ℕ × ℕ) (m : ℕ) (g : Reading (List Macro)) (r : Refusal) (q : ℕ) → g ≡ refused r → q ≡ number r → ([] ≡ bodyOf b m g) × ((at ≡ bodyAt at m g) × (q ≡ refusalOf g))
 body-none b at m g r q e f = (rw e, (rw e, rw e f))
 
-pub body-some : (b : List ℕ) (at : ℕ × ℕ) (m : ℕ) (g : Reading (List Macro)) (ms : List Macro) (rest p : List ℕ) (there : ℕ × ℕ) → g ≡ got ms rest → p ≡ bodyPart b ms m → there ≡ (at .0, place ms m + 2 + at .1) → (p ≡ bodyOf b m g) × ((there ≡ bodyAt at m g) × (0 ≡ refusalOf g))
+pub body-some : (b : List ℕ) (at : ℕ × ℕ) (m : ℕ) (g : Reading (List Macro)) (ms : List Macro) (rest p : List ℕ) (there : ℕ × ℕ) → g ≡ got ms rest → p ≡ bodyPart b ms m → there ≡ (at .0, offset ms m + 2 + at .1) → (p ≡ bodyOf b m g) × ((there ≡ bodyAt at m g) × (0 ≡ refusalOf g))
 body-some b at m g ms rest p there e f h = (rw e f, (rw e h, rw e))
 
 -- the reach list: 11 comes after all that a macro is refused for
 module _ (b : List ℕ) (m k : ℕ) where
-  pub reach-refused : (r : Refusal) → readMacroOf m b ≡ refused r → readReach m k b ≡ refused r
-  unfolding readReach
+  pub reach-refused : (r : Refusal) → requireMacro m b ≡ refused r → requireEntries m k b ≡ refused r
+  unfolding requireEntries
   reach-refused r e = rw e
 
-  pub reach-short : (ms : List Macro) (rest : List ℕ) → readMacroOf m b ≡ got ms rest → k ≤ m → readReach m k b ≡ refused InsufficientSpace
-  unfolding readReach
+  pub reach-short : (ms : List Macro) (rest : List ℕ) → requireMacro m b ≡ got ms rest → k ≤ m → requireEntries m k b ≡ refused InsufficientSpace
+  unfolding requireEntries
   reach-short ms rest e h =
       let less : k < m + 1 = omega arith in
       rw (e, lt-ltb _ _ less)
 
-  pub reach-enough : (ms : List Macro) (rest : List ℕ) → readMacroOf m b ≡ got ms rest → m < k → readReach m k b ≡ got ms rest
-  unfolding readReach
+  pub reach-enough : (ms : List Macro) (rest : List ℕ) → requireMacro m b ≡ got ms rest → m < k → requireEntries m k b ≡ got ms rest
+  unfolding requireEntries
   reach-enough ms rest e h =
       let most : m + 1 ≤ k = omega arith in
       rw (e, le-ltb _ _ most)

@@ -11,12 +11,12 @@ use lib.Seq.{drop-drop, getD-drop, take-at}
 use borrow.Author.Tests.{ltb-true, ltb-false, leb-true, eqb-true, lt-ltb, le-ltb, le-leb, ne-eqb}
 use Rattle.book.specs.declared.item.Item.{Item}
 use Rattle.book.specs.declared.item.Item.the-variants.{Key, Call}
-use Rattle.book.specs.Reading.{got, itemOf, number, readItem, readItems, readMacro, readMacros, marked, readHeader, readAll, readBook}
-use Rattle.book.specs.Format.{Macro, Bytes, word, code, mark, encodeItems, encodeMacros, encode, soundItem, soundItems, soundMacro, soundMacros, wellFormed}
-use Rattle.book.specs.Place.{size, place, bodyPart}
+use Rattle.book.specs.Reading.{got, itemOf, le16, readItem, readItems, readMacro, readMacros, hasMagic, readHeader, readAll, readBook}
+use Rattle.book.specs.Format.{Macro, Bytes, le16Bytes, code, magic, encodeItems, encodeMacros, encode, soundItem, soundItems, soundMacro, soundMacros, wellFormed}
+use Rattle.book.specs.Offset.{size, offset, bodyPart}
 use Rattle.book.proofs.Readings.{more-got}
 use Rattle.book.proofs.Walks.{item-got}
-use Rattle.book.proofs.Places.{items-got, macro-parts, item-is, macro-got, whole, book-at}
+use Rattle.book.proofs.Offsets.{items-got, macro-parts, item-is, macro-got, whole, book-at}
 
 -- items that were read are sound
 items-sound : (n k : ℕ) (b rest : List ℕ) (is : List Item) → readItems n k b ≡ got is rest → soundItems n is ≡ true
@@ -31,8 +31,8 @@ macro-sound : (n : ℕ) (b rest : List ℕ) (m : Macro) → readMacro n b ≡ go
 unfolding soundMacro
 macro-sound n b rest m e =
     let (two, low, high, items) = macro-parts n b rest m e in
-    let (count, last, fits) = items-got n (number b) (drop 2 b) rest m items in
-    rw (count, le-leb _ _ low, le-leb _ _ high) (items-sound n (number b) (drop 2 b) rest m items)
+    let (count, last, fits) = items-got n (le16 b) (drop 2 b) rest m items in
+    rw (count, le-leb _ _ low, le-leb _ _ high) (items-sound n (le16 b) (drop 2 b) rest m items)
 
 -- and so are macros
 macros-sound : (n k : ℕ) (b rest : List ℕ) (ms : List Macro) → readMacros n k b ≡ got ms rest → soundMacros n ms ≡ true
@@ -53,8 +53,8 @@ read-well b ms rest e =
 bytes-drop : (k : ℕ) (b : List ℕ) → Bytes b → Bytes (drop k b)
 bytes-drop k b h i = rw getD-drop (h (k + i))
 
--- the number at the front of some bytes, written again
-word-number : (b : List ℕ) → Bytes b → 2 ≤ length b → word (number b) ++ drop 2 b ≡ b
+-- the le16 at the front of some bytes, written again
+word-number : (b : List ℕ) → Bytes b → 2 ≤ length b → le16Bytes (le16 b) ++ drop 2 b ≡ b
 word-number [] h l = absurd (omega arith)
 word-number (x ∷ []) h l = absurd (omega arith)
 word-number (x ∷ y ∷ b) h l =
@@ -64,12 +64,12 @@ word-number (x ∷ y ∷ b) h l =
     rw (low, high)
 
 -- and so inside some bytes
-word-at : (b : List ℕ) → Bytes b → (k : ℕ) → k + 2 ≤ length b → drop k b ≡ word (number (drop k b)) ++ drop (k + 2) b
+word-at : (b : List ℕ) → Bytes b → (k : ℕ) → k + 2 ≤ length b → drop k b ≡ le16Bytes (le16 (drop k b)) ++ drop (k + 2) b
 word-at b h k l =
     let two : 2 ≤ length (drop k b) = rw length-drop (omega arith) in
     rw (← drop-drop 2 k b) (sym (word-number (drop k b) (bytes-drop k b h) two))
 
--- an item's code is the number that it was read from
+-- an item's code is the le16 that it was read from
 code-item : (c : ℕ) → code (itemOf c) ≡ c
 code-item c = go (ltb c 256) refl
   where
@@ -84,16 +84,16 @@ items-encode n zero b rest is h e = let none : is ≡ [] = cc in rw none (cc)
 items-encode n (suc k) b rest is h e =
     let (i, js, mid, same, one, others) = more-got (readItem n b) (readItems n k) is rest e in
     let (there, two) = item-got n b mid i one in
-    let item : code i ≡ number b = rw (← item-is n b mid i one .0) (code-item (number b)) in
+    let item : code i ≡ le16 b = rw (← item-is n b mid i one .0) (code-item (le16 b)) in
     let byte : Bytes mid = rw there (bytes-drop 2 b h) in
     rw (same, items-encode n k mid rest js byte others, item, there) (word-number b h two)
 
 -- and so for a macro
-macro-encode : (n : ℕ) (b rest : List ℕ) (m : Macro) → Bytes b → readMacro n b ≡ got m rest → word (length m) ++ (encodeItems m ++ rest) ≡ b
+macro-encode : (n : ℕ) (b rest : List ℕ) (m : Macro) → Bytes b → readMacro n b ≡ got m rest → le16Bytes (length m) ++ (encodeItems m ++ rest) ≡ b
 macro-encode n b rest m h e =
     let (two, low, high, items) = macro-parts n b rest m e in
-    let (count, last, fits) = items-got n (number b) (drop 2 b) rest m items in
-    rw (count, items-encode n (number b) (drop 2 b) rest m (bytes-drop 2 b h) items) (word-number b h two)
+    let (count, last, fits) = items-got n (le16 b) (drop 2 b) rest m items in
+    rw (count, items-encode n (le16 b) (drop 2 b) rest m (bytes-drop 2 b h) items) (word-number b h two)
 
 -- and for macros
 macros-encode : (n k : ℕ) (b rest : List ℕ) (ms : List Macro) → Bytes b → readMacros n k b ≡ got ms rest → encodeMacros ms ++ rest ≡ b
@@ -104,8 +104,8 @@ macros-encode n (suc k) b rest ms h e =
     let byte : Bytes mid = rw (macro-got n b mid m one .0) (bytes-drop (size m) b h) in
     rw (same, append-assoc (encodeItems m) (encodeMacros ns) rest, macros-encode (suc n) k mid rest ns byte others) (macro-encode n b mid m h one)
 
--- the mark is the first three bytes
-mark-front : (b : List ℕ) → 3 ≤ length b → marked b ≡ true → b ≡ mark ++ drop 3 b
+-- the magic is the first three bytes
+mark-front : (b : List ℕ) → 3 ≤ length b → hasMagic b ≡ true → b ≡ magic ++ drop 3 b
 mark-front [] l h = absurd (omega arith)
 mark-front (x ∷ []) l h = absurd (omega arith)
 mark-front (x ∷ y ∷ []) l h = absurd (omega arith)
@@ -120,10 +120,10 @@ unfolding encode
 read-encode b h ms rest e =
     let w = whole b ms rest e in
     let long : 7 ≤ length b = w .long in
-    let version : drop 3 b ≡ word 1 ++ drop 5 b = rw (w .version) at (word-at b h 3 (omega arith)) in
-    let count : drop 5 b ≡ word (length ms) ++ drop 7 b = rw (w .count) at (word-at b h 5 (omega arith)) in
+    let version : drop 3 b ≡ le16Bytes 1 ++ drop 5 b = rw (w .version) at (word-at b h 3 (omega arith)) in
+    let count : drop 5 b ≡ le16Bytes (length ms) ++ drop 7 b = rw (w .count) at (word-at b h 5 (omega arith)) in
     let all : encodeMacros ms ++ [] ≡ drop 7 b = macros-encode 0 (length ms) (drop 7 b) [] ms (bytes-drop 7 b h) (w .macros) in
-    mark-front b (omega arith) (w .mark) ∙ rw (version, count, ← all, append-nil)
+    mark-front b (omega arith) (w .magic) ∙ rw (version, count, ← all, append-nil)
 
 -- a count that was tested, and what was tested with it
 between : (k n : ℕ) (c : Bool) → leb 1 k && (leb k n && c) ≡ true → (1 ≤ k) × (k ≤ n) × (c ≡ true)
@@ -137,16 +137,16 @@ number-word : (c : ℕ) → c % 256 + 256 * (c / 256) ≡ c
 number-word c = omega arith
 
 -- an item that was written is read again
-item-read : (n : ℕ) (i : Item) (rest : List ℕ) → soundItem n i ≡ true → readItem n (word (code i) ++ rest) ≡ got i rest
+item-read : (n : ℕ) (i : Item) (rest : List ℕ) → soundItem n i ≡ true → readItem n (le16Bytes (code i) ++ rest) ≡ got i rest
 unfolding soundItem readItem
 item-read n (Key k) rest h =
-    let long : 2 ≤ length (word k ++ rest) = omega arith in
+    let long : 2 ≤ length (le16Bytes k ++ rest) = omega arith in
     let (low, high) = and-eq-true-iff (leb 1 k) (leb k 255) .0 h in
     let some : k ≡ 0 → ⊥ = omega (arith, leb-true 1 k low) in
     let small : k < 256 = omega (arith, leb-true k 255 high) in
     rw (le-ltb _ _ long, number-word k, lt-ltb _ _ small, ne-eqb _ _ some)
 item-read n (Call j) rest h =
-    let long : 2 ≤ length (word (256 + j) ++ rest) = omega arith in
+    let long : 2 ≤ length (le16Bytes (256 + j) ++ rest) = omega arith in
     let large : 256 ≤ 256 + j = omega arith in
     let less : 256 + j - 256 ≡ j = omega arith in
     rw (le-ltb _ _ long, number-word (256 + j), le-ltb _ _ large, less, h)
@@ -160,11 +160,11 @@ items-read n (i ∷ is) rest h =
     rw (item-read n i (encodeItems is ++ rest) one, items-read n is rest others)
 
 -- and a macro
-macro-read : (n : ℕ) (m : Macro) (rest : List ℕ) → soundMacro n m ≡ true → readMacro n (word (length m) ++ (encodeItems m ++ rest)) ≡ got m rest
+macro-read : (n : ℕ) (m : Macro) (rest : List ℕ) → soundMacro n m ≡ true → readMacro n (le16Bytes (length m) ++ (encodeItems m ++ rest)) ≡ got m rest
 unfolding soundMacro readMacro
 macro-read n m rest h =
     let (low, high, items) = between (length m) 64 (soundItems n m) h in
-    let long : 2 ≤ length (word (length m) ++ (encodeItems m ++ rest)) = omega arith in
+    let long : 2 ≤ length (le16Bytes (length m) ++ (encodeItems m ++ rest)) = omega arith in
     rw (le-ltb _ _ long, number-word (length m), le-leb _ _ low, le-leb _ _ high) (items-read n m rest items)
 
 -- and macros
@@ -197,15 +197,15 @@ bytes-more : (x : ℕ) (b : List ℕ) → x < 256 → Bytes b → Bytes (x ∷ b
 bytes-more x b l h zero = l
 bytes-more x b l h (suc i) = h i
 
--- and so are a number below 65,536 and some bytes
-bytes-word : (n : ℕ) (b : List ℕ) → n < 65536 → Bytes b → Bytes (word n ++ b)
+-- and so are a le16 below 65,536 and some bytes
+bytes-word : (n : ℕ) (b : List ℕ) → n < 65536 → Bytes b → Bytes (le16Bytes n ++ b)
 bytes-word n b l h = bytes-more (n % 256) (n / 256 ∷ b) (omega arith) (bytes-more (n / 256) b (omega arith) h)
 
--- and the mark and some bytes
-bytes-mark : (b : List ℕ) → Bytes b → Bytes (mark ++ b)
+-- and the magic and some bytes
+bytes-mark : (b : List ℕ) → Bytes b → Bytes (magic ++ b)
 bytes-mark b h = bytes-more 0x4D (0x42 ∷ 0x4B ∷ b) (omega arith) (bytes-more 0x42 (0x4B ∷ b) (omega arith) (bytes-more 0x4B b (omega arith) h))
 
--- the code of a sound item is below 65,536, as a macro has a number of at most 1,024
+-- the code of a sound item is below 65,536, as a macro has a le16 of at most 1,024
 code-small : (n : ℕ) (i : Item) → n ≤ 1024 → soundItem n i ≡ true → code i < 65536
 unfolding soundItem
 code-small n (Key k) l h = omega (arith, leb-true k 255 (and-eq-true-iff (leb 1 k) (leb k 255) .0 h .1))
@@ -235,8 +235,8 @@ unfolding wellFormed encode
 encode-bytes ms h =
     let (low, high, all) = between (length ms) 1024 (soundMacros 0 ms) h in
     let all-bytes : Bytes (encodeMacros ms) = macros-bytes 0 ms (omega arith) all in
-    let counted : List ℕ = word (length ms) ++ encodeMacros ms in
-    bytes-mark (word 1 ++ counted) (bytes-word 1 counted (omega arith) (bytes-word (length ms) (encodeMacros ms) (omega arith) all-bytes))
+    let counted : List ℕ = le16Bytes (length ms) ++ encodeMacros ms in
+    bytes-mark (le16Bytes 1 ++ counted) (bytes-word 1 counted (omega arith) (bytes-word (length ms) (encodeMacros ms) (omega arith) all-bytes))
 
 -- an item is written as two bytes
 length-items : (is : List Item) → length (encodeItems is) ≡ 2 * length is
@@ -248,6 +248,6 @@ length-items (i ∷ is) = let h : length (encodeItems is) ≡ 2 * length is = le
 pub body-encoded : (b : List ℕ) → Bytes b → (ms : List Macro) (rest : List ℕ) → readBook b ≡ got ms rest → (i : ℕ) → i < length ms → bodyPart b ms i ≡ encodeItems (getD ms i [])
 body-encoded b h ms rest e i l =
     let m : Macro = getD ms i [] in
-    let after : List ℕ = drop (place ms (i + 1)) b in
-    let same = macro-encode i (drop (place ms i) b) after m (bytes-drop (place ms i) b h) (book-at b ms rest e i l) in
-    rw (← drop-drop 2 (place ms i) b, ← same) (take-at (encodeItems m) after (2 * length m) (length-items m))
+    let after : List ℕ = drop (offset ms (i + 1)) b in
+    let same = macro-encode i (drop (offset ms i) b) after m (bytes-drop (offset ms i) b h) (book-at b ms rest e i l) in
+    rw (← drop-drop 2 (offset ms i) b, ← same) (take-at (encodeItems m) after (2 * length m) (length-items m))

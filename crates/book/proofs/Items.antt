@@ -1,4 +1,4 @@
--- The item at a place of some bytes.
+-- The item at a offset of some bytes.
 use Prim.Native.Nat.{ℕ, suc, _+_, _-_, _*_, _<_, _≤_}
 use native.Mathlib.Omega.{arith}
 use mathlib.Core.Path.{_≡_, refl, sym, _∙_}
@@ -12,7 +12,7 @@ use Rattle.book.specs.declared.item.Item.{Item}
 use Rattle.book.specs.declared.item.Item.the-variants.{Key, Call}
 use Rattle.book.specs.declared.item.ItemRead.{ItemRead}
 use Rattle.book.specs.declared.item.ItemRead.the-variants.{Found, Short}
-use Rattle.book.specs.Reading.{itemAt, itemOf, itemsOf, number}
+use Rattle.book.specs.Reading.{itemAt, itemOf, itemsOf, le16}
 use Rattle.book.proofs.Readings.{clash}
 
 -- an item that was found has its two bytes
@@ -24,8 +24,8 @@ found-long b i e = go (ltb (length b) 2) refl
     go false h = ltb-false _ _ h
 
 module _ (s : List ℕ) (at : ℕ) where
-  pub number-bytes : getD s at 0 + 256 * getD s (at + 1) 0 ≡ number (drop at s)
-  number-bytes =
+  pub le16-of-bytes : getD s at 0 + 256 * getD s (at + 1) 0 ≡ le16 (drop at s)
+  le16-of-bytes =
       let e : at ≡ at + 0 = omega arith in
       rw (getD-drop at s 0 0, getD-drop at s 1 0, ← e)
 
@@ -34,7 +34,7 @@ module _ (s : List ℕ) (at : ℕ) where
       let f : length s - at < 2 = omega arith in
       simp (length-drop, lt-ltb _ _ f)
 
-  pub item-found : at + 2 ≤ length s → Found (itemOf (number (drop at s))) ≡ itemAt (drop at s)
+  pub item-found : at + 2 ≤ length s → Found (itemOf (le16 (drop at s))) ≡ itemAt (drop at s)
   item-found h =
       let f : 2 ≤ length s - at = omega arith in
       simp (length-drop, le-ltb _ _ f)
@@ -46,8 +46,8 @@ item-key k h = simp (lt-ltb _ _ h)
 pub item-call : (k : ℕ) → 256 ≤ k → Call (k - 256) ≡ itemOf k
 item-call k h = simp (le-ltb _ _ h)
 
--- the items from a place on: the one there and those after it, or none
-items-of-long : (b : List ℕ) → 2 ≤ length b → itemsOf b ≡ itemOf (number b) ∷ itemsOf (drop 2 b)
+-- the items from a offset on: the one there and those after it, or none
+items-of-long : (b : List ℕ) → 2 ≤ length b → itemsOf b ≡ itemOf (le16 b) ∷ itemsOf (drop 2 b)
 unfolding itemsOf
 items-of-long [] h = absurd (none h)
   where
@@ -79,8 +79,8 @@ module _ (s : List ℕ) (at : ℕ) (r : ItemRead) (e : r ≡ itemAt (drop at s))
   pub items-on-found : (i : Item) → r ≡ Found i → itemsOf (drop at s) ≡ i ∷ itemsOf (drop (at + 2) s)
   items-on-found i f =
       let long : 2 ≤ length (drop at s) = found-long (drop at s) i (sym e ∙ f) in
-      let first : Found (itemOf (number (drop at s))) ≡ Found i = simp (le-ltb _ _ long) at (sym e ∙ f) in
-      let same : itemOf (number (drop at s)) ≡ i = cc in
+      let first : Found (itemOf (le16 (drop at s))) ≡ Found i = simp (le-ltb _ _ long) at (sym e ∙ f) in
+      let same : itemOf (le16 (drop at s)) ≡ i = cc in
       items-of-long (drop at s) long ∙ rw (same, drop-drop)
 
   pub items-on-short : r ≡ Short → itemsOf (drop at s) ≡ []

@@ -14,11 +14,11 @@ use Rattle.book.specs.declared.layout.Header.{Header}
 use Rattle.book.specs.declared.layout.Layout.{Layout}
 use Rattle.book.specs.declared.layout.Walk.{Walk}
 use Rattle.book.specs.Format.{Macro}
-use Rattle.book.specs.Place.{size, starts}
+use Rattle.book.specs.Offset.{size, starts}
 use Rattle.book.specs.Reading.{Reading, got, refused, next, done, readHeader, readMacro, readMacros, readAll, readBook}
-use Rattle.book.specs.Answer.{walked, headed, layoutFor, checkFigures, checkedFigures}
+use Rattle.book.specs.Answer.{walkOf, headerOf, layoutFor, checkResult, checkedFigures}
 use Rattle.book.proofs.Header.{header-got, headed-macros, headed-refused}
-use Rattle.book.proofs.Places.{macro-got, starts-length, starts-more}
+use Rattle.book.proofs.Offsets.{macro-got, starts-length, starts-more}
 use Rattle.book.proofs.Walks.{walked-refused, walked-at}
 
 -- macros that were read before those of a reading
@@ -39,22 +39,22 @@ macros-step : (n k : ℕ) (b rest : List ℕ) (m : Macro) → readMacro n b ≡ 
 unfolding readMacros
 macros-step n k b rest m e = rw e
 
--- n of `count` macros were read, the last one ends at `at`, and `places` has their places
-pub record Laid (s : List ℕ) (count : ℕ) (places : List ℕ) (at n : ℕ) : Type 0 where
+-- n of `count` macros were read, the last one ends at `at`, and `offsets` has their offsets
+pub record Laid (s : List ℕ) (count : ℕ) (offsets : List ℕ) (at n : ℕ) : Type 0 where
   pub macros : List Macro
   pub many : length macros ≡ n
   pub here : getD (starts 7 macros) n 0 ≡ at
-  pub table : places ≡ starts 7 macros ++ replicate (1024 - n) 0
+  pub table : offsets ≡ starts 7 macros ++ replicate (1024 - n) 0
   pub reading : readMacros 0 count (drop 7 s) ≡ prepend macros (readMacros n (count - n) (drop at s))
 
 module _ (s : List ℕ) (count : ℕ) where
-  pub laid-none : (places : List ℕ) → places ≡ 7 ∷ replicate 1024 0 → Laid s count places 7 0
+  pub laid-none : (offsets : List ℕ) → offsets ≡ 7 ∷ replicate 1024 0 → Laid s count offsets 7 0
   unfolding starts
-  laid-none places e =
+  laid-none offsets e =
       let all : count ≡ count - 0 = omega arith in
       record { macros = []; many = refl; here = refl; table = e; reading = prepend-none _ ∙ ap (λ (k : ℕ). prepend [] (readMacros 0 k (drop 7 s))) all }
 
-  module _ (places : List ℕ) (at n : ℕ) (l : Laid s count places at n) (w : Walk) (h : n < count) (e : w ≡ walked (length s) (readMacro n (drop at s))) where
+  module _ (offsets : List ℕ) (at n : ℕ) (l : Laid s count offsets at n) (w : Walk) (h : n < count) (e : w ≡ walkOf (length s) (readMacro n (drop at s))) where
     less : count - n ≡ suc (count - (n + 1))
     less = omega arith
 
@@ -64,18 +64,18 @@ module _ (s : List ℕ) (count : ℕ) where
         let stop : readMacro n (drop at s) ≡ refused r = walked-refused (length s) (readMacro n (drop at s)) r (sym e ∙ f) in
         g ∙ rw (l .reading, less, stop)
 
-    pub laid-more : (p : ℕ) → at ≤ length s → count ≤ 1024 → w ≡ Walk.At p → (p ≤ length s) × Laid s count (set places (n + 1) p) p (n + 1)
+    pub laid-more : (p : ℕ) → at ≤ length s → count ≤ 1024 → w ≡ Walk.At p → (p ≤ length s) × Laid s count (set offsets (n + 1) p) p (n + 1)
     laid-more p in-s few f = on (walked-at (length s) (readMacro n (drop at s)) p (sym e ∙ f))
       where
-        on : ((m : Macro) × (rest : List ℕ) × (readMacro n (drop at s) ≡ got m rest) × (p ≡ length s - length rest)) → (p ≤ length s) × Laid s count (set places (n + 1) p) p (n + 1)
+        on : ((m : Macro) × (rest : List ℕ) × (readMacro n (drop at s) ≡ got m rest) × (p ≡ length s - length rest)) → (p ≤ length s) × Laid s count (set offsets (n + 1) p) p (n + 1)
         on (m, rest, g, q) =
             let (same, long, small) = macro-got n (drop at s) rest m g in
             let fits : size m ≤ length s - at = rw length-drop at long in
             let left : length rest ≡ length s - at - size m = rw (same, length-drop, length-drop) in
-            let place : p ≡ at + size m = omega arith in
-            let there : rest ≡ drop p s = rw (same, place, drop-drop (size m) at s) in
+            let offset : p ≡ at + size m = omega arith in
+            let there : rest ≡ drop p s = rw (same, offset, drop-drop (size m) at s) in
             let more : starts 7 (l .macros ++ (m ∷ [])) ≡ starts 7 (l .macros) ++ (p ∷ []) =
-            rw (place, ← (l .here), ← (l .many)) (starts-more 7 (l .macros) m) in
+            rw (offset, ← (l .here), ← (l .many)) (starts-more 7 (l .macros) m) in
             let wide : length (starts 7 (l .macros)) ≡ n + 1 = rw (← (l .many)) (starts-length 7 (l .macros)) in
             let room : 1024 - n ≡ suc (1024 - (n + 1)) = omega arith in (
               omega arith,
@@ -88,7 +88,7 @@ module _ (s : List ℕ) (count : ℕ) where
               },
             )
 
-  module _ (places : List ℕ) (at n : ℕ) (l : Laid s count places at n) (h : count ≤ n) (k : n ≤ count) where
+  module _ (offsets : List ℕ) (at n : ℕ) (l : Laid s count offsets at n) (h : count ≤ n) (k : n ≤ count) where
     all : readMacros 0 count (drop 7 s) ≡ got (l .macros) (drop at s)
     unfolding readMacros prepend
     all =
@@ -101,7 +101,7 @@ module _ (s : List ℕ) (count : ℕ) where
         let some : length (drop at s) ≡ 0 → ⊥ = rw length-drop (omega arith) in
         f ∙ rw (all, ne-eqb _ _ some)
 
-    pub laid-end : (x : Layout) → length s ≤ at → x ≡ record { answer = Checked.Sound count; places = places } → x ≡ layoutFor (readAll count (drop 7 s))
+    pub laid-end : (x : Layout) → length s ≤ at → x ≡ record { answer = Checked.Sound count; offsets = offsets } → x ≡ layoutFor (readAll count (drop 7 s))
     unfolding readAll
     laid-end x i f =
         let none : length (drop at s) ≡ 0 = rw length-drop (omega arith) in
@@ -110,7 +110,7 @@ module _ (s : List ℕ) (count : ℕ) where
         f ∙ rw (all, eq-eqb _ _ none, same, l .table, exact)
 
 -- the whole book, after its header
-module _ (s : List ℕ) (g : Header) (e : g ≡ headed (readHeader s)) where
+module _ (s : List ℕ) (g : Header) (e : g ≡ headerOf (readHeader s)) where
   pub header-fits : (k : ℕ) → g ≡ Header.Macros k → (7 ≤ length s) × (k ≤ 1024)
   header-fits k f =
       let (rest, h) = headed-macros (readHeader s) k (sym e ∙ f) in
@@ -128,6 +128,6 @@ module _ (s : List ℕ) (g : Header) (e : g ≡ headed (readHeader s)) where
   whole-refused x r f i = i ∙ rw (headed-refused (readHeader s) r (sym e ∙ f))
 
 -- the figures of a layout's answer
-pub layout-figures : (g : Reading (List Macro)) (x : Layout) → x ≡ layoutFor g → checkedFigures (x .answer) ≡ checkFigures g
+pub layout-figures : (g : Reading (List Macro)) (x : Layout) → x ≡ layoutFor g → checkedFigures (x .answer) ≡ checkResult g
 layout-figures (got ms rest) x e = rw e
 layout-figures (refused r) x e = rw e

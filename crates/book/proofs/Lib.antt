@@ -3,11 +3,11 @@ pub mod Readings
 pub mod Items
 pub mod Walks
 pub mod Header
-pub mod Places
+pub mod Offsets
 pub mod Coding
 pub mod Layouts
 pub mod Parts
-pub mod Run
+pub mod Expansion
 pub mod Reach
 pub mod Marks
 pub mod Listing

@@ -159,9 +159,9 @@ module _ (ms : List Macro) (m : ℕ) where
           let f : n ≤ m + 1 - i = few-listed in
           reach-listed ms well m before list n (rw all at (l .count)) (rw all at (l .front)) (omega arith)
 
--- a sound book's macros are well formed, and its places serve every macro up to m
-pub located-well : (b places : List ℕ) (i : ℕ) → Located b places i → wellFormed (macrosIn b) ≡ true
-located-well b places i l = go (readBook b) refl
+-- a sound book's macros are well formed, and its offsets serve every macro up to m
+pub located-well : (b offsets : List ℕ) (i : ℕ) → Located b offsets i → wellFormed (macrosIn b) ≡ true
+located-well b offsets i l = go (readBook b) refl
   where
     never : i < 0 → ⊥
     never h = omega arith
@@ -170,5 +170,5 @@ located-well b places i l = go (readBook b) refl
     go (got ms rest) e = rw e (read-well b ms rest e)
     go (refused r) e = absurd (never (rw e at (l .inside)))
 
-pub located-lower : (b places : List ℕ) (m i : ℕ) → Located b places m → i ≤ m → Located b places i
-located-lower b places m i l h = record { table = l .table; inside = omega (arith, l .inside) }
+pub located-lower : (b offsets : List ℕ) (m i : ℕ) → Located b offsets m → i ≤ m → Located b offsets i
+located-lower b offsets m i l h = record { table = l .table; inside = omega (arith, l .inside) }

@@ -5,34 +5,34 @@ use mathlib.Core.Path.{_≡_, refl, sym, ap, _∙_}
 use mathlib.Core.List.{List, [], _++_}
 use lib.ListN.{length, getD, take, drop, replicate, List·getD-append}
 use Rattle.book.specs.Format.{Macro}
-use Rattle.book.specs.Place.{size, starts, place, bodyPart}
+use Rattle.book.specs.Offset.{size, starts, offset, bodyPart}
 use Rattle.book.specs.Reading.{Reading, got, refused, readBook, macrosIn, itemsOf}
 use Rattle.book.specs.Answer.{Located}
-use Rattle.book.proofs.Places.{starts-length, book-places, book-body, book-end}
+use Rattle.book.proofs.Offsets.{starts-length, book-offsets, book-body, book-end}
 
--- what the places say of macro i of a book
-pub record PartPlaces (b places : List ℕ) (i : ℕ) : Type 0 where
+-- what the offsets say of macro i of a book
+pub record PartOffsets (b offsets : List ℕ) (i : ℕ) : Type 0 where
   pub few : i < 1024
-  pub from : getD places i 0 ≡ place (macrosIn b) i
-  pub to : getD places (i + 1) 0 ≡ getD places i 0 + size (getD (macrosIn b) i [])
-  pub fits : getD places (i + 1) 0 ≤ length b
+  pub from : getD offsets i 0 ≡ offset (macrosIn b) i
+  pub to : getD offsets (i + 1) 0 ≡ getD offsets i 0 + size (getD (macrosIn b) i [])
+  pub fits : getD offsets (i + 1) 0 ≤ length b
   pub items : itemsOf (bodyPart b (macrosIn b) i) ≡ getD (macrosIn b) i []
 
-pub located : (b places : List ℕ) (i : ℕ) → Located b places i → PartPlaces b places i
-located b places i l = go (readBook b) refl
+pub located : (b offsets : List ℕ) (i : ℕ) → Located b offsets i → PartOffsets b offsets i
+located b offsets i l = go (readBook b) refl
   where
-    go : (g : Reading (List Macro)) → readBook b ≡ g → PartPlaces b places i
+    go : (g : Reading (List Macro)) → readBook b ≡ g → PartOffsets b offsets i
     go (refused r) e = let none : i < 0 = rw e at (l .inside) in absurd (never none)
       where
         never : i < 0 → ⊥
         never h = omega arith
     go (got ms rest) e =
         let inside : i < length ms = rw e at (l .inside) in
-        let table : places ≡ starts 7 ms ++ replicate (1024 - length ms) 0 = rw e at (l .table) in
+        let table : offsets ≡ starts 7 ms ++ replicate (1024 - length ms) 0 = rw e at (l .table) in
         let (end, none, some, most) = book-end b ms rest e in
-        let (step, fits) = book-places b ms rest e i inside in
-        let here : getD places i 0 ≡ place ms i = rw table (List·getD-append (starts 7 ms) _ 0 i (rw starts-length (omega arith))) in
-        let there : getD places (i + 1) 0 ≡ place ms (i + 1) = rw table (List·getD-append (starts 7 ms) _ 0 (i + 1) (rw starts-length (omega arith))) in
+        let (step, fits) = book-offsets b ms rest e i inside in
+        let here : getD offsets i 0 ≡ offset ms i = rw table (List·getD-append (starts 7 ms) _ 0 i (rw starts-length (omega arith))) in
+        let there : getD offsets (i + 1) 0 ≡ offset ms (i + 1) = rw table (List·getD-append (starts 7 ms) _ 0 (i + 1) (rw starts-length (omega arith))) in
         record {
           few = omega arith;
           from = rw e here;
@@ -42,8 +42,8 @@ located b places i l = go (readBook b) refl
         }
 
 -- the bytes from the end of macro i's item count to its end
-pub part-is : (b places : List ℕ) (i : ℕ) → Located b places i → take (getD places (i + 1) 0 - (getD places i 0 + 2)) (drop (getD places i 0 + 2) b) ≡ bodyPart b (macrosIn b) i
-part-is b places i l =
-    let p = located b places i l in
-    let size : getD places (i + 1) 0 - (getD places i 0 + 2) ≡ 2 * length (getD (macrosIn b) i []) = omega arith in
+pub part-is : (b offsets : List ℕ) (i : ℕ) → Located b offsets i → take (getD offsets (i + 1) 0 - (getD offsets i 0 + 2)) (drop (getD offsets i 0 + 2) b) ≡ bodyPart b (macrosIn b) i
+part-is b offsets i l =
+    let p = located b offsets i l in
+    let size : getD offsets (i + 1) 0 - (getD offsets i 0 + 2) ≡ 2 * length (getD (macrosIn b) i []) = omega arith in
     rw (size, p .from)

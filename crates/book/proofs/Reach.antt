@@ -13,11 +13,11 @@ use lib.Seq.{getD-append-seam, drop-at}
 use borrow.Author.Tests.{eqb-true, eq-eqb}
 use Rattle.book.specs.declared.item.Item.the-variants.{Key, Call}
 use Rattle.book.specs.Format.{Macro, wellFormed}
-use Rattle.book.specs.Run.{written, runTo, run}
+use Rattle.book.specs.Expansion.{expand, expandTo, expansion}
 use Rattle.book.specs.Reach.{Calls, Reaches, Alike, anyCall, reachesTo, reaches, countBelow, reachCount, ReachList}
 use Rattle.book.specs.Reach.Reaches.{itself, through}
-use Rattle.book.proofs.Run.{written-same}
-pub use Rattle.book.proofs.Run.{calls-lower}
+use Rattle.book.proofs.Expansion.{expand-same}
+pub use Rattle.book.proofs.Expansion.{calls-lower}
 
 module _ {ms : List Macro} where
   -- what a reached macro reaches is reached
@@ -98,17 +98,17 @@ module _ (ms : List Macro) (well : wellFormed ms ≡ true) where
   reaches-complete {m} r = reachesTo-complete r (suc m) (omega arith)
 
 -- down to any depth, a macro runs the same in two books that are alike in each macro that it reaches
-runTo-alike : (ms ns : List Macro) (d m : ℕ) → ((j : ℕ) → Reaches ms m j → Alike ms ns j) → runTo d ms m ≡ runTo d ns m
-unfolding runTo
-runTo-alike ms ns zero m e = refl
-runTo-alike ms ns (suc d) m e =
-    written-same (λ j. runTo d ms j) (λ j. runTo d ns j) (getD ms m []) (λ j c. runTo-alike ms ns d j (λ k r. e k (through c r)))
-    ∙ ap (written (λ j. runTo d ns j)) (e m itself .same)
+expandTo-alike : (ms ns : List Macro) (d m : ℕ) → ((j : ℕ) → Reaches ms m j → Alike ms ns j) → expandTo d ms m ≡ expandTo d ns m
+unfolding expandTo
+expandTo-alike ms ns zero m e = refl
+expandTo-alike ms ns (suc d) m e =
+    expand-same (λ j. expandTo d ms j) (λ j. expandTo d ns j) (getD ms m []) (λ j c. expandTo-alike ms ns d j (λ k r. e k (through c r)))
+    ∙ ap (expand (λ j. expandTo d ns j)) (e m itself .same)
 
--- so its whole run is the same
-pub run-alike : (ms ns : List Macro) (m : ℕ) → ((j : ℕ) → Reaches ms m j → Alike ms ns j) → run ms m ≡ run ns m
-unfolding run
-run-alike ms ns m e = runTo-alike ms ns (suc m) m e
+-- so its whole expansion is the same
+pub expansion-alike : (ms ns : List Macro) (m : ℕ) → ((j : ℕ) → Reaches ms m j → Alike ms ns j) → expansion ms m ≡ expansion ns m
+unfolding expansion
+expansion-alike ms ns m e = expandTo-alike ms ns (suc m) m e
 
 -- the numbers that have p among the k highest of m, m - 1, .., 0, in that order
 unfoldable pub down : (ℕ → Bool) → ℕ → ℕ → List ℕ
@@ -128,7 +128,7 @@ module _ (p : ℕ → Bool) (m : ℕ) where
   unfolding down
   down-none = refl
 
-  -- one number more is put at the end if it has p
+  -- one le16 more is put at the end if it has p
   pub down-in : (k : ℕ) → p (m - k) ≡ true → down p m (k + 1) ≡ down p m k ++ ((m - k) ∷ [])
   unfolding down
   down-in k e = rw (add-one, down, e)
@@ -138,7 +138,7 @@ module _ (p : ℕ → Bool) (m : ℕ) where
   unfolding down
   down-out k e = rw (add-one, down, e) (append-nil (down p m k))
 
-  -- so what holds of both lists holds with one number more
+  -- so what holds of both lists holds with one le16 more
   down-case : (Q : List ℕ → Type 0) (k : ℕ) → (p (m - k) ≡ true → Q (down p m k ++ ((m - k) ∷ []))) → (p (m - k) ≡ false → Q (down p m k)) → Q (down p m (suc k))
   down-case Q k f g = go (p (m - k)) refl
     where
@@ -174,7 +174,7 @@ module _ (p : ℕ → Bool) (m : ℕ) where
       (λ e. simp length-append (omega (arith, down-short k)))
       (λ e. omega (arith, down-short k))
 
-  -- each listed number has p, and is one of the k highest
+  -- each listed le16 has p, and is one of the k highest
   pub down-only : (k e : ℕ) → k ≤ m + 1 → e < length (down p m k) → (p (getD (down p m k) e 0) ≡ true) × (m < getD (down p m k) e 0 + k) × (getD (down p m k) e 0 ≤ m)
   unfolding down
   down-only zero e h l = absurd (omega arith)
@@ -220,7 +220,7 @@ module _ (p : ℕ → Bool) (m : ℕ) where
       let g : ¬ (e < d) = λ l. omega (arith, down-falls k e d h l a) in
       omega arith
 
--- the numbers that m reaches, written from m down over the front of a list, are the reach list of m
+-- the numbers that m reaches, expand from m down over the front of a list, are the reach list of m
 pub reach-listed : (ms : List Macro) → wellFormed ms ≡ true → (m : ℕ) (before after : List ℕ) (n : ℕ) → n ≡ length (down (λ j. reaches ms m j) m (m + 1)) → after ≡ down (λ j. reaches ms m j) m (m + 1) ++ drop n before → n ≤ length before → ReachList ms m n before after
 unfolding reachCount
 reach-listed ms well m before after n long made room =

@@ -14,7 +14,7 @@ use Rattle.book.specs.declared.layout.Layout.{Layout}
 use Rattle.book.specs.declared.layout.Walk.{Walk}
 use Rattle.book.specs.declared.reachable.Reached.{Reached}
 use Rattle.book.specs.Format.{Macro}
-use Rattle.book.specs.Place.{starts, bodyPart, place}
+use Rattle.book.specs.Offset.{starts, bodyPart, offset}
 use Rattle.book.specs.Reach.{ReachList}
 use Rattle.book.specs.Reading.{Reading, Reader, got, refused, _>>=_, readBook, macrosIn}
 
@@ -34,23 +34,23 @@ abbrev pub checkedFigures : Checked → Figures
 checkedFigures (Checked.Sound n) = accepted n
 checkedFigures (Checked.Refused r) = refusedFor r
 
-abbrev pub checkFigures : Reading (List Macro) → Figures
-checkFigures (got ms rest) = accepted (length ms)
-checkFigures (refused r) = refusedFor r
+abbrev pub checkResult : Reading (List Macro) → Figures
+checkResult (got ms rest) = accepted (length ms)
+checkResult (refused r) = refusedFor r
 
--- a book's layout: its macro count and where its macros stand; zeros in the places that are left over, or where it is refused
+-- a book's layout: its macro count and where its macros stand; zeros in the offsets that are left over, or where it is refused
 abbrev pub layoutFor : Reading (List Macro) → Layout
-layoutFor (got ms rest) = record { answer = Checked.Sound (length ms); places = starts 7 ms ++ replicate (1024 - length ms) 0 }
-layoutFor (refused r) = record { answer = Checked.Refused r; places = replicate 1025 0 }
+layoutFor (got ms rest) = record { answer = Checked.Sound (length ms); offsets = starts 7 ms ++ replicate (1024 - length ms) 0 }
+layoutFor (refused r) = record { answer = Checked.Refused r; offsets = replicate 1025 0 }
 
--- the places of a book's layout, and a macro of the book
-pub record Located (b places : List ℕ) (i : ℕ) : Type 0 where
-  pub table : places ≡ (layoutFor (readBook b)) .places
+-- the offsets of a book's layout, and a macro of the book
+pub record Located (b offsets : List ℕ) (i : ℕ) : Type 0 where
+  pub table : offsets ≡ (layoutFor (readBook b)) .offsets
   pub inside : i < length (macrosIn b)
 
 -- 10 after 1 to 6: "m not below M"
-unfoldable pub readMacroOf : ℕ → Reader (List Macro)
-readMacroOf m = do
+unfoldable pub requireMacro : ℕ → Reader (List Macro)
+requireMacro m = do
   ms ← readBook
   λ rest. cond (ltb m (length ms)) (got ms rest) (refused NoSuchMacro)
 
@@ -61,7 +61,7 @@ bodyOf b m (refused r) = []
 
 -- where the body of macro m stands, in a book that stands at p
 abbrev pub bodyAt : ℕ × ℕ → ℕ → Reading (List Macro) → ℕ × ℕ
-bodyAt p m (got ms rest) = (p .0, place ms m + 2 + p .1)
+bodyAt p m (got ms rest) = (p .0, offset ms m + 2 + p .1)
 bodyAt p m (refused r) = p
 
 -- "its refusal stands in a lent number (0 if accepted)"
@@ -70,9 +70,9 @@ refusalOf (got a rest) = 0
 refusalOf (refused r) = Number.number r
 
 -- 11 after 10: "fewer .. entries than stated", which is m + 1
-unfoldable pub readReach : ℕ → ℕ → Reader (List Macro)
-readReach m entries = do
-  ms ← readMacroOf m
+unfoldable pub requireEntries : ℕ → ℕ → Reader (List Macro)
+requireEntries m entries = do
+  ms ← requireMacro m
   λ rest. cond (ltb entries (m + 1)) (refused InsufficientSpace) (got ms rest)
 
 -- the reach list of macro m: the figures of the answer, and the lent list before and after; a refusal leaves it "unchanged"
@@ -85,10 +85,10 @@ reachedFigures (Reached.Written n) = accepted n
 reachedFigures (Reached.Refused r) = refusedFor r
 
 -- where reading goes on in a book of n bytes
-abbrev pub walked : {A : Type 0} → ℕ → Reading A → Walk
-walked n (got a rest) = Walk.At (n - length rest)
-walked n (refused r) = Walk.Refused r
+abbrev pub walkOf : {A : Type 0} → ℕ → Reading A → Walk
+walkOf n (got a rest) = Walk.At (n - length rest)
+walkOf n (refused r) = Walk.Refused r
 
-abbrev pub headed : Reading ℕ → Header
-headed (got k rest) = Header.Macros k
-headed (refused r) = Header.Refused r
+abbrev pub headerOf : Reading ℕ → Header
+headerOf (got k rest) = Header.Macros k
+headerOf (refused r) = Header.Refused r

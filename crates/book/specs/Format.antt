@@ -11,13 +11,13 @@ use Rattle.book.specs.declared.item.Item.the-variants.{Key, Call}
 abbrev pub Macro : Type 0
 Macro = List Item
 
--- every number of the list is a byte
+-- every le16 of the list is a byte
 abbrev pub Bytes : List ℕ → Type 0
 Bytes b = (i : ℕ) → getD b i 0 < 256
 
 -- "two-byte numbers have the low byte first"
-abbrev pub word : ℕ → List ℕ
-word n = n % 256 ∷ n / 256 ∷ []
+abbrev pub le16Bytes : ℕ → List ℕ
+le16Bytes n = n % 256 ∷ n / 256 ∷ []
 
 -- "An item from 1 to 255 is a key. An item 256 + j calls macro j"
 abbrev pub code : Item → ℕ
@@ -27,22 +27,22 @@ code (Call j) = 256 + j
 -- "that many two-byte items"
 unfoldable pub encodeItems : List Item → List ℕ
 encodeItems [] = []
-encodeItems (i ∷ is) = word (code i) ++ encodeItems is
+encodeItems (i ∷ is) = le16Bytes (code i) ++ encodeItems is
 
 -- "Each is a two-byte item count .. and that many two-byte items"
 unfoldable pub encodeMacros : List Macro → List ℕ
 encodeMacros [] = []
-encodeMacros (m ∷ ms) = word (length m) ++ (encodeItems m ++ encodeMacros ms)
+encodeMacros (m ∷ ms) = le16Bytes (length m) ++ (encodeItems m ++ encodeMacros ms)
 
--- "The first three bytes are the mark `MBK` (hex 4D 42 4B)"
-abbrev pub mark : List ℕ
-mark = 0x4D ∷ 0x42 ∷ 0x4B ∷ []
+-- "The first three bytes are the magic `MBK` (hex 4D 42 4B)"
+abbrev pub magic : List ℕ
+magic = 0x4D ∷ 0x42 ∷ 0x4B ∷ []
 
 -- "Then a two-byte version, 1, and a two-byte macro count M .. Then M macros .. Nothing follows."
 unfoldable pub encode : List Macro → List ℕ
-encode ms = mark ++ (word 1 ++ (word (length ms) ++ encodeMacros ms))
+encode ms = magic ++ (le16Bytes 1 ++ (le16Bytes (length ms) ++ encodeMacros ms))
 
--- the item of macro n is a key "from 1 to 255", or a call of macro j "and j is lower than the number of the macro it stands in"
+-- the item of macro n is a key "from 1 to 255", or a call of macro j "and j is lower than the le16 of the macro it stands in"
 unfoldable pub soundItem : ℕ → Item → Bool
 soundItem n (Key k) = leb 1 k && leb k 255
 soundItem n (Call j) = ltb j n
@@ -55,7 +55,7 @@ soundItems n (i ∷ is) = soundItem n i && soundItems n is
 unfoldable pub soundMacro : ℕ → Macro → Bool
 soundMacro n m = leb 1 (length m) && (leb (length m) 64 && soundItems n m)
 
--- the macros from number n on
+-- the macros from le16 n on
 unfoldable pub soundMacros : ℕ → List Macro → Bool
 soundMacros n [] = true
 soundMacros n (m ∷ ms) = soundMacro n m && soundMacros (suc n) ms

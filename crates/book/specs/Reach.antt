@@ -18,10 +18,10 @@ pub data Reaches (ms : List Macro) : ℕ → ℕ → Type 0 where
   itself : {m : ℕ} → Reaches ms m m
   through : {m i j : ℕ} → Calls ms m i → Reaches ms i j → Reaches ms m j
 
--- "Two books are alike in a macro if both have one of that number, with the same items in the same order."
+-- "Two books are alike in a macro if both have one of that le16, with the same items in the same order."
 pub record Alike (ms ns : List Macro) (m : ℕ) : Type 0 where
-  pub here : m < length ms
-  pub there : m < length ns
+  pub first : m < length ms
+  pub second : m < length ns
   pub same : getD ms m [] ≡ getD ns m []
 
 -- some call among the items leads to a macro that has p
@@ -34,7 +34,7 @@ unfoldable pub reachesTo : ℕ → List Macro → ℕ → ℕ → Bool
 reachesTo zero ms m j = false
 reachesTo (suc d) ms m j = eqb m j || anyCall (λ i. reachesTo d ms i j) (getD ms m [])
 
--- the same as a test; calls go to lower macros, so m of them, one after the other, are the most there are
+-- the same as a test; calls go to lower macros, so m of them, one after the other, are the most second are
 unfoldable pub reaches : List Macro → ℕ → ℕ → Bool
 reaches ms m j = reachesTo (suc m) ms m j
 

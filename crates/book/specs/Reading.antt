@@ -33,8 +33,8 @@ abbrev pub _>>=_ : {A B : Type 0} → Reader A → (A → Reader B) → Reader B
 _>>=_ m f = λ b. next (m b) f
 
 -- "two-byte numbers have the low byte first"
-abbrev pub number : List ℕ → ℕ
-number b = getD b 0 0 + 256 * getD b 1 0
+abbrev pub le16 : List ℕ → ℕ
+le16 b = getD b 0 0 + 256 * getD b 1 0
 
 -- "An item from 1 to 255 is a key. An item 256 + j calls macro j"; a key of 0 is refused where a book is checked
 abbrev pub itemOf : ℕ → Item
@@ -42,7 +42,7 @@ itemOf c = cond (ltb c 256) (Key c) (Call (c - 256))
 
 -- the item at the front of some bytes, where they are enough
 abbrev pub itemAt : List ℕ → ItemRead
-itemAt b = cond (ltb (length b) 2) Short (Found (itemOf (number b)))
+itemAt b = cond (ltb (length b) 2) Short (Found (itemOf (le16 b)))
 
 -- the items that bytes hold, two bytes each
 unfoldable pub itemsOf : List ℕ → List Item
@@ -51,13 +51,13 @@ itemsOf (l ∷ []) = []
 itemsOf (l ∷ h ∷ b) = itemOf (l + 256 * h) ∷ itemsOf b
 
 -- an item of macro n: 4, "bytes run out"; 5, "item 0"; 6, "256 or more, and not a lower macro"
-abbrev pub judge : ℕ → ItemRead → Reader Item
-judge n Short rest = refused MalformedBody
-judge n (Found (Key k)) rest = cond (eqb k 0) (refused InvalidKey) (got (Key k) rest)
-judge n (Found (Call j)) rest = cond (ltb j n) (got (Call j) rest) (refused ForwardReference)
+abbrev pub checkItem : ℕ → ItemRead → Reader Item
+checkItem n Short rest = refused MalformedBody
+checkItem n (Found (Key k)) rest = cond (eqb k 0) (refused InvalidKey) (got (Key k) rest)
+checkItem n (Found (Call j)) rest = cond (ltb j n) (got (Call j) rest) (refused ForwardReference)
 
 unfoldable pub readItem : ℕ → Reader Item
-readItem n b = judge n (itemAt b) (drop 2 b)
+readItem n b = checkItem n (itemAt b) (drop 2 b)
 
 -- k items of macro n
 unfoldable pub readItems : ℕ → ℕ → Reader Macro
@@ -71,10 +71,10 @@ readItems n (suc k) = do
 unfoldable pub readMacro : ℕ → Reader Macro
 readMacro n b =
     cond (ltb (length b) 2) (refused MalformedBody)
-    (cond (leb 1 (number b) && leb (number b) 64) (readItems n (number b) (drop 2 b))
+    (cond (leb 1 (le16 b) && leb (le16 b) 64) (readItems n (le16 b) (drop 2 b))
     (refused MalformedBody))
 
--- k macros, from number n on
+-- k macros, from le16 n on
 unfoldable pub readMacros : ℕ → ℕ → Reader (List Macro)
 readMacros n zero = done []
 readMacros n (suc k) = do
@@ -83,15 +83,15 @@ readMacros n (suc k) = do
   done (m ∷ ms)
 
 -- "The first three bytes are the mark `MBK` (hex 4D 42 4B)"
-abbrev pub marked : List ℕ → Bool
-marked b = eqb (getD b 0 0) 0x4D && (eqb (getD b 1 0) 0x42 && eqb (getD b 2 0) 0x4B)
+abbrev pub hasMagic : List ℕ → Bool
+hasMagic b = eqb (getD b 0 0) 0x4D && (eqb (getD b 1 0) 0x42 && eqb (getD b 2 0) 0x4B)
 
 -- the macro count, after 1, "under 7 bytes, or another mark"; 2, "not 1"; 3, "0 or over 1,024"
 unfoldable pub readHeader : Reader ℕ
 readHeader b =
-    cond (leb 7 (length b) && marked b)
-    (cond (eqb (number (drop 3 b)) 1)
-    (cond (leb 1 (number (drop 5 b)) && leb (number (drop 5 b)) 1024) (got (number (drop 5 b)) (drop 7 b))
+    cond (leb 7 (length b) && hasMagic b)
+    (cond (eqb (le16 (drop 3 b)) 1)
+    (cond (leb 1 (le16 (drop 5 b)) && leb (le16 (drop 5 b)) 1024) (got (le16 (drop 5 b)) (drop 7 b))
     (refused BadMacroCount))
     (refused UnsupportedVersion))
     (refused BadMagic)

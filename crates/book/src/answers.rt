@@ -7,11 +7,11 @@ use refusal::code;
 ghost use denote.Ref.{ptr};
 ghost use mathlib.Core.Path.{_≡_};
 ghost use Rattle.book.specs.Reading.{readBook};
-ghost use Rattle.book.specs.Answer.{bodyAt, bodyOf, checkFigures, checkedFigures, readMacroOf, refusalOf};
+ghost use Rattle.book.specs.Answer.{bodyAt, bodyOf, checkResult, checkedFigures, requireMacro, refusalOf};
 
 // Whether a book is sound (document 01, "The book"): its macro count, or the first fault in reading order.
 pub fn check(book: &[u8]) -> Checked
-    ensures { λ r. ⌜ checkedFigures r ≡ checkFigures (readBook (now (book .entry))) ⌝ }
+    ensures { λ r. ⌜ checkedFigures r ≡ checkResult (readBook (now (book .entry))) ⌝ }
 {
     let found = layout_of(book);
     found.answer
@@ -19,9 +19,9 @@ pub fn check(book: &[u8]) -> Checked
 
 // The body of macro m, as that part of the book; the refusal's number goes to `refused`, 0 if there is none.
 pub fn body<'a>(book: &'a [u8], m: usize, refused: &mut u8) -> &'a [u8]
-    ensures part { λ r. ⌜ now r ≡ bodyOf (now (book .entry)) m (readMacroOf m (now (book .entry))) ⌝ }
-    ensures place { λ r. ⌜ ptr r ≡ bodyAt (ptr (book .entry)) m (readMacroOf m (now (book .entry))) ⌝ }
-    ensures number { λ _. ⌜ now (refused .exit) ≡ refusalOf (readMacroOf m (now (book .entry))) ⌝ }
+    ensures part { λ r. ⌜ now r ≡ bodyOf (now (book .entry)) m (requireMacro m (now (book .entry))) ⌝ }
+    ensures offset { λ r. ⌜ ptr r ≡ bodyAt (ptr (book .entry)) m (requireMacro m (now (book .entry))) ⌝ }
+    ensures number { λ _. ⌜ now (refused .exit) ≡ refusalOf (requireMacro m (now (book .entry))) ⌝ }
 {
     let found = layout_of(book);
     let answer = found.answer;
@@ -36,7 +36,7 @@ pub fn body<'a>(book: &'a [u8], m: usize, refused: &mut u8) -> &'a [u8]
                 return &book[..0];
             }
             *refused = 0;
-            part_of(book, &found.places, m)
+            part_of(book, &found.offsets, m)
         }
     }
 }

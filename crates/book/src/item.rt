@@ -2,7 +2,7 @@
 ghost use mathlib.Core.Path.{_≡_};
 ghost use Prim.Native.Nat.{_+_, _*_, _<_};
 ghost use lib.ListN.{length, drop};
-ghost use Rattle.book.specs.Reading.{itemAt, number};
+ghost use Rattle.book.specs.Reading.{itemAt, le16};
 
 // Document 01, "The book": an item from 1 to 255 is a key, 256 + j calls macro j. A key of 0 is in no sound book.
 pub enum Item {
@@ -10,7 +10,7 @@ pub enum Item {
     Call(u16),
 }
 
-// What stands at a place: an item, or fewer bytes than an item has.
+// What stands at a offset: an item, or fewer bytes than an item has.
 pub enum ItemRead {
     Found(Item),
     Short,
@@ -22,10 +22,10 @@ fn wide(b: u8) -> u16
     b as u16
 }
 
-// The two-byte number at `at`, low byte first.
-pub(crate) fn number_at(s: &[u8], at: usize) -> u16
+// The two-byte le16 at `at`, low byte first.
+pub(crate) fn le16_at(s: &[u8], at: usize) -> u16
     requires { ⌜ at + 1 < length (now s) ⌝ }
-    ensures { λ r. ⌜ r ≡ number (drop at (now (s .entry))) ⌝ }
+    ensures { λ r. ⌜ r ≡ le16 (drop at (now (s .entry))) ⌝ }
 {
     let low = wide(s[at]);
     let high = wide(s[at + 1]);
@@ -42,7 +42,7 @@ pub fn read_item(s: &[u8], at: usize) -> ItemRead
     if s.len() - 2 < at {
         return ItemRead::Short;
     }
-    let code = number_at(s, at);
+    let code = le16_at(s, at);
     if code < 256 {
         ItemRead::Found(Item::Key(code as u8))
     } else {

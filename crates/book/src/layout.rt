@@ -1,20 +1,20 @@
-// The check of a whole book, in reading order (document 01, "Refused", 1 to 6), and the places of its macros.
+// The check of a whole book, in reading order (document 01, "Refused", 1 to 6), and the offsets of its macros.
 use crate::item::Item;
 use crate::item::ItemRead;
-use crate::item::number_at;
+use crate::item::le16_at;
 use crate::item::read_item;
 use refusal::Refusal;
 ghost use mathlib.Core.Path.{_≡_};
 ghost use Prim.Native.Nat.{_≤_, _+_};
 ghost use mathlib.Core.List.{_∷_};
 ghost use lib.ListN.{length, drop, replicate};
-ghost use Rattle.book.specs.Reading.{macrosIn, marked, readAll, readBook, readHeader, readItem, readItems, readMacro, refused};
-ghost use Rattle.book.specs.Answer.{Located, headed, layoutFor, walked};
-ghost use Rattle.book.specs.Place.{bodyPart, place};
+ghost use Rattle.book.specs.Reading.{macrosIn, hasMagic, readAll, readBook, readHeader, readItem, readItems, readMacro, refused};
+ghost use Rattle.book.specs.Answer.{Located, headerOf, layoutFor, walkOf};
+ghost use Rattle.book.specs.Offset.{bodyPart, offset};
 ghost use denote.Ref.{ptr};
 
 // The mark that a book begins with.
-const MARK: [u8; 3] = *b"MBK";
+const MAGIC: [u8; 3] = *b"MBK";
 
 // The macro count that a header gives, or why it is refused.
 enum Header {
@@ -28,11 +28,11 @@ pub enum Checked {
     Refused(Refusal),
 }
 
-// The check of a book and, where it is sound, the places of its macros: macro i starts at places[i] and ends at
-// places[i + 1].
+// The check of a book and, where it is sound, the offsets of its macros: macro i starts at offsets[i] and ends at
+// offsets[i + 1].
 pub struct Layout {
     pub answer: Checked,
-    pub places: [usize; 1025],
+    pub offsets: [usize; 1025],
 }
 
 // Where reading goes on, or why it stops.
@@ -41,32 +41,32 @@ pub(crate) enum Walk {
     Refused(Refusal),
 }
 
-fn has_mark(s: &[u8]) -> bool
+fn has_magic(s: &[u8]) -> bool
     requires { ⌜ 3 ≤ length (now s) ⌝ }
-    ensures { λ r. ⌜ r ≡ marked (now (s .entry)) ⌝ }
+    ensures { λ r. ⌜ r ≡ hasMagic (now (s .entry)) ⌝ }
 {
-    if s[0] != MARK[0] {
+    if s[0] != MAGIC[0] {
         return false;
     }
-    if s[1] != MARK[1] {
+    if s[1] != MAGIC[1] {
         return false;
     }
-    s[2] == MARK[2]
+    s[2] == MAGIC[2]
 }
 
 fn read_header(s: &[u8]) -> Header
-    ensures { λ r. ⌜ r ≡ headed (readHeader (now (s .entry))) ⌝ }
+    ensures { λ r. ⌜ r ≡ headerOf (readHeader (now (s .entry))) ⌝ }
 {
     if s.len() < 7 {
         return Header::Refused(Refusal::BadMagic);
     }
-    if !has_mark(s) {
+    if !has_magic(s) {
         return Header::Refused(Refusal::BadMagic);
     }
-    if number_at(s, 3) != 1 {
+    if le16_at(s, 3) != 1 {
         return Header::Refused(Refusal::UnsupportedVersion);
     }
-    let count = number_at(s, 5);
+    let count = le16_at(s, 5);
     if count < 1 {
         return Header::Refused(Refusal::BadMacroCount);
     }
@@ -78,7 +78,7 @@ fn read_header(s: &[u8]) -> Header
 
 // One item of macro n.
 fn check_item(s: &[u8], at: usize, n: u16) -> Walk
-    ensures { λ r. ⌜ r ≡ walked (length (now (s .entry))) (readItem n (drop at (now (s .entry)))) ⌝ }
+    ensures { λ r. ⌜ r ≡ walkOf (length (now (s .entry))) (readItem n (drop at (now (s .entry)))) ⌝ }
 {
     let read = read_item(s, at);
     let ItemRead::Found(item) = read else {
@@ -103,7 +103,7 @@ fn check_item(s: &[u8], at: usize, n: u16) -> Walk
 // The items of macro n: `count` of them.
 fn check_items(s: &[u8], start: usize, count: u16, n: u16) -> Walk
     requires { ⌜ start ≤ length (now s) ⌝ }
-    ensures { λ r. ⌜ r ≡ walked (length (now (s .entry))) (readItems n count (drop start (now (s .entry)))) ⌝ }
+    ensures { λ r. ⌜ r ≡ walkOf (length (now (s .entry))) (readItems n count (drop start (now (s .entry)))) ⌝ }
 {
     let mut at = start;
     let mut left = count;
@@ -124,12 +124,12 @@ fn check_items(s: &[u8], start: usize, count: u16, n: u16) -> Walk
 // Macro n, its item count and its items.
 fn check_macro(s: &[u8], at: usize, n: u16) -> Walk
     requires { ⌜ at ≤ length (now s) ⌝ }
-    ensures { λ r. ⌜ r ≡ walked (length (now (s .entry))) (readMacro n (drop at (now (s .entry)))) ⌝ }
+    ensures { λ r. ⌜ r ≡ walkOf (length (now (s .entry))) (readMacro n (drop at (now (s .entry)))) ⌝ }
 {
     if s.len() - at < 2 {
         return Walk::Refused(Refusal::MalformedBody);
     }
-    let count = number_at(s, at);
+    let count = le16_at(s, at);
     if count < 1 {
         return Walk::Refused(Refusal::MalformedBody);
     }
@@ -144,17 +144,17 @@ fn refused_layout(r: Refusal) -> Layout
 {
     Layout {
         answer: Checked::Refused(r),
-        places: [0; 1025],
+        offsets: [0; 1025],
     }
 }
 
-// The places before any macro was read: the first one follows the header.
-fn first_place() -> [usize; 1025]
+// The offsets before any macro was read: the first one follows the header.
+fn first_offset() -> [usize; 1025]
     ensures { λ r. ⌜ r ≡ 7 ∷ replicate 1024 0 ⌝ }
 {
-    let mut places = [0; 1025];
-    places[0] = 7;
-    places
+    let mut offsets = [0; 1025];
+    offsets[0] = 7;
+    offsets
 }
 
 // The macros of a book whose header gives `count`.
@@ -162,7 +162,7 @@ fn layout_macros(s: &[u8], count: u16) -> Layout
     requires { ⌜ (7 ≤ length (now s)) × (count ≤ 1024) ⌝ }
     ensures { λ r. ⌜ r ≡ layoutFor (readAll count (drop 7 (now (s .entry)))) ⌝ }
 {
-    let mut places = first_place();
+    let mut offsets = first_offset();
     let mut at = 7;
     let mut n = 0;
     while n < count {
@@ -175,18 +175,18 @@ fn layout_macros(s: &[u8], count: u16) -> Layout
             }
         }
         n += 1;
-        places[n as usize] = at;
+        offsets[n as usize] = at;
     }
     if at < s.len() {
         return refused_layout(Refusal::MalformedBody);
     }
     Layout {
         answer: Checked::Sound(count),
-        places,
+        offsets,
     }
 }
 
-// One walk over the book: the check of each byte, and the places.
+// One walk over the book: the check of each byte, and the offsets.
 pub fn layout_of(book: &[u8]) -> Layout
     ensures { λ r. ⌜ r ≡ layoutFor (readBook (now (book .entry))) ⌝ }
 {
@@ -196,12 +196,12 @@ pub fn layout_of(book: &[u8]) -> Layout
     }
 }
 
-// The body of macro i, where the places are those of the book's layout.
-pub(crate) fn part_of<'a>(book: &'a [u8], places: &[usize; 1025], i: usize) -> &'a [u8]
-    requires { ⌜ Located (now book) (now places) i ⌝ }
-    ensures { λ r. ⌜ (now r ≡ bodyPart (now (book .entry)) (macrosIn (now (book .entry))) i) × (ptr r ≡ (ptr (book .entry) .0, place (macrosIn (now (book .entry))) i + 2 + ptr (book .entry) .1)) ⌝ }
+// The body of macro i, where the offsets are those of the book's layout.
+pub(crate) fn part_of<'a>(book: &'a [u8], offsets: &[usize; 1025], i: usize) -> &'a [u8]
+    requires { ⌜ Located (now book) (now offsets) i ⌝ }
+    ensures { λ r. ⌜ (now r ≡ bodyPart (now (book .entry)) (macrosIn (now (book .entry))) i) × (ptr r ≡ (ptr (book .entry) .0, offset (macrosIn (now (book .entry))) i + 2 + ptr (book .entry) .1)) ⌝ }
 {
-    let start = places[i] + 2;
-    let end = places[i + 1];
+    let start = offsets[i] + 2;
+    let end = offsets[i + 1];
     &book[start..end]
 }

@@ -12,7 +12,7 @@ ghost use mathlib.Core.Bool.{true, false};
 ghost use lib.ListN.{length, replicate, set};
 ghost use Rattle.book.specs.Reading.{itemsOf, macrosIn};
 ghost use Rattle.book.specs.Reach.{ReachList, markCalls, markItem};
-ghost use Rattle.book.specs.Answer.{Located, ReachAnswer, reachedFigures, readReach};
+ghost use Rattle.book.specs.Answer.{Located, ReachAnswer, reachedFigures, requireEntries};
 
 // How many numbers were written, or why none was.
 pub enum Reached {
@@ -58,8 +58,8 @@ fn first_mark(m: usize) -> [bool; 1024]
 }
 
 // Calls go to lower macros, so a walk from m down meets a macro after all that call it.
-fn list_reached(book: &[u8], places: &[usize; 1025], m: usize, list: &mut [u16]) -> usize
-    requires { ⌜ Located (now book) (now places) m ⌝ }
+fn list_reached(book: &[u8], offsets: &[usize; 1025], m: usize, list: &mut [u16]) -> usize
+    requires { ⌜ Located (now book) (now offsets) m ⌝ }
     requires { ⌜ m < length (now list) ⌝ }
     ensures { λ n. ⌜ ReachList (macrosIn (now (book .entry))) m n (now (list .entry)) (now (list .exit)) ⌝ }
 {
@@ -71,7 +71,7 @@ fn list_reached(book: &[u8], places: &[usize; 1025], m: usize, list: &mut [u16])
         if marks[i] {
             list[n] = i as u16;
             n += 1;
-            mark_calls(part_of(book, places, i), &mut marks);
+            mark_calls(part_of(book, offsets, i), &mut marks);
         }
     }
     n
@@ -79,7 +79,7 @@ fn list_reached(book: &[u8], places: &[usize; 1025], m: usize, list: &mut [u16])
 
 // The reach list of macro m (document 01, "The book"), from the front of a lent list of m + 1 entries or more.
 pub fn reach_list(book: &[u8], m: usize, list: &mut [u16]) -> Reached
-    ensures { λ r. ⌜ ReachAnswer (readReach m (length (now (list .entry))) (now (book .entry))) m (reachedFigures r) (now (list .entry)) (now (list .exit)) ⌝ }
+    ensures { λ r. ⌜ ReachAnswer (requireEntries m (length (now (list .entry))) (now (book .entry))) m (reachedFigures r) (now (list .entry)) (now (list .exit)) ⌝ }
 {
     let found = layout_of(book);
     let answer = found.answer;
@@ -92,7 +92,7 @@ pub fn reach_list(book: &[u8], m: usize, list: &mut [u16]) -> Reached
             if list.len() <= m {
                 return Reached::Refused(Refusal::InsufficientSpace);
             }
-            Reached::Written(list_reached(book, &found.places, m, list))
+            Reached::Written(list_reached(book, &found.offsets, m, list))
         }
     }
 }

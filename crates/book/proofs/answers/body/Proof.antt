@@ -3,7 +3,7 @@ use native.Mathlib.Omega.{arith}
 use mathlib.Core.Path.{refl}
 use denote.Ref.{now}
 use borrow.Author.Needs.{needs}
-use Rattle.book.specs.Answer.{readMacroOf}
+use Rattle.book.specs.Answer.{requireMacro}
 use Rattle.book.proofs.Asked.{asked-refused, asked-out, asked-in, asked-located, body-none, body-some}
 use Rattle.book.proofs.answers.body.Statement.{statement}
 use Rattle.book.proofs.answers.body.Tie as tie
@@ -37,7 +37,7 @@ returns c =
     let k = c .before .before .before .before in
     let l = k .before .before in
     let a = l .before .before .args in
-    body-none (now (a .book)) (a .book .ptr) (a .m) (readMacroOf (a .m) (now (a .book))) _ _
+    body-none (now (a .book)) (a .book .ptr) (a .m) (requireMacro (a .m) (now (a .book))) _ _
     (asked-out (now (a .book)) (a .m) _ (l .layout-of .ensures) _ refl _ (k .answer2 .given .1) (c .before .before .if1 .taken))
     (c .before .code2 .ensures)
 
@@ -53,7 +53,7 @@ returns-2 c =
     let k = c .before .before .before in
     let l = k .before .before in
     let a = l .before .before .args in
-    body-none (now (a .book)) (a .book .ptr) (a .m) (readMacroOf (a .m) (now (a .book))) _ _
+    body-none (now (a .book)) (a .book .ptr) (a .m) (requireMacro (a .m) (now (a .book))) _ _
     (asked-refused (now (a .book)) (a .m) _ (l .layout-of .ensures) _ refl _ (k .answer .given .1))
     (c .before .code .ensures)
 
@@ -63,7 +63,7 @@ returns-3 c =
     let l = k .before .before in
     let a = l .before .before .args in
     let read = asked-in (now (a .book)) (a .m) _ (l .layout-of .ensures) _ refl _ (k .answer2 .given .1) (omega arith) in
-    body-some (now (a .book)) (a .book .ptr) (a .m) (readMacroOf (a .m) (now (a .book))) _ _ _ _ (read .2) (c .part-of .ensures .0) (c .part-of .ensures .1)
+    body-some (now (a .book)) (a .book .ptr) (a .m) (requireMacro (a .m) (now (a .book))) _ _ _ _ (read .2) (c .part-of .ensures .0) (c .part-of .ensures .1)
 
 pub body-spec : {M : Type 1} → statement M
 body-spec =

@@ -1,4 +1,4 @@
--- `book::read_item`: each way out is a case of the item at the place.
+-- `book::read_item`: each way out is a case of the item at the offset.
 use native.Mathlib.Omega.{arith}
 use denote.Ref.{now}
 use borrow.Author.Needs.{needs}
@@ -15,8 +15,8 @@ sub-if2 c = search needs
 returns-2 : tie.Need-returns-2
 returns-2 c = let a = c .before .before .before .args in item-short (now (a .s)) (a .at) (omega arith)
 
-number-at-requires : tie.Need-number-at-requires
-number-at-requires c κs = search needs
+le16-at-requires : tie.Need-le16-at-requires
+le16-at-requires c κs = search needs
 
 cast-t8 : tie.Need-cast-t8
 cast-t8 c = search needs
@@ -24,13 +24,13 @@ cast-t8 c = search needs
 returns-3 : tie.Need-returns-3
 returns-3 c =
     let a = c .before .before .before .before .before .args in
-    rw (item-key _ (c .if3 .taken), c .before .number-at .ensures) (item-found (now (a .s)) (a .at) (omega arith))
+    rw (item-key _ (c .if3 .taken), c .before .le16-at .ensures) (item-found (now (a .s)) (a .at) (omega arith))
 
 returns-4 : tie.Need-returns-4
 returns-4 c =
     let a = c .before .before .before .before .before .args in
-    rw (item-call _ (c .if3 .left), c .before .number-at .ensures) (item-found (now (a .s)) (a .at) (omega arith))
+    rw (item-call _ (c .if3 .left), c .before .le16-at .ensures) (item-found (now (a .s)) (a .at) (omega arith))
 
 pub read-item-spec : {M : Type 1} → statement M
 read-item-spec =
-    tie.close (tie.spec returns sub-if2 returns-2 number-at-requires cast-t8 returns-3 returns-4)
+    tie.close (tie.spec returns sub-if2 returns-2 le16-at-requires cast-t8 returns-3 returns-4)

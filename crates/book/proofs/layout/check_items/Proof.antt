@@ -7,14 +7,14 @@ use denote.Ref.{now}
 use borrow.Author.Needs.{needs}
 use Rattle.book.proofs.Walks.{items-refused, items-on, items-done}
 use Rattle.book.specs.Reading.{readItems}
-use Rattle.book.specs.Answer.{walked}
+use Rattle.book.specs.Answer.{walkOf}
 use Rattle.book.proofs.layout.check_items.Statement.{statement}
 use Rattle.book.proofs.layout.check_items.Tie as tie
 
 abbrev Inv-loop : tie.InvT-loop
 Inv-loop s start count n at₀ left₀ at left =
     (at ≤ length s)
-    × (walked (length s) (readItems n left (drop at s)) ≡ walked (length s) (readItems n count (drop start s)))
+    × (walkOf (length s) (readItems n left (drop at s)) ≡ walkOf (length s) (readItems n count (drop start s)))
 
 abbrev μ-loop : tie.MeasureT-loop
 μ-loop s start count n at₀ left₀ at left = left

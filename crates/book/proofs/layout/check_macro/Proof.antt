@@ -10,8 +10,8 @@ sub-if1 c = search needs
 returns : tie.Need-returns
 returns c = search macro-cut
 
-number-at-requires : tie.Need-number-at-requires
-number-at-requires c κs = search needs
+le16-at-requires : tie.Need-le16-at-requires
+le16-at-requires c κs = search needs
 
 returns-2 : tie.Need-returns-2
 returns-2 c = search macro-none
@@ -34,7 +34,7 @@ check-macro-spec =
     (tie.spec
     sub-if1
     returns
-    number-at-requires
+    le16-at-requires
     returns-2
     returns-3
     add-check-items

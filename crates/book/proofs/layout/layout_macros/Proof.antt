@@ -1,4 +1,4 @@
--- `layout_macros`. Invariant: n macros were read, their places stand in the table, and reading goes on behind the last.
+-- `layout_macros`. Invariant: n macros were read, their offsets stand in the table, and reading goes on behind the last.
 use Prim.Native.Nat.{_≤_, _-_}
 use native.Mathlib.Omega.{arith}
 use lib.ListN.{length}
@@ -9,18 +9,18 @@ use Rattle.book.proofs.layout.layout_macros.Statement.{statement}
 use Rattle.book.proofs.layout.layout_macros.Tie as tie
 
 abbrev Inv-loop : tie.InvT-loop
-Inv-loop s count places₀ at₀ n₀ places at n = (n ≤ count) × (at ≤ length s) × Laid s count places at n
+Inv-loop s count offsets₀ at₀ n₀ offsets at n = (n ≤ count) × (at ≤ length s) × Laid s count offsets at n
 
 abbrev μ-loop : tie.MeasureT-loop
-μ-loop s count places₀ at₀ n₀ places at n = count - n
+μ-loop s count offsets₀ at₀ n₀ offsets at n = count - n
 
-first-place-requires : tie.Need-first-place-requires Inv-loop μ-loop
-first-place-requires c κs = search needs
+first-offset-requires : tie.Need-first-offset-requires Inv-loop μ-loop
+first-offset-requires c κs = search needs
 
 loop-holds : tie.Need-loop-holds Inv-loop μ-loop
 loop-holds c =
     let a = c .before .before .args in
-    (omega arith, omega arith, laid-none (now (a .s)) (a .count) _ (c .first-place .ensures))
+    (omega arith, omega arith, laid-none (now (a .s)) (a .count) _ (c .first-offset .ensures))
 
 check-macro-requires : tie.Need-check-macro-requires Inv-loop μ-loop
 check-macro-requires c κs = search needs
@@ -40,14 +40,14 @@ returns c = search laid-refused
 add-n : tie.Need-add-n Inv-loop μ-loop
 add-n c = search needs
 
-cast-places : tie.Need-cast-places Inv-loop μ-loop
-cast-places c = search needs
+cast-offsets : tie.Need-cast-offsets Inv-loop μ-loop
+cast-offsets c = search needs
 
-mul-places : tie.Need-mul-places Inv-loop μ-loop
-mul-places c = search needs
+mul-offsets : tie.Need-mul-offsets Inv-loop μ-loop
+mul-offsets c = search needs
 
-array-write-places : tie.Need-array-write-places Inv-loop μ-loop
-array-write-places c = search needs
+array-write-offsets : tie.Need-array-write-offsets Inv-loop μ-loop
+array-write-offsets c = search needs
 
 loop-less : tie.Need-loop-less Inv-loop μ-loop
 loop-less c = search needs
@@ -57,7 +57,7 @@ loop-again c =
     let k = c .before .before .before in
     let l = k .before .before in
     let a = l .before .before .before .args in
-    let more = laid-more (now (a .s)) (a .count) (l .loop .places) (l .loop .at) (l .loop .n) (l .loop .inv .2) _ (omega arith) (k .check-macro .ensures) _ (l .loop .inv .1) (omega arith) (c .before .next .given .1) in
+    let more = laid-more (now (a .s)) (a .count) (l .loop .offsets) (l .loop .at) (l .loop .n) (l .loop .inv .2) _ (omega arith) (k .check-macro .ensures) _ (l .loop .inv .1) (omega arith) (c .before .next .given .1) in
     (omega arith, more .0, more .1)
 
 refused-layout-requires-2 : tie.Need-refused-layout-requires-2 Inv-loop μ-loop
@@ -75,7 +75,7 @@ layout-macros-spec =
     (tie.spec
     Inv-loop
     μ-loop
-    first-place-requires
+    first-offset-requires
     loop-holds
     check-macro-requires
     enum-known-next
@@ -83,9 +83,9 @@ layout-macros-spec =
     refused-layout-requires
     returns
     add-n
-    cast-places
-    mul-places
-    array-write-places
+    cast-offsets
+    mul-offsets
+    array-write-offsets
     loop-less
     loop-again
     refused-layout-requires-2

@@ -3,12 +3,12 @@ use native.Mathlib.Omega.{arith}
 use Prim.Native.Nat.{ℕ, _+_}
 use mathlib.Core.Path.{ap}
 use denote.Ref.{now}
-use Rattle.book.proofs.Parts.{PartPlaces, located, part-is}
+use Rattle.book.proofs.Parts.{PartOffsets, located, part-is}
 use Rattle.book.proofs.layout.part_of.Statement.{statement}
 use Rattle.book.proofs.layout.part_of.Tie as tie
 
-facts : (c : tie.Start) → PartPlaces (now (c .args .book)) (now (c .args .places)) (c .args .i)
-facts c = located (now (c .args .book)) (now (c .args .places)) (c .args .i) (c .pre)
+facts : (c : tie.Start) → PartOffsets (now (c .args .book)) (now (c .args .offsets)) (c .args .i)
+facts c = located (now (c .args .book)) (now (c .args .offsets)) (c .args .i) (c .pre)
 
 mul-start : tie.Need-mul-start
 mul-start c = let p = facts (c) in omega arith
@@ -41,7 +41,7 @@ returns : tie.Need-returns
 returns c =
     let k = c .before .before .before in
     let p = facts (k) in
-    (part-is (now (k .args .book)) (now (k .args .places)) (k .args .i) (k .pre),
+    (part-is (now (k .args .book)) (now (k .args .offsets)) (k .args .i) (k .pre),
     ap (λ (x : ℕ). (k .args .book .ptr .0, x + 2 + k .args .book .ptr .1)) (p .from))
 
 pub part-of-spec : {M : Type 1} → statement M

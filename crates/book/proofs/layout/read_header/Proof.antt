@@ -1,26 +1,26 @@
 -- `read_header`: each way out is a case of reading the header.
 use borrow.Author.Needs.{needs}
-use Rattle.book.proofs.Header.{header-short, header-mark, header-version, header-none, header-many, header-good}
+use Rattle.book.proofs.Header.{header-short, header-magic, header-version, header-none, header-many, header-good}
 use Rattle.book.proofs.layout.read_header.Statement.{statement}
 use Rattle.book.proofs.layout.read_header.Tie as tie
 
 returns : tie.Need-returns
 returns c = search header-short
 
-has-mark-requires : tie.Need-has-mark-requires
-has-mark-requires c κs = search needs
+has-magic-requires : tie.Need-has-magic-requires
+has-magic-requires c κs = search needs
 
 returns-2 : tie.Need-returns-2
-returns-2 c = search header-mark
+returns-2 c = search header-magic
 
-number-at-requires : tie.Need-number-at-requires
-number-at-requires c κs = search needs
+le16-at-requires : tie.Need-le16-at-requires
+le16-at-requires c κs = search needs
 
 returns-3 : tie.Need-returns-3
 returns-3 c = search header-version
 
-number-at-requires-2 : tie.Need-number-at-requires-2
-number-at-requires-2 c κs = search needs
+le16-at-requires-2 : tie.Need-le16-at-requires-2
+le16-at-requires-2 c κs = search needs
 
 returns-4 : tie.Need-returns-4
 returns-4 c = search header-none
@@ -36,11 +36,11 @@ read-header-spec =
     tie.close
     (tie.spec
     returns
-    has-mark-requires
+    has-magic-requires
     returns-2
-    number-at-requires
+    le16-at-requires
     returns-3
-    number-at-requires-2
+    le16-at-requires-2
     returns-4
     returns-5
     returns-6)

@@ -1,4 +1,4 @@
--- `list_reached`. Invariant: the macros from i on that m reaches are listed, and all that they call are marked.
+-- `list_reached`. Invariant: the macros from i on that m reaches are listed, and all that they call are hasMagic.
 use Prim.Native.Nat.{ℕ, _-_, _<_}
 use native.Mathlib.Omega.{arith}
 use mathlib.Core.Path.{_≡_, ap, _∙_}
@@ -18,21 +18,21 @@ use Rattle.book.proofs.reachable.list_reached.Statement.{statement}
 use Rattle.book.proofs.reachable.list_reached.Tie as tie
 
 abbrev Inv-loop : tie.InvT-loop
-Inv-loop book places m list₀ marks₀ n₀ i₀ list marks n i = Listed (macrosIn book) m list₀ list marks n i
+Inv-loop book offsets m list₀ marks₀ n₀ i₀ list marks n i = Listed (macrosIn book) m list₀ list marks n i
 
 abbrev μ-loop : tie.MeasureT-loop
-μ-loop book places m list₀ marks₀ n₀ i₀ list marks n i = i
+μ-loop book offsets m list₀ marks₀ n₀ i₀ list marks n i = i
 
 few : (c : tie.Start Inv-loop μ-loop) → c .args .m < 1024
-few c = located (now (c .args .book)) (now (c .args .places)) (c .args .m) (c .pre .0) .few
+few c = located (now (c .args .book)) (now (c .args .offsets)) (c .args .m) (c .pre .0) .few
 
 well : (c : tie.Start Inv-loop μ-loop) → wellFormed (macrosIn (now (c .args .book))) ≡ true
-well c = located-well (now (c .args .book)) (now (c .args .places)) (c .args .m) (c .pre .0)
+well c = located-well (now (c .args .book)) (now (c .args .offsets)) (c .args .m) (c .pre .0)
 
-here : (l : tie.At-loop Inv-loop μ-loop) → Located (now (l .before .before .before .before .args .book)) (now (l .before .before .before .before .args .places)) (l .loop .i - 1)
+here : (l : tie.At-loop Inv-loop μ-loop) → Located (now (l .before .before .before .before .args .book)) (now (l .before .before .before .before .args .offsets)) (l .loop .i - 1)
 here l =
     let s = l .before .before .before .before in
-    located-lower (now (s .args .book)) (now (s .args .places)) (s .args .m) (l .loop .i - 1) (s .pre .0) (omega (arith, l .loop .inv .high))
+    located-lower (now (s .args .book)) (now (s .args .offsets)) (s .args .m) (l .loop .i - 1) (s .pre .0) (omega (arith, l .loop .inv .high))
 
 room : (l : tie.At-loop Inv-loop μ-loop) → 0 < l .loop .i → l .loop .n < length (l .loop .list)
 room l h =
@@ -87,7 +87,7 @@ loop-again c =
     let l = c .before .before .before .before .before in
     let s = l .before .before .before .before in
     let h = here l in
-    let items = located (now (s .args .book)) (now (s .args .places)) (l .loop .i - 1) h .items in
+    let items = located (now (s .args .book)) (now (s .args .offsets)) (l .loop .i - 1) h .items in
     listed-in (macrosIn (now (s .args .book))) (s .args .m) (well s) _ _ _ _ _ (l .loop .inv) (s .pre .1) (omega arith) _ (few s) (c .before .before .before .if1 .taken)
     (c .mark-calls .ensures
     ∙ ap (λ (x : List ℕ). markCalls (itemsOf x) (l .loop .marks)) (c .before .before .part-of .ensures .0)

@@ -3,7 +3,7 @@ use mathlib.Core.Path.{refl}
 use lib.ListN.{length}
 use denote.Ref.{now}
 use borrow.Author.Needs.{needs}
-use Rattle.book.specs.Answer.{readReach}
+use Rattle.book.specs.Answer.{requireEntries}
 use Rattle.book.proofs.Asked.{asked-refused, asked-out, asked-in, asked-located, reach-refused, reach-short, reach-enough, reach-none, reach-some}
 use Rattle.book.proofs.reachable.reach_list.Statement.{statement}
 use Rattle.book.proofs.reachable.reach_list.Tie as tie
@@ -26,7 +26,7 @@ returns c =
     let l = k .before .before in
     let a = l .before .before .before .args in
     let out = asked-out (now (a .book)) (a .m) _ (l .layout-of .ensures) _ refl _ (k .answer2 .given .1) (c .if1 .taken) in
-    reach-none (readReach (a .m) (length (now (a .list))) (now (a .book))) (a .m) _ _ _ (reach-refused (now (a .book)) (a .m) (length (now (a .list))) _ out) refl
+    reach-none (requireEntries (a .m) (length (now (a .list))) (now (a .book))) (a .m) _ _ _ (reach-refused (now (a .book)) (a .m) (length (now (a .list))) _ out) refl
 
 returns-2 : tie.Need-returns-2
 returns-2 c =
@@ -34,7 +34,7 @@ returns-2 c =
     let l = k .before .before in
     let a = l .before .before .before .args in
     let read = asked-in (now (a .book)) (a .m) _ (l .layout-of .ensures) _ refl _ (k .answer2 .given .1) (c .before .if1 .left) in
-    reach-none (readReach (a .m) (length (now (a .list))) (now (a .book))) (a .m) _ _ _ (reach-short (now (a .book)) (a .m) (length (now (a .list))) _ _ (read .2) (c .if2 .taken)) refl
+    reach-none (requireEntries (a .m) (length (now (a .list))) (now (a .book))) (a .m) _ _ _ (reach-short (now (a .book)) (a .m) (length (now (a .list))) _ _ (read .2) (c .if2 .taken)) refl
 
 list-reached-requires : tie.Need-list-reached-requires
 list-reached-requires c κs =
@@ -50,7 +50,7 @@ returns-3 c =
     let l = k .before .before in
     let a = l .before .before .before .args in
     let out = asked-refused (now (a .book)) (a .m) _ (l .layout-of .ensures) _ refl _ (k .answer .given .1) in
-    reach-none (readReach (a .m) (length (now (a .list))) (now (a .book))) (a .m) _ _ _ (reach-refused (now (a .book)) (a .m) (length (now (a .list))) _ out) refl
+    reach-none (requireEntries (a .m) (length (now (a .list))) (now (a .book))) (a .m) _ _ _ (reach-refused (now (a .book)) (a .m) (length (now (a .list))) _ out) refl
 
 same-length : tie.Need-same-length
 same-length c = search needs
@@ -62,7 +62,7 @@ returns-4 c =
     let l = k .before .before in
     let a = l .before .before .before .args in
     let read = asked-in (now (a .book)) (a .m) _ (l .layout-of .ensures) _ refl _ (k .answer2 .given .1) (e .before .if1 .left) in
-    reach-some (readReach (a .m) (length (now (a .list))) (now (a .book))) (a .m) _ _ _ _ _ (reach-enough (now (a .book)) (a .m) (length (now (a .list))) _ _ (read .2) (e .if2 .left)) (c .before .before .list-reached .ensures)
+    reach-some (requireEntries (a .m) (length (now (a .list))) (now (a .book))) (a .m) _ _ _ _ _ (reach-enough (now (a .book)) (a .m) (length (now (a .list))) _ _ (read .2) (e .if2 .left)) (c .before .before .list-reached .ensures)
 
 pub reach-list-spec : {M : Type 1} → statement M
 reach-list-spec =

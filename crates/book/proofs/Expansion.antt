@@ -1,4 +1,4 @@
--- Laws of a macro's written-out run.
+-- Laws of a macro's expand-out expansion.
 use Prim.Native.Nat.{ℕ, zero, suc, _+_, _<_, _≤_}
 use native.Mathlib.Nat.{add-zero, add-suc, suc-add, zero-add}
 use native.Mathlib.Omega.{arith}
@@ -13,7 +13,7 @@ use Rattle.book.specs.declared.item.Item.{Item}
 use Rattle.book.specs.declared.item.Item.the-variants.{Key, Call}
 use Rattle.book.specs.Format.{Macro, soundItem, soundItems, soundMacro, soundMacros, wellFormed}
 use Rattle.book.specs.Reach.{Calls}
-use Rattle.book.specs.Run.{written, runTo, run}
+use Rattle.book.specs.Expansion.{expand, expandTo, expansion}
 
 -- what a sound macro has: an item, and sound items
 macro-parts : (n : ℕ) (m : Macro) → soundMacro n m ≡ true → (1 ≤ length m) × (soundItems n m ≡ true)
@@ -30,7 +30,7 @@ macros-parts n m ms h =
     let q = macro-parts n m (p .0) in
     (q .0, q .1, p .1)
 
--- the items at place i of a sound list that starts at number n are sound for macro n + i; where the list has ended there are none
+-- the items at offset i of a sound list that starts at le16 n are sound for macro n + i; where the list has ended there are none
 pub sound-items : (ms : List Macro) (n : ℕ) → soundMacros n ms ≡ true → (i : ℕ) → soundItems (n + i) (getD ms i []) ≡ true
 unfolding soundItems
 sound-items [] n h i = refl
@@ -77,75 +77,75 @@ call-lower {n} {j} (i ∷ is) h c =
 pub calls-lower : (ms : List Macro) → wellFormed ms ≡ true → {m j : ℕ} → Calls ms m j → j < m
 calls-lower ms well {m} c = call-lower (getD ms m []) (well-items ms well m) c
 
--- what is written is the same where the called runs are
-pub written-same : (f g : ℕ → List ℕ) (is : List Item) → ((j : ℕ) → List·Memᴰ (Call j) is → f j ≡ g j) → written f is ≡ written g is
-unfolding written
-written-same f g [] e = refl
-written-same f g (Key k ∷ is) e = ap (λ (l : List ℕ). k ∷ l) (written-same f g is (λ j c. e j (List·Memᴰ·tail c)))
-written-same f g (Call i ∷ is) e = rw (e i (List·Memᴰ·head refl), written-same f g is (λ j c. e j (List·Memᴰ·tail c)))
+-- what is expand is the same where the called runs are
+pub expand-same : (f g : ℕ → List ℕ) (is : List Item) → ((j : ℕ) → List·Memᴰ (Call j) is → f j ≡ g j) → expand f is ≡ expand g is
+unfolding expand
+expand-same f g [] e = refl
+expand-same f g (Key k ∷ is) e = ap (λ (l : List ℕ). k ∷ l) (expand-same f g is (λ j c. e j (List·Memᴰ·tail c)))
+expand-same f g (Call i ∷ is) e = rw (e i (List·Memᴰ·head refl), expand-same f g is (λ j c. e j (List·Memᴰ·tail c)))
 
--- something is written if there is an item, and each called run is not empty
-written-nonempty : (f : ℕ → List ℕ) (is : List Item) → 1 ≤ length is → ((j : ℕ) → List·Memᴰ (Call j) is → 0 < length (f j)) → 0 < length (written f is)
-unfolding written
-written-nonempty f [] h e = absurd (omega arith)
-written-nonempty f (Key k ∷ is) h e = omega arith
-written-nonempty f (Call i ∷ is) h e = simp length-append (omega (arith, e i (List·Memᴰ·head refl)))
+-- something is expand if there is an item, and each called expansion is not empty
+expand-nonempty : (f : ℕ → List ℕ) (is : List Item) → 1 ≤ length is → ((j : ℕ) → List·Memᴰ (Call j) is → 0 < length (f j)) → 0 < length (expand f is)
+unfolding expand
+expand-nonempty f [] h e = absurd (omega arith)
+expand-nonempty f (Key k ∷ is) h e = omega arith
+expand-nonempty f (Call i ∷ is) h e = simp length-append (omega (arith, e i (List·Memᴰ·head refl)))
 
 -- "An item from 1 to 255 is a key."
 abbrev Keyed : ℕ → Type 0
 Keyed k = (1 ≤ k) × (k ≤ 255)
 
 -- what sound items write are keys, if the called runs are
-written-keys : (f : ℕ → List ℕ) (n : ℕ) (is : List Item) → soundItems n is ≡ true → ((j k : ℕ) → List·Memᴰ k (f j) → Keyed k) → (k : ℕ) → List·Memᴰ k (written f is) → Keyed k
-unfolding written soundItem
-written-keys f n [] h e k c = absurd (List·Memᴰ·not-nil c)
-written-keys f n (Key x ∷ is) h e k c =
+expand-keys : (f : ℕ → List ℕ) (n : ℕ) (is : List Item) → soundItems n is ≡ true → ((j k : ℕ) → List·Memᴰ k (f j) → Keyed k) → (k : ℕ) → List·Memᴰ k (expand f is) → Keyed k
+unfolding expand soundItem
+expand-keys f n [] h e k c = absurd (List·Memᴰ·not-nil c)
+expand-keys f n (Key x ∷ is) h e k c =
     let p = items-parts n (Key x) is h in
     let q = and-eq-true-iff (leb 1 x) (leb x 255) .0 (p .0) in
-    ⊎-elim (λ s. omega (arith, leb-true 1 x (q .0), leb-true x 255 (q .1))) (λ d. written-keys f n is (p .1) e k d) (List·Memᴰ·cases-cons c)
-written-keys f n (Call j ∷ is) h e k c =
-    ⊎-elim (e j k) (λ d. written-keys f n is (items-parts n (Call j) is h .1) e k d) (List·Memᴰ·append-cases (f j) c)
+    ⊎-elim (λ s. omega (arith, leb-true 1 x (q .0), leb-true x 255 (q .1))) (λ d. expand-keys f n is (p .1) e k d) (List·Memᴰ·cases-cons c)
+expand-keys f n (Call j ∷ is) h e k c =
+    ⊎-elim (e j k) (λ d. expand-keys f n is (items-parts n (Call j) is h .1) e k d) (List·Memᴰ·append-cases (f j) c)
 
 module _ (ms : List Macro) (well : wellFormed ms ≡ true) where
-  -- the depth is no matter where it is greater than the macro's number
-  runTo-agree : (d e m : ℕ) → m < d → m < e → runTo d ms m ≡ runTo e ms m
-  unfolding runTo
-  runTo-agree zero e m p q = absurd (omega arith)
-  runTo-agree (suc d) zero m p q = absurd (omega arith)
-  runTo-agree (suc d) (suc e) m p q =
-      written-same (λ j. runTo d ms j) (λ j. runTo e ms j) (getD ms m []) λ j c.
+  -- the depth is no matter where it is greater than the macro's le16
+  expandTo-agree : (d e m : ℕ) → m < d → m < e → expandTo d ms m ≡ expandTo e ms m
+  unfolding expandTo
+  expandTo-agree zero e m p q = absurd (omega arith)
+  expandTo-agree (suc d) zero m p q = absurd (omega arith)
+  expandTo-agree (suc d) (suc e) m p q =
+      expand-same (λ j. expandTo d ms j) (λ j. expandTo e ms j) (getD ms m []) λ j c.
       let lower : j < m = calls-lower ms well c in
-      runTo-agree d e j (omega arith) (omega arith)
+      expandTo-agree d e j (omega arith) (omega arith)
 
-  -- "The run of a macro, written out, is its items in order, each call replaced by the called macro's written-out run."
-  pub run-law : (m : ℕ) → run ms m ≡ written (λ j. run ms j) (getD ms m [])
-  unfolding run runTo
-  run-law m =
-      written-same (λ j. runTo m ms j) (λ j. run ms j) (getD ms m []) λ j c.
+  -- "The expansion of a macro, expand out, is its items in order, each call replaced by the called macro's expand-out expansion."
+  pub expansion-law : (m : ℕ) → expansion ms m ≡ expand (λ j. expansion ms j) (getD ms m [])
+  unfolding expansion expandTo
+  expansion-law m =
+      expand-same (λ j. expandTo m ms j) (λ j. expansion ms j) (getD ms m []) λ j c.
       let lower : j < m = calls-lower ms well c in
-      runTo-agree m (suc j) j (omega arith) (omega arith)
+      expandTo-agree m (suc j) j (omega arith) (omega arith)
 
-  -- a macro of the book writes something, at any depth greater than its number
-  runTo-nonempty : (d m : ℕ) → m < d → m < length ms → 0 < length (runTo d ms m)
-  unfolding runTo
-  runTo-nonempty zero m h l = absurd (omega arith)
-  runTo-nonempty (suc d) m h l =
-      written-nonempty (λ j. runTo d ms j) (getD ms m []) (well-nonempty ms well m l) λ j c.
+  -- a macro of the book writes something, at any depth greater than its le16
+  expandTo-nonempty : (d m : ℕ) → m < d → m < length ms → 0 < length (expandTo d ms m)
+  unfolding expandTo
+  expandTo-nonempty zero m h l = absurd (omega arith)
+  expandTo-nonempty (suc d) m h l =
+      expand-nonempty (λ j. expandTo d ms j) (getD ms m []) (well-nonempty ms well m l) λ j c.
       let lower : j < m = calls-lower ms well c in
-      runTo-nonempty d j (omega arith) (omega arith)
+      expandTo-nonempty d j (omega arith) (omega arith)
 
-  -- so it has a run that is not empty
-  pub run-nonempty : (m : ℕ) → m < length ms → 0 < length (run ms m)
-  unfolding run
-  run-nonempty m h = runTo-nonempty (suc m) m (omega arith) h
+  -- so it has a expansion that is not empty
+  pub expansion-nonempty : (m : ℕ) → m < length ms → 0 < length (expansion ms m)
+  unfolding expansion
+  expansion-nonempty m h = expandTo-nonempty (suc m) m (omega arith) h
 
-  -- to any depth, what is written are keys
-  runTo-keys : (d m k : ℕ) → List·Memᴰ k (runTo d ms m) → Keyed k
-  unfolding runTo
-  runTo-keys zero m k c = absurd (List·Memᴰ·not-nil c)
-  runTo-keys (suc d) m k c = written-keys (λ j. runTo d ms j) m (getD ms m []) (well-items ms well m) (λ j i s. runTo-keys d j i s) k c
+  -- to any depth, what is expand are keys
+  expandTo-keys : (d m k : ℕ) → List·Memᴰ k (expandTo d ms m) → Keyed k
+  unfolding expandTo
+  expandTo-keys zero m k c = absurd (List·Memᴰ·not-nil c)
+  expandTo-keys (suc d) m k c = expand-keys (λ j. expandTo d ms j) m (getD ms m []) (well-items ms well m) (λ j i s. expandTo-keys d j i s) k c
 
-  -- so a run holds keys alone
-  pub run-keys : (m k : ℕ) → List·Memᴰ k (run ms m) → (1 ≤ k) × (k ≤ 255)
-  unfolding run
-  run-keys m k c = runTo-keys (suc m) m k c
+  -- so a expansion holds keys alone
+  pub expansion-keys : (m k : ℕ) → List·Memᴰ k (expansion ms m) → (1 ≤ k) × (k ≤ 255)
+  unfolding expansion
+  expansion-keys m k c = expandTo-keys (suc m) m k c

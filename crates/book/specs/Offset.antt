@@ -14,9 +14,9 @@ starts at [] = at ∷ []
 starts at (m ∷ ms) = at ∷ starts (at + size m) ms
 
 -- where macro i starts in a book with these macros: the header has 7 bytes
-abbrev pub place : List Macro → ℕ → ℕ
-place ms i = getD (starts 7 ms) i 0
+abbrev pub offset : List Macro → ℕ → ℕ
+offset ms i = getD (starts 7 ms) i 0
 
 -- "The body of a macro, its items without the count, is answered as that part of the lent book."
 abbrev pub bodyPart : List ℕ → List Macro → ℕ → List ℕ
-bodyPart b ms m = take (2 * length (getD ms m [])) (drop (place ms m + 2) b)
+bodyPart b ms m = take (2 * length (getD ms m [])) (drop (offset ms m + 2) b)

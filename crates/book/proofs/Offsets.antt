@@ -13,9 +13,9 @@ use Rattle.refusal.specs.declared.Refusal.the-variants.{MalformedBody, InvalidK
 use Rattle.book.specs.declared.item.Item.{Item}
 use Rattle.book.specs.declared.item.Item.the-variants.{Key, Call}
 use Rattle.book.specs.declared.item.ItemRead.the-variants.{Found, Short}
-use Rattle.book.specs.Reading.{got, next, itemOf, itemsOf, number, judge, readItem, readItems, readMacro, readMacros, marked, readHeader, atEnd, readAll, readBook}
+use Rattle.book.specs.Reading.{got, next, itemOf, itemsOf, le16, checkItem, readItem, readItems, readMacro, readMacros, hasMagic, readHeader, atEnd, readAll, readBook}
 use Rattle.book.specs.Format.{Macro, soundItem}
-use Rattle.book.specs.Place.{size, starts, place, bodyPart}
+use Rattle.book.specs.Offset.{size, starts, offset, bodyPart}
 use Rattle.book.proofs.Header.{header-got}
 use Rattle.book.proofs.Readings.{clash, test-got, untest-got, next-got, more-got}
 use Rattle.book.proofs.Walks.{item-got}
@@ -33,45 +33,45 @@ items-got n (suc k) b rest is e =
     (rw same (ap suc long), rw count (last ∙ rw (there, drop-drop)), omega arith)
 
 -- what a macro that was read has: its count, from 1 to 64, and that many items
-pub macro-parts : (n : ℕ) (b rest : List ℕ) (m : Macro) → readMacro n b ≡ got m rest → (2 ≤ length b) × (1 ≤ number b) × (number b ≤ 64) × (readItems n (number b) (drop 2 b) ≡ got m rest)
+pub macro-parts : (n : ℕ) (b rest : List ℕ) (m : Macro) → readMacro n b ≡ got m rest → (2 ≤ length b) × (1 ≤ le16 b) × (le16 b ≤ 64) × (readItems n (le16 b) (drop 2 b) ≡ got m rest)
 unfolding readMacro
 macro-parts n b rest m e =
     let (two, f) = untest-got _ _ _ m rest e in
     let (both, items) = test-got _ _ _ m rest f in
-    let (low, high) = and-eq-true-iff (leb 1 (number b)) (leb (number b) 64) .0 both in
+    let (low, high) = and-eq-true-iff (leb 1 (le16 b)) (leb (le16 b) 64) .0 both in
     (ltb-false _ _ two, leb-true _ _ low, leb-true _ _ high, items)
 
 -- it took its size
 pub macro-got : (n : ℕ) (b rest : List ℕ) (m : Macro) → readMacro n b ≡ got m rest → (rest ≡ drop (size m) b) × (size m ≤ length b) × (length m ≤ 64)
 macro-got n b rest m e =
     let (two, low, high, items) = macro-parts n b rest m e in
-    let (count, last, fits) = items-got n (number b) (drop 2 b) rest m items in
-    let long : 2 * number b ≤ length b - 2 = rw length-drop at fits in
+    let (count, last, fits) = items-got n (le16 b) (drop 2 b) rest m items in
+    let long : 2 * le16 b ≤ length b - 2 = rw length-drop at fits in
     (last ∙ rw (drop-drop, count), omega arith, omega arith)
 
 -- an item that was read is what its two bytes say, and sound
-pub item-is : (n : ℕ) (b rest : List ℕ) (i : Item) → readItem n b ≡ got i rest → (itemOf (number b) ≡ i) × (soundItem n i ≡ true)
+pub item-is : (n : ℕ) (b rest : List ℕ) (i : Item) → readItem n b ≡ got i rest → (itemOf (le16 b) ≡ i) × (soundItem n i ≡ true)
 unfolding readItem soundItem
 item-is n b rest i e = long (ltb (length b) 2) e
   where
-    kind : (t : Bool) → ltb (number b) 256 ≡ t → judge n (Found (cond t (Key (number b)) (Call (number b - 256)))) (drop 2 b) ≡ got i rest → (cond t (Key (number b)) (Call (number b - 256)) ≡ i) × (soundItem n i ≡ true)
+    kind : (t : Bool) → ltb (le16 b) 256 ≡ t → checkItem n (Found (cond t (Key (le16 b)) (Call (le16 b - 256)))) (drop 2 b) ≡ got i rest → (cond t (Key (le16 b)) (Call (le16 b - 256)) ≡ i) × (soundItem n i ≡ true)
     kind true small f =
-        let (some, g) = untest-got (eqb (number b) 0) (got (Key (number b)) (drop 2 b)) InvalidKey i rest f in
-        let same : Key (number b) ≡ i = cc in
-        let low : 1 ≤ number b = omega (arith, eqb-false (number b) 0 some) in
-        let high : number b ≤ 255 = omega (arith, ltb-true (number b) 256 small) in
+        let (some, g) = untest-got (eqb (le16 b) 0) (got (Key (le16 b)) (drop 2 b)) InvalidKey i rest f in
+        let same : Key (le16 b) ≡ i = cc in
+        let low : 1 ≤ le16 b = omega (arith, eqb-false (le16 b) 0 some) in
+        let high : le16 b ≤ 255 = omega (arith, ltb-true (le16 b) 256 small) in
         (same, rw (← same, le-leb _ _ low, le-leb _ _ high))
     kind false large f =
-        let (lower, g) = test-got (ltb (number b - 256) n) (got (Call (number b - 256)) (drop 2 b)) ForwardReference i rest f in
-        let same : Call (number b - 256) ≡ i = cc in
+        let (lower, g) = test-got (ltb (le16 b - 256) n) (got (Call (le16 b - 256)) (drop 2 b)) ForwardReference i rest f in
+        let same : Call (le16 b - 256) ≡ i = cc in
         (same, rw (← same) lower)
 
-    long : (t : Bool) → judge n (cond t Short (Found (itemOf (number b)))) (drop 2 b) ≡ got i rest → (itemOf (number b) ≡ i) × (soundItem n i ≡ true)
+    long : (t : Bool) → checkItem n (cond t Short (Found (itemOf (le16 b)))) (drop 2 b) ≡ got i rest → (itemOf (le16 b) ≡ i) × (soundItem n i ≡ true)
     long true f = clash (cc)
-    long false f = kind (ltb (number b) 256) refl f
+    long false f = kind (ltb (le16 b) 256) refl f
 
 -- two bytes and others hold one item and others
-items-more : (k : ℕ) (b : List ℕ) → 2 ≤ length b → itemsOf (take (2 * suc k) b) ≡ itemOf (number b) ∷ itemsOf (take (2 * k) (drop 2 b))
+items-more : (k : ℕ) (b : List ℕ) → 2 ≤ length b → itemsOf (take (2 * suc k) b) ≡ itemOf (le16 b) ∷ itemsOf (take (2 * k) (drop 2 b))
 unfolding itemsOf
 items-more k [] h = absurd (omega arith)
 items-more k (x ∷ []) h = absurd (omega arith)
@@ -91,8 +91,8 @@ items-body n (suc k) b rest is e =
 pub macro-body : (n : ℕ) (b rest : List ℕ) (m : Macro) → readMacro n b ≡ got m rest → itemsOf (take (2 * length m) (drop 2 b)) ≡ m
 macro-body n b rest m e =
     let (two, low, high, items) = macro-parts n b rest m e in
-    let (count, last, fits) = items-got n (number b) (drop 2 b) rest m items in
-    rw count (items-body n (number b) (drop 2 b) rest m items)
+    let (count, last, fits) = items-got n (le16 b) (drop 2 b) rest m items in
+    rw count (items-body n (le16 b) (drop 2 b) rest m items)
 
 -- the first macro starts where the macros do
 pub starts-first : (at : ℕ) (ms : List Macro) → getD (starts at ms) 0 0 ≡ at
@@ -100,7 +100,7 @@ unfolding starts
 starts-first at [] = refl
 starts-first at (m ∷ ms) = refl
 
--- there is one place more than there are macros
+-- there is one offset more than there are macros
 pub starts-length : (at : ℕ) (ms : List Macro) → length (starts at ms) ≡ length ms + 1
 unfolding starts
 starts-length at [] = refl
@@ -128,7 +128,7 @@ macros-step s n k at ms rest e =
     let behind : mid ≡ drop (at + size m) s = there ∙ drop-drop (size m) at s in
     (m, ns, same, rw (← behind) one, rw length-drop at fits, rw (← behind) others)
 
--- each macro that was read was read at its place, and ended at the next one's
+-- each macro that was read was read at its offset, and ended at the next one's
 pub macros-at : (s : List ℕ) (n k at : ℕ) (ms : List Macro) (rest : List ℕ) → readMacros n k (drop at s) ≡ got ms rest → (i : ℕ) → i < length ms → readMacro (n + i) (drop (getD (starts at ms) i 0) s) ≡ got (getD ms i []) (drop (getD (starts at ms) (i + 1) 0) s)
 unfolding readMacros starts
 macros-at s n zero at ms rest e i h = let none : ms ≡ [] = cc in absurd (omega (arith, ap length none))
@@ -152,9 +152,9 @@ macros-got s n (suc k) at ms rest h e =
 -- what a book that was read has: its header, and its macros up to the end
 pub record Whole (b : List ℕ) (ms : List Macro) (rest : List ℕ) : Type 0 where
   pub long : 7 ≤ length b
-  pub mark : marked b ≡ true
-  pub version : number (drop 3 b) ≡ 1
-  pub count : number (drop 5 b) ≡ length ms
+  pub magic : hasMagic b ≡ true
+  pub version : le16 (drop 3 b) ≡ 1
+  pub count : le16 (drop 5 b) ≡ length ms
   pub some : 1 ≤ length ms
   pub few : length ms ≤ 1024
   pub macros : readMacros 0 (length ms) (drop 7 b) ≡ got ms []
@@ -166,7 +166,7 @@ unfolding readBook readAll
 whole b ms rest e =
     let (k, mid, head, e1) = next-got (readHeader b) (λ k. readAll k) ms rest e in
     let (ns, left, all, e2) = next-got (readMacros 0 k mid) (λ ns. atEnd ns) ms rest e1 in
-    let (long, mark, version, count, low, high, there) = header-got b k mid head in
+    let (long, magic, version, count, low, high, there) = header-got b k mid head in
     let (none, e3) = test-got (eqb (length left) 0) (got ns left) MalformedBody ms rest e2 in
     let same : ns ≡ ms = cc in
     let empty : left ≡ [] = drop-of-length-le left {i = 0} (omega (arith, eqb-true (length left) 0 none)) in
@@ -174,7 +174,7 @@ whole b ms rest e =
     let (size, last, end) = macros-got b 0 k 7 ms [] long read in
     record {
       long = long;
-      mark = mark;
+      magic = magic;
       version = version;
       count = cc;
       some = omega arith;
@@ -185,28 +185,28 @@ whole b ms rest e =
 
 module _ (b : List ℕ) (ms : List Macro) (rest : List ℕ) (e : readBook b ≡ got ms rest) where
   -- where a sound book ends, and how many macros it has
-  pub book-end : (place ms (length ms) ≡ length b) × (rest ≡ []) × (1 ≤ length ms) × (length ms ≤ 1024)
+  pub book-end : (offset ms (length ms) ≡ length b) × (rest ≡ []) × (1 ≤ length ms) × (length ms ≤ 1024)
   book-end =
       let w = whole b ms rest e in
       let (size, last, fits) = macros-got b 0 (length ms) 7 ms [] (w .long) (w .macros) in
-      let none : 0 ≡ length b - place ms (length ms) = ap length last ∙ length-drop (place ms (length ms)) b in
+      let none : 0 ≡ length b - offset ms (length ms) = ap length last ∙ length-drop (offset ms (length ms)) b in
       (omega arith, w .end, w .some, w .few)
 
   module _ (i : ℕ) (h : i < length ms) where
-    -- macro i was read at its place
-    pub book-at : readMacro i (drop (place ms i) b) ≡ got (getD ms i []) (drop (place ms (i + 1)) b)
+    -- macro i was read at its offset
+    pub book-at : readMacro i (drop (offset ms i) b) ≡ got (getD ms i []) (drop (offset ms (i + 1)) b)
     book-at =
         let w = whole b ms rest e in
         rw zero-add at (macros-at b 0 (length ms) 7 ms [] (w .macros) i h)
 
     -- it ends where the next one starts, inside the book
-    pub book-places : (place ms (i + 1) ≡ place ms i + size (getD ms i [])) × (place ms (i + 1) ≤ length b)
-    book-places =
-        let next : place ms (i + 1) ≡ place ms i + size (getD ms i []) = starts-next 7 ms i h in
-        let (there, fits, few) = macro-got i (drop (place ms i) b) (drop (place ms (i + 1)) b) (getD ms i []) book-at in
-        let room : size (getD ms i []) ≤ length b - place ms i = rw length-drop at fits in
+    pub book-offsets : (offset ms (i + 1) ≡ offset ms i + size (getD ms i [])) × (offset ms (i + 1) ≤ length b)
+    book-offsets =
+        let next : offset ms (i + 1) ≡ offset ms i + size (getD ms i []) = starts-next 7 ms i h in
+        let (there, fits, few) = macro-got i (drop (offset ms i) b) (drop (offset ms (i + 1)) b) (getD ms i []) book-at in
+        let room : size (getD ms i []) ≤ length b - offset ms i = rw length-drop at fits in
         (next, omega arith)
 
     -- and its body holds its items
     pub book-body : itemsOf (bodyPart b ms i) ≡ getD ms i []
-    book-body = rw (← drop-drop 2 (place ms i) b) (macro-body i (drop (place ms i) b) (drop (place ms (i + 1)) b) (getD ms i []) book-at)
+    book-body = rw (← drop-drop 2 (offset ms i) b) (macro-body i (drop (offset ms i) b) (drop (offset ms (i + 1)) b) (getD ms i []) book-at)

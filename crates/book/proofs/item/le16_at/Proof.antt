@@ -1,9 +1,9 @@
--- `number_at`: two bytes, the low one first.
+-- `le16_at`: two bytes, the low one first.
 use denote.Ref.{now}
 use borrow.Author.Needs.{needs}
-use Rattle.book.proofs.Items.{number-bytes}
-use Rattle.book.proofs.item.number_at.Statement.{statement}
-use Rattle.book.proofs.item.number_at.Tie as tie
+use Rattle.book.proofs.Items.{le16-of-bytes}
+use Rattle.book.proofs.item.le16_at.Statement.{statement}
+use Rattle.book.proofs.item.le16_at.Tie as tie
 
 shared-slice-read-wide : tie.Need-shared-slice-read-wide
 shared-slice-read-wide c = search needs
@@ -29,10 +29,10 @@ add-result c = search needs
 returns : tie.Need-returns
 returns c =
     let a = c .before .before .before .before .before .args in
-    rw (c .before .before .wide .ensures .0, c .wide2 .ensures .0) (number-bytes (now (a .s)) (a .at))
+    rw (c .before .before .wide .ensures .0, c .wide2 .ensures .0) (le16-of-bytes (now (a .s)) (a .at))
 
-pub number-at-spec : {M : Type 1} → statement M
-number-at-spec =
+pub le16-at-spec : {M : Type 1} → statement M
+le16-at-spec =
     tie.close
     (tie.spec
     shared-slice-read-wide

@@ -1,8 +1,8 @@
--- `has_mark`: byte by byte.
+-- `has_magic`: byte by byte.
 use borrow.Author.Needs.{needs}
-use Rattle.book.proofs.Header.{mark-first, mark-second, mark-third}
-use Rattle.book.proofs.layout.has_mark.Statement.{statement}
-use Rattle.book.proofs.layout.has_mark.Tie as tie
+use Rattle.book.proofs.Header.{magic-first, magic-second, magic-third}
+use Rattle.book.proofs.layout.has_magic.Statement.{statement}
+use Rattle.book.proofs.layout.has_magic.Tie as tie
 
 shared-slice-read-if1 : tie.Need-shared-slice-read-if1
 shared-slice-read-if1 c = search needs
@@ -11,7 +11,7 @@ array-read-if1 : tie.Need-array-read-if1
 array-read-if1 c = search needs
 
 returns : tie.Need-returns
-returns c = search mark-first
+returns c = search magic-first
 
 shared-slice-read-if2 : tie.Need-shared-slice-read-if2
 shared-slice-read-if2 c = search needs
@@ -20,7 +20,7 @@ array-read-if2 : tie.Need-array-read-if2
 array-read-if2 c = search needs
 
 returns-2 : tie.Need-returns-2
-returns-2 c = search mark-second
+returns-2 c = search magic-second
 
 shared-slice-read-result : tie.Need-shared-slice-read-result
 shared-slice-read-result c = search needs
@@ -29,10 +29,10 @@ array-read-result : tie.Need-array-read-result
 array-read-result c = search needs
 
 returns-3 : tie.Need-returns-3
-returns-3 c = search mark-third
+returns-3 c = search magic-third
 
-pub has-mark-spec : {M : Type 1} → statement M
-has-mark-spec =
+pub has-magic-spec : {M : Type 1} → statement M
+has-magic-spec =
     tie.close
     (tie.spec
     shared-slice-read-if1
