@@ -14,7 +14,8 @@ use Rattle.book.specs.Format.{Macro}
 use Rattle.book.specs.Offset.{bodyPart, offset}
 use Rattle.book.specs.Reading.{Reading, got, refused, readBook, macrosIn}
 use Rattle.book.specs.Reach.{ReachList}
-use Rattle.book.specs.Answer.{Located, ReachAnswer, accepted, refusedFor, layoutFor, requireMacro, requireEntries, bodyOf, bodyAt, refusalOf}
+use Rattle.book.specs.Answer.{ReachAnswer, accepted, refusedFor, layoutFor, requireMacro, requireEntries, bodyOf, bodyAt, refusalOf}
+use Rattle.book.specs.Steps.{Located}
 use Rattle.book.proofs.Readings.{clash}
 
 -- the answer of a layout says how the book was read

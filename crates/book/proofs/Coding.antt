@@ -12,7 +12,7 @@ use borrow.Author.Tests.{ltb-true, ltb-false, leb-true, eqb-true, lt-ltb, le-ltb
 use Rattle.book.specs.declared.item.Item.{Item}
 use Rattle.book.specs.declared.item.Item.the-variants.{Key, Call}
 use Rattle.book.specs.Reading.{got, itemOf, le16, readItem, readItems, readMacro, readMacros, hasMagic, readHeader, readAll, readBook}
-use Rattle.book.specs.Format.{Macro, Bytes, le16Bytes, code, magic, encodeItems, encodeMacros, encode, soundItem, soundItems, soundMacro, soundMacros, wellFormed}
+use Rattle.book.specs.Format.{Sound, Macro, Bytes, le16Bytes, code, magic, encodeItems, encodeMacros, encode, soundItem, soundItems, soundMacro, soundMacros, wellFormed}
 use Rattle.book.specs.Offset.{size, offset, bodyPart}
 use Rattle.book.proofs.Readings.{more-got}
 use Rattle.book.proofs.Walks.{item-got}
@@ -53,7 +53,7 @@ read-well b ms rest e =
 bytes-drop : (k : ℕ) (b : List ℕ) → Bytes b → Bytes (drop k b)
 bytes-drop k b h i = rw getD-drop (h (k + i))
 
--- the le16 at the front of some bytes, written again
+-- the number at the front of some bytes, written again
 word-number : (b : List ℕ) → Bytes b → 2 ≤ length b → le16Bytes (le16 b) ++ drop 2 b ≡ b
 word-number [] h l = absurd (omega arith)
 word-number (x ∷ []) h l = absurd (omega arith)
@@ -69,7 +69,7 @@ word-at b h k l =
     let two : 2 ≤ length (drop k b) = rw length-drop (omega arith) in
     rw (← drop-drop 2 k b) (sym (word-number (drop k b) (bytes-drop k b h) two))
 
--- an item's code is the le16 that it was read from
+-- an item's code is the number that it was read from
 code-item : (c : ℕ) → code (itemOf c) ≡ c
 code-item c = go (ltb c 256) refl
   where
@@ -104,7 +104,7 @@ macros-encode n (suc k) b rest ms h e =
     let byte : Bytes mid = rw (macro-got n b mid m one .0) (bytes-drop (size m) b h) in
     rw (same, append-assoc (encodeItems m) (encodeMacros ns) rest, macros-encode (suc n) k mid rest ns byte others) (macro-encode n b mid m h one)
 
--- the magic is the first three bytes
+-- the mark is the first three bytes
 mark-front : (b : List ℕ) → 3 ≤ length b → hasMagic b ≡ true → b ≡ magic ++ drop 3 b
 mark-front [] l h = absurd (omega arith)
 mark-front (x ∷ []) l h = absurd (omega arith)
@@ -188,6 +188,10 @@ encode-read ms h =
 pub sound-iff : (b : List ℕ) → Bytes b → (ms : List Macro) → (readBook b ≡ got ms []) ↔ ((wellFormed ms ≡ true) × (b ≡ encode ms))
 sound-iff b h ms = (λ e. (read-well b ms [] e, read-encode b h ms [] e), λ (w, e). rw e (encode-read ms w))
 
+-- so the check accepts a book exactly if it is sound
+pub sound-accepted : (b : List ℕ) → Bytes b → Sound b ↔ ((ms : List Macro) × (readBook b ≡ got ms []))
+sound-accepted b h = (λ (ms, w, e). (ms, sound-iff b h ms .1 (w, e)), λ (ms, e). (ms, sound-iff b h ms .0 e .0, sound-iff b h ms .0 e .1))
+
 -- an encoding has one reading
 pub one-reading : (ms ns : List Macro) → wellFormed ms ≡ true → wellFormed ns ≡ true → encode ms ≡ encode ns → ms ≡ ns
 one-reading ms ns h g e = cc (encode-read ms h, encode-read ns g)
@@ -197,15 +201,15 @@ bytes-more : (x : ℕ) (b : List ℕ) → x < 256 → Bytes b → Bytes (x ∷ b
 bytes-more x b l h zero = l
 bytes-more x b l h (suc i) = h i
 
--- and so are a le16 below 65,536 and some bytes
+-- and so are a number below 65,536 and some bytes
 bytes-word : (n : ℕ) (b : List ℕ) → n < 65536 → Bytes b → Bytes (le16Bytes n ++ b)
 bytes-word n b l h = bytes-more (n % 256) (n / 256 ∷ b) (omega arith) (bytes-more (n / 256) b (omega arith) h)
 
--- and the magic and some bytes
+-- and the mark and some bytes
 bytes-mark : (b : List ℕ) → Bytes b → Bytes (magic ++ b)
 bytes-mark b h = bytes-more 0x4D (0x42 ∷ 0x4B ∷ b) (omega arith) (bytes-more 0x42 (0x4B ∷ b) (omega arith) (bytes-more 0x4B b (omega arith) h))
 
--- the code of a sound item is below 65,536, as a macro has a le16 of at most 1,024
+-- the code of a sound item is below 65,536, as a macro has a number of at most 1,024
 code-small : (n : ℕ) (i : Item) → n ≤ 1024 → soundItem n i ≡ true → code i < 65536
 unfolding soundItem
 code-small n (Key k) l h = omega (arith, leb-true k 255 (and-eq-true-iff (leb 1 k) (leb k 255) .0 h .1))

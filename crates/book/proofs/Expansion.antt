@@ -1,4 +1,4 @@
--- Laws of a macro's expand-out expansion.
+-- Laws of a macro's written-out run.
 use Prim.Native.Nat.{ℕ, zero, suc, _+_, _<_, _≤_}
 use native.Mathlib.Nat.{add-zero, add-suc, suc-add, zero-add}
 use native.Mathlib.Omega.{arith}
@@ -30,7 +30,7 @@ macros-parts n m ms h =
     let q = macro-parts n m (p .0) in
     (q .0, q .1, p .1)
 
--- the items at offset i of a sound list that starts at le16 n are sound for macro n + i; where the list has ended there are none
+-- the items at place i of a sound list that starts at number n are sound for macro n + i; where the list has ended there are none
 pub sound-items : (ms : List Macro) (n : ℕ) → soundMacros n ms ≡ true → (i : ℕ) → soundItems (n + i) (getD ms i []) ≡ true
 unfolding soundItems
 sound-items [] n h i = refl
@@ -77,14 +77,14 @@ call-lower {n} {j} (i ∷ is) h c =
 pub calls-lower : (ms : List Macro) → wellFormed ms ≡ true → {m j : ℕ} → Calls ms m j → j < m
 calls-lower ms well {m} c = call-lower (getD ms m []) (well-items ms well m) c
 
--- what is expand is the same where the called runs are
+-- what is written is the same where the called runs are
 pub expand-same : (f g : ℕ → List ℕ) (is : List Item) → ((j : ℕ) → List·Memᴰ (Call j) is → f j ≡ g j) → expand f is ≡ expand g is
 unfolding expand
 expand-same f g [] e = refl
 expand-same f g (Key k ∷ is) e = ap (λ (l : List ℕ). k ∷ l) (expand-same f g is (λ j c. e j (List·Memᴰ·tail c)))
 expand-same f g (Call i ∷ is) e = rw (e i (List·Memᴰ·head refl), expand-same f g is (λ j c. e j (List·Memᴰ·tail c)))
 
--- something is expand if there is an item, and each called expansion is not empty
+-- something is written if there is an item, and each called run is not empty
 expand-nonempty : (f : ℕ → List ℕ) (is : List Item) → 1 ≤ length is → ((j : ℕ) → List·Memᴰ (Call j) is → 0 < length (f j)) → 0 < length (expand f is)
 unfolding expand
 expand-nonempty f [] h e = absurd (omega arith)
@@ -107,7 +107,7 @@ expand-keys f n (Call j ∷ is) h e k c =
     ⊎-elim (e j k) (λ d. expand-keys f n is (items-parts n (Call j) is h .1) e k d) (List·Memᴰ·append-cases (f j) c)
 
 module _ (ms : List Macro) (well : wellFormed ms ≡ true) where
-  -- the depth is no matter where it is greater than the macro's le16
+  -- the depth is no matter where it is greater than the macro's number
   expandTo-agree : (d e m : ℕ) → m < d → m < e → expandTo d ms m ≡ expandTo e ms m
   unfolding expandTo
   expandTo-agree zero e m p q = absurd (omega arith)
@@ -117,7 +117,7 @@ module _ (ms : List Macro) (well : wellFormed ms ≡ true) where
       let lower : j < m = calls-lower ms well c in
       expandTo-agree d e j (omega arith) (omega arith)
 
-  -- "The expansion of a macro, expand out, is its items in order, each call replaced by the called macro's expand-out expansion."
+  -- "The run of a macro, written out, is its items in order, each call replaced by the called macro's written-out run."
   pub expansion-law : (m : ℕ) → expansion ms m ≡ expand (λ j. expansion ms j) (getD ms m [])
   unfolding expansion expandTo
   expansion-law m =
@@ -125,7 +125,7 @@ module _ (ms : List Macro) (well : wellFormed ms ≡ true) where
       let lower : j < m = calls-lower ms well c in
       expandTo-agree m (suc j) j (omega arith) (omega arith)
 
-  -- a macro of the book writes something, at any depth greater than its le16
+  -- a macro of the book writes something, at any depth greater than its number
   expandTo-nonempty : (d m : ℕ) → m < d → m < length ms → 0 < length (expandTo d ms m)
   unfolding expandTo
   expandTo-nonempty zero m h l = absurd (omega arith)
@@ -134,18 +134,18 @@ module _ (ms : List Macro) (well : wellFormed ms ≡ true) where
       let lower : j < m = calls-lower ms well c in
       expandTo-nonempty d j (omega arith) (omega arith)
 
-  -- so it has a expansion that is not empty
+  -- so it has a run that is not empty
   pub expansion-nonempty : (m : ℕ) → m < length ms → 0 < length (expansion ms m)
   unfolding expansion
   expansion-nonempty m h = expandTo-nonempty (suc m) m (omega arith) h
 
-  -- to any depth, what is expand are keys
+  -- to any depth, what is written are keys
   expandTo-keys : (d m k : ℕ) → List·Memᴰ k (expandTo d ms m) → Keyed k
   unfolding expandTo
   expandTo-keys zero m k c = absurd (List·Memᴰ·not-nil c)
   expandTo-keys (suc d) m k c = expand-keys (λ j. expandTo d ms j) m (getD ms m []) (well-items ms well m) (λ j i s. expandTo-keys d j i s) k c
 
-  -- so a expansion holds keys alone
+  -- so a run holds keys alone
   pub expansion-keys : (m k : ℕ) → List·Memᴰ k (expansion ms m) → (1 ≤ k) × (k ≤ 255)
   unfolding expansion
   expansion-keys m k c = expandTo-keys (suc m) m k c

@@ -11,7 +11,7 @@ use Rattle.refusal.specs.declared.Refusal.{Refusal}
 use Rattle.refusal.specs.declared.Refusal.the-variants.{BadMagic, UnsupportedVersion, BadMacroCount}
 use Rattle.book.specs.declared.layout.Header.{Header}
 use Rattle.book.specs.Reading.{Reading, got, refused, hasMagic, le16, readHeader}
-use Rattle.book.specs.Answer.{headerOf}
+use Rattle.book.specs.Steps.{headerOf}
 use Rattle.book.proofs.Readings.{clash, test-got, same-got}
 
 module _ (s : List ℕ) where

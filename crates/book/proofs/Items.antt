@@ -1,4 +1,4 @@
--- The item at a offset of some bytes.
+-- The item at a place of some bytes.
 use Prim.Native.Nat.{ℕ, suc, _+_, _-_, _*_, _<_, _≤_}
 use native.Mathlib.Omega.{arith}
 use mathlib.Core.Path.{_≡_, refl, sym, _∙_}
@@ -46,7 +46,7 @@ item-key k h = simp (lt-ltb _ _ h)
 pub item-call : (k : ℕ) → 256 ≤ k → Call (k - 256) ≡ itemOf k
 item-call k h = simp (le-ltb _ _ h)
 
--- the items from a offset on: the one there and those after it, or none
+-- the items from a place on: the one there and those after it, or none
 items-of-long : (b : List ℕ) → 2 ≤ length b → itemsOf b ≡ itemOf (le16 b) ∷ itemsOf (drop 2 b)
 unfolding itemsOf
 items-of-long [] h = absurd (none h)

@@ -16,7 +16,8 @@ use Rattle.book.specs.declared.layout.Walk.{Walk}
 use Rattle.book.specs.Format.{Macro}
 use Rattle.book.specs.Offset.{size, starts}
 use Rattle.book.specs.Reading.{Reading, got, refused, next, done, readHeader, readMacro, readMacros, readAll, readBook}
-use Rattle.book.specs.Answer.{walkOf, headerOf, layoutFor, checkResult, checkedFigures}
+use Rattle.book.specs.Answer.{layoutFor, checkResult, checkedFigures}
+use Rattle.book.specs.Steps.{walkOf, headerOf}
 use Rattle.book.proofs.Header.{header-got, headed-macros, headed-refused}
 use Rattle.book.proofs.Offsets.{macro-got, starts-length, starts-more}
 use Rattle.book.proofs.Walks.{walked-refused, walked-at}

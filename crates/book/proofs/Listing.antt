@@ -10,9 +10,9 @@ use mathlib.Core.List.{List, [], _∷_, _++_}
 use lib.ListN.{length, drop, getD, set, replicate, length-set, length-append, length-drop, length-replicate}
 use lib.Seq.{getD-set-same, set-at, drop-cons, append-snoc}
 use Rattle.book.specs.Format.{Macro, wellFormed}
-use Rattle.book.specs.Reach.{Calls, Reaches, itself, reaches, markCalls, ReachList}
+use Rattle.book.specs.Reach.{Calls, Reaches, itself, reaches, ReachList}
+use Rattle.book.specs.Steps.{markCalls, Located}
 use Rattle.book.specs.Reading.{Reading, got, refused, readBook, macrosIn}
-use Rattle.book.specs.Answer.{Located}
 use Rattle.book.proofs.Coding.{read-well}
 use Rattle.book.proofs.Readings.{clash}
 use Rattle.book.proofs.Marks.{marks-length, marks-stay, marks-calls, marks-from, set-from}
@@ -159,7 +159,7 @@ module _ (ms : List Macro) (m : ℕ) where
           let f : n ≤ m + 1 - i = few-listed in
           reach-listed ms well m before list n (rw all at (l .count)) (rw all at (l .front)) (omega arith)
 
--- a sound book's macros are well formed, and its offsets serve every macro up to m
+-- a sound book's macros are well formed, and its places serve every macro up to m
 pub located-well : (b offsets : List ℕ) (i : ℕ) → Located b offsets i → wellFormed (macrosIn b) ≡ true
 located-well b offsets i l = go (readBook b) refl
   where

@@ -13,7 +13,7 @@ use Rattle.book.specs.declared.item.Item.the-variants.{Key, Call}
 use Rattle.book.specs.declared.item.ItemRead.{ItemRead}
 use Rattle.book.specs.declared.item.ItemRead.the-variants.{Found, Short}
 use Rattle.book.specs.Reading.{itemAt, itemsOf}
-use Rattle.book.specs.Reach.{markItem, markCalls}
+use Rattle.book.specs.Steps.{markItem, markCalls}
 use Rattle.book.proofs.Items.{items-on-found, items-on-short, items-end}
 
 module _ (i : Item) (marks : List Bool) where
@@ -23,7 +23,7 @@ module _ (i : Item) (marks : List Bool) where
   pub mark-high : (j : ℕ) → i ≡ Call j → 1024 ≤ j → marks ≡ markItem i marks
   mark-high j e h = rw (e, le-ltb _ _ h)
 
--- a body from a offset on: what its items mark
+-- a body from a place on: what its items mark
 module _ (s : List ℕ) (at : ℕ) (marks whole : List Bool) (inv : markCalls (itemsOf (drop at s)) marks ≡ whole) where
   pub marks-end : length s ≤ at → marks ≡ whole
   unfolding markCalls
@@ -79,7 +79,7 @@ module _ (marks : List Bool) where
       go true g = ⊎-elim (λ e. inl e) (λ e. inr (ap Call e)) (set-from marks i j g)
       go false g = inl g
 
--- some items: marks stay, calls are hasMagic, and nothing else is
+-- some items: marks stay, calls are marked, and nothing else is
 pub marks-length : (is : List Item) (marks : List Bool) → length (markCalls is marks) ≡ length marks
 unfolding markCalls
 marks-length [] marks = refl

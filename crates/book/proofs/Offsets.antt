@@ -100,7 +100,7 @@ unfolding starts
 starts-first at [] = refl
 starts-first at (m ∷ ms) = refl
 
--- there is one offset more than there are macros
+-- there is one place more than there are macros
 pub starts-length : (at : ℕ) (ms : List Macro) → length (starts at ms) ≡ length ms + 1
 unfolding starts
 starts-length at [] = refl
@@ -128,7 +128,7 @@ macros-step s n k at ms rest e =
     let behind : mid ≡ drop (at + size m) s = there ∙ drop-drop (size m) at s in
     (m, ns, same, rw (← behind) one, rw length-drop at fits, rw (← behind) others)
 
--- each macro that was read was read at its offset, and ended at the next one's
+-- each macro that was read was read at its place, and ended at the next one's
 pub macros-at : (s : List ℕ) (n k at : ℕ) (ms : List Macro) (rest : List ℕ) → readMacros n k (drop at s) ≡ got ms rest → (i : ℕ) → i < length ms → readMacro (n + i) (drop (getD (starts at ms) i 0) s) ≡ got (getD ms i []) (drop (getD (starts at ms) (i + 1) 0) s)
 unfolding readMacros starts
 macros-at s n zero at ms rest e i h = let none : ms ≡ [] = cc in absurd (omega (arith, ap length none))
@@ -193,7 +193,7 @@ module _ (b : List ℕ) (ms : List Macro) (rest : List ℕ) (e : readBook b ≡ 
       (omega arith, w .end, w .some, w .few)
 
   module _ (i : ℕ) (h : i < length ms) where
-    -- macro i was read at its offset
+    -- macro i was read at its place
     pub book-at : readMacro i (drop (offset ms i) b) ≡ got (getD ms i []) (drop (offset ms (i + 1)) b)
     book-at =
         let w = whole b ms rest e in

@@ -7,10 +7,10 @@ use lib.ListN.{length, getD, take, drop, replicate, List·getD-append}
 use Rattle.book.specs.Format.{Macro}
 use Rattle.book.specs.Offset.{size, starts, offset, bodyPart}
 use Rattle.book.specs.Reading.{Reading, got, refused, readBook, macrosIn, itemsOf}
-use Rattle.book.specs.Answer.{Located}
+use Rattle.book.specs.Steps.{Located}
 use Rattle.book.proofs.Offsets.{starts-length, book-offsets, book-body, book-end}
 
--- what the offsets say of macro i of a book
+-- what the places say of macro i of a book
 pub record PartOffsets (b offsets : List ℕ) (i : ℕ) : Type 0 where
   pub few : i < 1024
   pub from : getD offsets i 0 ≡ offset (macrosIn b) i

@@ -4,7 +4,7 @@ use native.Mathlib.Nat.{zero-add, sub-zero, eq-or-lt-of-le}
 use native.Mathlib.Omega.{arith}
 use native.Mathlib.Numerals.{add-one}
 use mathlib.Core.Path.{_≡_, refl, sym, ap, _∙_}
-use mathlib.Core.Logic.{_⊎_, inl, inr, ⊎-elim}
+use mathlib.Core.Logic.{_↔_, _⊎_, inl, inr, ⊎-elim}
 use mathlib.Core.Bool.{Bool, true, false, _||_, cond, or-true, false≢true}
 use mathlib.Core.List.{List, [], _∷_, _++_, List·Memᴰ, List·Memᴰ·head, List·Memᴰ·tail, List·Memᴰ·not-nil, List·Memᴰ·cases-cons, append-nil}
 use lib.Dec.{eqb}
@@ -105,7 +105,7 @@ expandTo-alike ms ns (suc d) m e =
     expand-same (λ j. expandTo d ms j) (λ j. expandTo d ns j) (getD ms m []) (λ j c. expandTo-alike ms ns d j (λ k r. e k (through c r)))
     ∙ ap (expand (λ j. expandTo d ns j)) (e m itself .same)
 
--- so its whole expansion is the same
+-- so its whole run is the same
 pub expansion-alike : (ms ns : List Macro) (m : ℕ) → ((j : ℕ) → Reaches ms m j → Alike ms ns j) → expansion ms m ≡ expansion ns m
 unfolding expansion
 expansion-alike ms ns m e = expandTo-alike ms ns (suc m) m e
@@ -128,7 +128,7 @@ module _ (p : ℕ → Bool) (m : ℕ) where
   unfolding down
   down-none = refl
 
-  -- one le16 more is put at the end if it has p
+  -- one number more is put at the end if it has p
   pub down-in : (k : ℕ) → p (m - k) ≡ true → down p m (k + 1) ≡ down p m k ++ ((m - k) ∷ [])
   unfolding down
   down-in k e = rw (add-one, down, e)
@@ -138,7 +138,7 @@ module _ (p : ℕ → Bool) (m : ℕ) where
   unfolding down
   down-out k e = rw (add-one, down, e) (append-nil (down p m k))
 
-  -- so what holds of both lists holds with one le16 more
+  -- so what holds of both lists holds with one number more
   down-case : (Q : List ℕ → Type 0) (k : ℕ) → (p (m - k) ≡ true → Q (down p m k ++ ((m - k) ∷ []))) → (p (m - k) ≡ false → Q (down p m k)) → Q (down p m (suc k))
   down-case Q k f g = go (p (m - k)) refl
     where
@@ -174,7 +174,7 @@ module _ (p : ℕ → Bool) (m : ℕ) where
       (λ e. simp length-append (omega (arith, down-short k)))
       (λ e. omega (arith, down-short k))
 
-  -- each listed le16 has p, and is one of the k highest
+  -- each listed number has p, and is one of the k highest
   pub down-only : (k e : ℕ) → k ≤ m + 1 → e < length (down p m k) → (p (getD (down p m k) e 0) ≡ true) × (m < getD (down p m k) e 0 + k) × (getD (down p m k) e 0 ≤ m)
   unfolding down
   down-only zero e h l = absurd (omega arith)
@@ -220,7 +220,7 @@ module _ (p : ℕ → Bool) (m : ℕ) where
       let g : ¬ (e < d) = λ l. omega (arith, down-falls k e d h l a) in
       omega arith
 
--- the numbers that m reaches, expand from m down over the front of a list, are the reach list of m
+-- the numbers that m reaches, written from m down over the front of a list, are the reach list of m
 pub reach-listed : (ms : List Macro) → wellFormed ms ≡ true → (m : ℕ) (before after : List ℕ) (n : ℕ) → n ≡ length (down (λ j. reaches ms m j) m (m + 1)) → after ≡ down (λ j. reaches ms m j) m (m + 1) ++ drop n before → n ≤ length before → ReachList ms m n before after
 unfolding reachCount
 reach-listed ms well m before after n long made room =
@@ -242,3 +242,7 @@ reach-listed ms well m before after n long made room =
 
     at : (e : ℕ) → e < n → getD after e 0 ≡ getD list e 0
     at e l = rw made (List·getD-append list (drop n before) 0 e (omega arith))
+
+-- the test says just what the relation says
+pub reaches-iff : (ms : List Macro) → wellFormed ms ≡ true → (m j : ℕ) → (reaches ms m j ≡ true) ↔ Reaches ms m j
+reaches-iff ms well m j = (reaches-sound ms m j, λ r. reaches-complete ms well r)

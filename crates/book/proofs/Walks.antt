@@ -18,7 +18,7 @@ use Rattle.book.specs.declared.layout.Walk.{Walk}
 use Rattle.book.specs.declared.layout.Walk.the-variants.{At, Refused}
 use Rattle.book.specs.Reading.{Reading, got, refused, next, done, itemAt, le16, checkItem, readItem, readItems, readMacro}
 use Rattle.book.specs.Format.{Macro}
-use Rattle.book.specs.Answer.{walkOf}
+use Rattle.book.specs.Steps.{walkOf}
 use Rattle.book.proofs.Items.{found-long}
 use Rattle.book.proofs.Readings.{clash}
 

@@ -1,5 +1,5 @@
 -- What each operation of the book answers, by the definitions of the book.
-use Prim.Native.Nat.{ℕ, _+_, _-_, _<_}
+use Prim.Native.Nat.{ℕ, _+_, _-_}
 use mathlib.Core.Path.{_≡_}
 use mathlib.Core.Bool.{cond}
 use mathlib.Core.List.{List, [], _++_}
@@ -9,14 +9,12 @@ use Rattle.refusal.specs.declared.Refusal.{Refusal}
 use Rattle.refusal.specs.declared.Refusal.the-variants.{NoSuchMacro, InsufficientSpace}
 use Rattle.refusal.specs.Number as Number
 use Rattle.book.specs.declared.layout.Checked.{Checked}
-use Rattle.book.specs.declared.layout.Header.{Header}
 use Rattle.book.specs.declared.layout.Layout.{Layout}
-use Rattle.book.specs.declared.layout.Walk.{Walk}
 use Rattle.book.specs.declared.reachable.Reached.{Reached}
 use Rattle.book.specs.Format.{Macro}
 use Rattle.book.specs.Offset.{starts, bodyPart, offset}
 use Rattle.book.specs.Reach.{ReachList}
-use Rattle.book.specs.Reading.{Reading, Reader, got, refused, _>>=_, readBook, macrosIn}
+use Rattle.book.specs.Reading.{Reading, Reader, got, refused, _>>=_, readBook}
 
 -- The paper's figures for an answer: the refusal's number, 0 if accepted, and the one value. "A refusal's other numbers are 0"
 pub record Figures : Type 0 where
@@ -42,11 +40,6 @@ checkResult (refused r) = refusedFor r
 abbrev pub layoutFor : Reading (List Macro) → Layout
 layoutFor (got ms rest) = record { answer = Checked.Sound (length ms); offsets = starts 7 ms ++ replicate (1024 - length ms) 0 }
 layoutFor (refused r) = record { answer = Checked.Refused r; offsets = replicate 1025 0 }
-
--- the offsets of a book's layout, and a macro of the book
-pub record Located (b offsets : List ℕ) (i : ℕ) : Type 0 where
-  pub table : offsets ≡ (layoutFor (readBook b)) .offsets
-  pub inside : i < length (macrosIn b)
 
 -- 10 after 1 to 6: "m not below M"
 unfoldable pub requireMacro : ℕ → Reader (List Macro)
@@ -83,12 +76,3 @@ ReachAnswer (refused r) m f before after = (f ≡ refusedFor r) × (after ≡ be
 abbrev pub reachedFigures : Reached → Figures
 reachedFigures (Reached.Written n) = accepted n
 reachedFigures (Reached.Refused r) = refusedFor r
-
--- where reading goes on in a book of n bytes
-abbrev pub walkOf : {A : Type 0} → ℕ → Reading A → Walk
-walkOf n (got a rest) = Walk.At (n - length rest)
-walkOf n (refused r) = Walk.Refused r
-
-abbrev pub headerOf : Reading ℕ → Header
-headerOf (got k rest) = Header.Macros k
-headerOf (refused r) = Header.Refused r

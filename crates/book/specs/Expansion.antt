@@ -1,4 +1,4 @@
--- Document 01, "The book": the expand-out expansion of a macro.
+-- Document 01, "The book": the run of a macro, written out, here its expansion.
 use Prim.Native.Nat.{ℕ, zero, suc}
 use mathlib.Core.List.{List, [], _∷_, _++_}
 use lib.ListN.{getD}
@@ -6,21 +6,22 @@ use Rattle.book.specs.declared.item.Item.{Item}
 use Rattle.book.specs.declared.item.Item.the-variants.{Key, Call}
 use Rattle.book.specs.Format.{Macro}
 
--- a key is itself, a call is "replaced by the called macro's expand-out expansion"
+-- a key is itself, a call is "replaced by the called macro's written-out run", which `called` gives
 abbrev pub keysOf : (ℕ → List ℕ) → Item → List ℕ
-keysOf expansion (Key k) = k ∷ []
-keysOf expansion (Call j) = expansion j
+keysOf called (Key k) = k ∷ []
+keysOf called (Call j) = called j
 
--- "its items in order, each call replaced by the called macro's expand-out expansion"
+-- "its items in order, each call replaced by the called macro's written-out run"
 unfoldable pub expand : (ℕ → List ℕ) → Macro → List ℕ
-expand expansion [] = []
-expand expansion (i ∷ is) = keysOf expansion i ++ expand expansion is
+expand called [] = []
+expand called (i ∷ is) = keysOf called i ++ expand called is
 
 -- calls replaced down to depth d, and left out below that
 unfoldable pub expandTo : ℕ → List Macro → ℕ → List ℕ
 expandTo zero ms m = []
 expandTo (suc d) ms m = expand (λ j. expandTo d ms j) (getD ms m [])
 
--- the expansion of macro m; calls go to lower macros, so m of them, one inside the other, is the deepest there is
+-- The run of macro m, written out. In well-formed macros calls go to lower ones, so m calls, one inside the other, are the
+-- deepest there are, and none is left out.
 unfoldable pub expansion : List Macro → ℕ → List ℕ
 expansion ms m = expandTo (suc m) ms m

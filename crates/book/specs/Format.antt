@@ -1,5 +1,6 @@
 -- Document 01, "The book": the bytes of a book, and what makes one sound.
 use Prim.Native.Nat.{ℕ, suc, _+_, _/_, _%_, _<_}
+use mathlib.Core.Path.{_≡_}
 use mathlib.Core.Bool.{Bool, true, _&&_}
 use mathlib.Core.List.{List, [], _∷_, _++_}
 use lib.Dec.{leb, ltb}
@@ -11,7 +12,7 @@ use Rattle.book.specs.declared.item.Item.the-variants.{Key, Call}
 abbrev pub Macro : Type 0
 Macro = List Item
 
--- every le16 of the list is a byte
+-- every number of the list is a byte
 abbrev pub Bytes : List ℕ → Type 0
 Bytes b = (i : ℕ) → getD b i 0 < 256
 
@@ -34,7 +35,7 @@ unfoldable pub encodeMacros : List Macro → List ℕ
 encodeMacros [] = []
 encodeMacros (m ∷ ms) = le16Bytes (length m) ++ (encodeItems m ++ encodeMacros ms)
 
--- "The first three bytes are the magic `MBK` (hex 4D 42 4B)"
+-- "The first three bytes are the mark `MBK` (hex 4D 42 4B)"
 abbrev pub magic : List ℕ
 magic = 0x4D ∷ 0x42 ∷ 0x4B ∷ []
 
@@ -42,7 +43,7 @@ magic = 0x4D ∷ 0x42 ∷ 0x4B ∷ []
 unfoldable pub encode : List Macro → List ℕ
 encode ms = magic ++ (le16Bytes 1 ++ (le16Bytes (length ms) ++ encodeMacros ms))
 
--- the item of macro n is a key "from 1 to 255", or a call of macro j "and j is lower than the le16 of the macro it stands in"
+-- the item of macro n is a key "from 1 to 255", or a call of macro j "and j is lower than the number of the macro it stands in"
 unfoldable pub soundItem : ℕ → Item → Bool
 soundItem n (Key k) = leb 1 k && leb k 255
 soundItem n (Call j) = ltb j n
@@ -55,7 +56,7 @@ soundItems n (i ∷ is) = soundItem n i && soundItems n is
 unfoldable pub soundMacro : ℕ → Macro → Bool
 soundMacro n m = leb 1 (length m) && (leb (length m) 64 && soundItems n m)
 
--- the macros from le16 n on
+-- the macros from number n on
 unfoldable pub soundMacros : ℕ → List Macro → Bool
 soundMacros n [] = true
 soundMacros n (m ∷ ms) = soundMacro n m && soundMacros (suc n) ms
@@ -63,3 +64,7 @@ soundMacros n (m ∷ ms) = soundMacro n m && soundMacros (suc n) ms
 -- "a two-byte macro count M, 1 to 1,024. Then M macros, numbered from 0."
 unfoldable pub wellFormed : List Macro → Bool
 wellFormed ms = leb 1 (length ms) && (leb (length ms) 1024 && soundMacros 0 ms)
+
+-- "A book is sound if it keeps all that stands above"
+abbrev pub Sound : List ℕ → Type 0
+Sound b = (ms : List Macro) × (wellFormed ms ≡ true) × (b ≡ encode ms)

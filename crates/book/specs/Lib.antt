@@ -1,7 +1,9 @@
--- The macro book of document 01: its format, its reading, the written-out run, what a macro reaches, and what the operations answer.
+-- The macro book of document 01: its format, its reading, the expansion of a macro, what a macro reaches, what the operations
+-- answer, and what private functions promise each other.
 pub mod Format
 pub mod Reading
 pub mod Offset
 pub mod Expansion
 pub mod Reach
 pub mod Answer
+pub mod Steps

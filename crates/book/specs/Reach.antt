@@ -1,11 +1,10 @@
 -- Document 01, "The book": what a macro reaches, and books that are alike in a macro.
 use Prim.Native.Nat.{ℕ, zero, suc, _+_, _<_}
 use mathlib.Core.Path.{_≡_}
-use mathlib.Core.Bool.{Bool, true, false, _||_, cond}
+use mathlib.Core.Bool.{Bool, false, _||_, cond}
 use mathlib.Core.List.{List, [], _∷_, List·Memᴰ}
-use lib.Dec.{eqb, ltb}
-use lib.ListN.{length, getD, drop, set}
-use Rattle.book.specs.declared.item.Item.{Item}
+use lib.Dec.{eqb}
+use lib.ListN.{length, getD, drop}
 use Rattle.book.specs.declared.item.Item.the-variants.{Key, Call}
 use Rattle.book.specs.Format.{Macro}
 
@@ -18,7 +17,7 @@ pub data Reaches (ms : List Macro) : ℕ → ℕ → Type 0 where
   itself : {m : ℕ} → Reaches ms m m
   through : {m i j : ℕ} → Calls ms m i → Reaches ms i j → Reaches ms m j
 
--- "Two books are alike in a macro if both have one of that le16, with the same items in the same order."
+-- "Two books are alike in a macro if both have one of that number, with the same items in the same order."
 pub record Alike (ms ns : List Macro) (m : ℕ) : Type 0 where
   pub first : m < length ms
   pub second : m < length ns
@@ -34,7 +33,8 @@ unfoldable pub reachesTo : ℕ → List Macro → ℕ → ℕ → Bool
 reachesTo zero ms m j = false
 reachesTo (suc d) ms m j = eqb m j || anyCall (λ i. reachesTo d ms i j) (getD ms m [])
 
--- the same as a test; calls go to lower macros, so m of them, one after the other, are the most second are
+-- The same as a test, for well-formed macros: there calls go to lower ones, so m of them, one after the other, are the most
+-- there are (`reaches-iff`).
 unfoldable pub reaches : List Macro → ℕ → ℕ → Bool
 reaches ms m j = reachesTo (suc m) ms m j
 
@@ -55,13 +55,3 @@ pub record ReachList (ms : List Macro) (m written : ℕ) (before after : List �
   pub every : (j : ℕ) → Reaches ms m j → (e : ℕ) × (e < written) × (getD after e 0 ≡ j)
   pub once : (d e : ℕ) → d < written → e < written → getD after d 0 ≡ getD after e 0 → d ≡ e
   pub later : drop written after ≡ drop written before
-
--- 1,024 marks, one for each macro that a book can have, with that set which an item calls
-abbrev pub markItem : Item → List Bool → List Bool
-markItem (Key k) marks = marks
-markItem (Call j) marks = cond (ltb j 1024) (set marks j true) marks
-
--- the same for some items
-unfoldable pub markCalls : List Item → List Bool → List Bool
-markCalls [] marks = marks
-markCalls (i ∷ is) marks = markCalls is (markItem i marks)

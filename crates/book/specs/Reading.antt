@@ -74,7 +74,7 @@ readMacro n b =
     (cond (leb 1 (le16 b) && leb (le16 b) 64) (readItems n (le16 b) (drop 2 b))
     (refused MalformedBody))
 
--- k macros, from le16 n on
+-- k macros, from number n on
 unfoldable pub readMacros : ℕ → ℕ → Reader (List Macro)
 readMacros n zero = done []
 readMacros n (suc k) = do

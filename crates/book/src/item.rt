@@ -10,7 +10,7 @@ pub enum Item {
     Call(u16),
 }
 
-// What stands at a offset: an item, or fewer bytes than an item has.
+// What stands at a place: an item, or fewer bytes than an item has.
 pub enum ItemRead {
     Found(Item),
     Short,
@@ -22,7 +22,7 @@ fn wide(b: u8) -> u16
     b as u16
 }
 
-// The two-byte le16 at `at`, low byte first.
+// The two-byte number at `at`, low byte first.
 pub(crate) fn le16_at(s: &[u8], at: usize) -> u16
     requires { ⌜ at + 1 < length (now s) ⌝ }
     ensures { λ r. ⌜ r ≡ le16 (drop at (now (s .entry))) ⌝ }

@@ -1,4 +1,4 @@
-// The check of a whole book, in reading order (document 01, "Refused", 1 to 6), and the offsets of its macros.
+// The check of a whole book, in reading order (document 01, "Refused", 1 to 6), and the places of its macros.
 use crate::item::Item;
 use crate::item::ItemRead;
 use crate::item::le16_at;
@@ -9,11 +9,12 @@ ghost use Prim.Native.Nat.{_≤_, _+_};
 ghost use mathlib.Core.List.{_∷_};
 ghost use lib.ListN.{length, drop, replicate};
 ghost use Rattle.book.specs.Reading.{macrosIn, hasMagic, readAll, readBook, readHeader, readItem, readItems, readMacro, refused};
-ghost use Rattle.book.specs.Answer.{Located, headerOf, layoutFor, walkOf};
+ghost use Rattle.book.specs.Answer.{layoutFor};
+ghost use Rattle.book.specs.Steps.{Located, headerOf, walkOf};
 ghost use Rattle.book.specs.Offset.{bodyPart, offset};
 ghost use denote.Ref.{ptr};
 
-// The mark that a book begins with.
+// Document 01's mark, which a book begins with.
 const MAGIC: [u8; 3] = *b"MBK";
 
 // The macro count that a header gives, or why it is refused.
@@ -148,7 +149,7 @@ fn refused_layout(r: Refusal) -> Layout
     }
 }
 
-// The offsets before any macro was read: the first one follows the header.
+// The places before any macro was read: the first one follows the header.
 fn first_offset() -> [usize; 1025]
     ensures { λ r. ⌜ r ≡ 7 ∷ replicate 1024 0 ⌝ }
 {
@@ -186,7 +187,7 @@ fn layout_macros(s: &[u8], count: u16) -> Layout
     }
 }
 
-// One walk over the book: the check of each byte, and the offsets.
+// One walk over the book: the check of each byte, and the places.
 pub fn layout_of(book: &[u8]) -> Layout
     ensures { λ r. ⌜ r ≡ layoutFor (readBook (now (book .entry))) ⌝ }
 {
@@ -196,7 +197,7 @@ pub fn layout_of(book: &[u8]) -> Layout
     }
 }
 
-// The body of macro i, where the offsets are those of the book's layout.
+// The body of macro i, where the places are those of the book's layout.
 pub(crate) fn part_of<'a>(book: &'a [u8], offsets: &[usize; 1025], i: usize) -> &'a [u8]
     requires { ⌜ Located (now book) (now offsets) i ⌝ }
     ensures { λ r. ⌜ (now r ≡ bodyPart (now (book .entry)) (macrosIn (now (book .entry))) i) × (ptr r ≡ (ptr (book .entry) .0, offset (macrosIn (now (book .entry))) i + 2 + ptr (book .entry) .1)) ⌝ }

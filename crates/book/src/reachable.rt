@@ -11,8 +11,10 @@ ghost use Prim.Native.Nat.{_<_};
 ghost use mathlib.Core.Bool.{true, false};
 ghost use lib.ListN.{length, replicate, set};
 ghost use Rattle.book.specs.Reading.{itemsOf, macrosIn};
-ghost use Rattle.book.specs.Reach.{ReachList, markCalls, markItem};
-ghost use Rattle.book.specs.Answer.{Located, ReachAnswer, reachedFigures, requireEntries};
+ghost use Rattle.book.specs.Reach.{ReachList};
+ghost use Rattle.book.specs.Steps.{markCalls, markItem};
+ghost use Rattle.book.specs.Answer.{ReachAnswer, reachedFigures, requireEntries};
+ghost use Rattle.book.specs.Steps.{Located};
 
 // How many numbers were written, or why none was.
 pub enum Reached {

@@ -1,8 +1,5 @@
 -- Document 01, "Refused": the number of each refusal.
-use Prim.Native.Nat.{ℕ, _-_}
-use mathlib.Core.List.{List, [], _∷_}
-use mathlib.Core.Path.{_≡_, refl, ap, sym, _∙_}
-use lib.ListN.{getD}
+use Prim.Native.Nat.{ℕ}
 use Rattle.refusal.specs.declared.Refusal.{Refusal}
 use Rattle.refusal.specs.declared.Refusal.the-variants.{BadMagic, UnsupportedVersion, BadMacroCount, MalformedBody, InvalidKey, ForwardReference, PatternLength, PatternSyntax, TooManyAtoms, NoSuchMacro, InsufficientSpace, CountOverflow, ReportMismatch, InputTooLong}
 
@@ -22,32 +19,3 @@ number InsufficientSpace = 11
 number CountOverflow = 12
 number ReportMismatch = 13
 number InputTooLong = 14
-
--- the refusals in the order of their numbers
-table : List Refusal
-table =
-    BadMagic ∷ UnsupportedVersion ∷ BadMacroCount ∷ MalformedBody ∷ InvalidKey ∷ ForwardReference ∷ PatternLength ∷ PatternSyntax ∷ TooManyAtoms ∷ NoSuchMacro ∷ InsufficientSpace ∷ CountOverflow ∷ ReportMismatch ∷ InputTooLong ∷ []
-
-named : ℕ → Refusal
-named n = getD table (n - 1) BadMagic
-
-named-number : (r : Refusal) → named (number r) ≡ r
-unfolding named table
-named-number BadMagic = refl
-named-number UnsupportedVersion = refl
-named-number BadMacroCount = refl
-named-number MalformedBody = refl
-named-number InvalidKey = refl
-named-number ForwardReference = refl
-named-number PatternLength = refl
-named-number PatternSyntax = refl
-named-number TooManyAtoms = refl
-named-number NoSuchMacro = refl
-named-number InsufficientSpace = refl
-named-number CountOverflow = refl
-named-number ReportMismatch = refl
-named-number InputTooLong = refl
-
--- no two refusals have the same number
-pub number-injective : (r s : Refusal) → number r ≡ number s → r ≡ s
-number-injective r s e = sym (named-number r) ∙ ap named e ∙ named-number s

@@ -1,4 +1,4 @@
--- `book::read_item`: each way out is a case of the item at the offset.
+-- `book::read_item`: each way out is a case of the item at the place.
 use native.Mathlib.Omega.{arith}
 use denote.Ref.{now}
 use borrow.Author.Needs.{needs}

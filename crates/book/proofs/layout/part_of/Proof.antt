@@ -1,6 +1,6 @@
 -- `part_of`: macro i ends where the next one starts, within the book.
-use native.Mathlib.Omega.{arith}
 use Prim.Native.Nat.{ℕ, _+_}
+use native.Mathlib.Omega.{arith}
 use mathlib.Core.Path.{ap}
 use denote.Ref.{now}
 use Rattle.book.proofs.Parts.{PartOffsets, located, part-is}
@@ -40,9 +40,10 @@ part-result-end c = let p = facts (c .before .before) in omega arith
 returns : tie.Need-returns
 returns c =
     let k = c .before .before .before in
-    let p = facts (k) in
-    (part-is (now (k .args .book)) (now (k .args .offsets)) (k .args .i) (k .pre),
-    ap (λ (x : ℕ). (k .args .book .ptr .0, x + 2 + k .args .book .ptr .1)) (p .from))
+    let p = facts (k) in (
+      part-is (now (k .args .book)) (now (k .args .offsets)) (k .args .i) (k .pre),
+      ap (λ (x : ℕ). (k .args .book .ptr .0, x + 2 + k .args .book .ptr .1)) (p .from),
+    )
 
 pub part-of-spec : {M : Type 1} → statement M
 part-of-spec =

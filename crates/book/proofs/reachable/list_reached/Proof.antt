@@ -1,4 +1,4 @@
--- `list_reached`. Invariant: the macros from i on that m reaches are listed, and all that they call are hasMagic.
+-- `list_reached`. Invariant: the macros from i on that m reaches are listed, and all that they call are marked.
 use Prim.Native.Nat.{ℕ, _-_, _<_}
 use native.Mathlib.Omega.{arith}
 use mathlib.Core.Path.{_≡_, ap, _∙_}
@@ -8,10 +8,9 @@ use lib.ListN.{length}
 use denote.Ref.{now}
 use borrow.Author.Needs.{needs}
 use Rattle.book.specs.Format.{wellFormed}
-use Rattle.book.specs.Answer.{Located}
+use Rattle.book.specs.Steps.{Located, markCalls}
 use Rattle.book.specs.declared.item.Item.{Item}
 use Rattle.book.specs.Reading.{itemsOf, macrosIn}
-use Rattle.book.specs.Reach.{markCalls}
 use Rattle.book.proofs.Parts.{located}
 use Rattle.book.proofs.Listing.{Listed, listed-none, listed-length, listed-room, listed-small, listed-in, listed-out, listed-end, located-well, located-lower}
 use Rattle.book.proofs.reachable.list_reached.Statement.{statement}

@@ -4,7 +4,7 @@ use mathlib.Core.Path.{_≡_, refl}
 use lib.ListN.{length, drop}
 use borrow.Author.Needs.{needs}
 use Rattle.book.specs.Reading.{itemsOf}
-use Rattle.book.specs.Reach.{markCalls}
+use Rattle.book.specs.Steps.{markCalls}
 use Rattle.book.proofs.Marks.{marks-cut, marks-end, marks-on}
 use Rattle.book.proofs.reachable.mark_calls.Statement.{statement}
 use Rattle.book.proofs.reachable.mark_calls.Tie as tie

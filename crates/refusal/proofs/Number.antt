@@ -1,0 +1,37 @@
+-- No two refusals have the same number.
+use Prim.Native.Nat.{ℕ, _-_}
+use mathlib.Core.List.{List, [], _∷_}
+use mathlib.Core.Path.{_≡_, refl, ap, sym, _∙_}
+use lib.ListN.{getD}
+use Rattle.refusal.specs.declared.Refusal.{Refusal}
+use Rattle.refusal.specs.declared.Refusal.the-variants.{BadMagic, UnsupportedVersion, BadMacroCount, MalformedBody, InvalidKey, ForwardReference, PatternLength, PatternSyntax, TooManyAtoms, NoSuchMacro, InsufficientSpace, CountOverflow, ReportMismatch, InputTooLong}
+use Rattle.refusal.specs.Number.{number}
+
+-- the refusals in the order of their numbers
+table : List Refusal
+table =
+    BadMagic ∷ UnsupportedVersion ∷ BadMacroCount ∷ MalformedBody ∷ InvalidKey ∷ ForwardReference ∷ PatternLength ∷ PatternSyntax ∷ TooManyAtoms ∷ NoSuchMacro ∷ InsufficientSpace ∷ CountOverflow ∷ ReportMismatch ∷ InputTooLong ∷ []
+
+named : ℕ → Refusal
+named n = getD table (n - 1) BadMagic
+
+named-number : (r : Refusal) → named (number r) ≡ r
+unfolding named table
+named-number BadMagic = refl
+named-number UnsupportedVersion = refl
+named-number BadMacroCount = refl
+named-number MalformedBody = refl
+named-number InvalidKey = refl
+named-number ForwardReference = refl
+named-number PatternLength = refl
+named-number PatternSyntax = refl
+named-number TooManyAtoms = refl
+named-number NoSuchMacro = refl
+named-number InsufficientSpace = refl
+named-number CountOverflow = refl
+named-number ReportMismatch = refl
+named-number InputTooLong = refl
+
+-- no two refusals have the same number
+pub number-injective : (r s : Refusal) → number r ≡ number s → r ≡ s
+number-injective r s e = sym (named-number r) ∙ ap named e ∙ named-number s
