@@ -1,0 +1,161 @@
+-- Document 01, "Patterns": what is accepted and what is refused. A pattern is accepted exactly if it is written of a tree of the form, of 1 to 128 bytes and at most 29 atoms.
+use Prim.Native.Nat.{ℕ, _<_, _≤_}
+use native.Mathlib.Omega.{arith}
+use mathlib.Core.Path.{_≡_, refl}
+use mathlib.Core.Logic.{_↔_, _⊎_, inl, inr, ⊎-elim}
+use mathlib.Core.Bool.{Bool, true, false, _||_, cond}
+use mathlib.Core.List.{List}
+use lib.Dec.{leb}
+use lib.ListN.{length}
+use borrow.Author.Tests.{leb-true, leb-false, le-leb, lt-leb}
+use Rattle.refusal.specs.declared.Refusal.the-variants.{PatternLength, PatternSyntax, TooManyAtoms}
+use Rattle.pattern.specs.Form.{Pattern, member, writePattern, formedPattern, atomCount}
+use Rattle.pattern.specs.Reader.{Parsed, parsed, fault, readBranches, accepted, refused, counted, readPattern}
+use Rattle.pattern.proofs.Parses.{clash, neither, Bytes, Clean, clean-of, clean-without}
+use Rattle.pattern.proofs.Branches.{branches-from, pattern-back, pattern-clean}
+
+-- two trees of the form that are written the same are the same
+pub one-tree : (t u : Pattern) → formedPattern t ≡ true → formedPattern u ≡ true → writePattern t ≡ writePattern u → t ≡ u
+one-tree t u h g e = cc (pattern-back t h, pattern-back u g)
+
+-- what is read of the bytes of a tree of the form
+read-back : (t : Pattern) → formedPattern t ≡ true → 1 ≤ length (writePattern t) → length (writePattern t) ≤ 128 → readPattern (writePattern t) ≡ cond (leb (atomCount t) 29) (accepted t) (refused TooManyAtoms)
+unfolding readPattern
+read-back t h low high =
+    let (z, ten) = clean-without (writePattern t) (pattern-clean t h) in
+    rw (le-leb 1 (length (writePattern t)) low, le-leb (length (writePattern t)) 128 high, z, ten, pattern-back t h)
+
+-- the bytes of a tree of the form that keep the limits are accepted with that tree
+pub accepted-back : (t : Pattern) → formedPattern t ≡ true → 1 ≤ length (writePattern t) → length (writePattern t) ≤ 128 → atomCount t ≤ 29 → readPattern (writePattern t) ≡ accepted t
+accepted-back t h low high few = rw (read-back t h low high, le-leb (atomCount t) 29 few)
+
+-- what can be the matter with some bytes
+data Verdict (p : List ℕ) : Type 0 where
+  -- no tree of the form is written so
+  bad : ((t : Pattern) → formedPattern t ≡ true → writePattern t ≡ p → ⊥) → readPattern p ≡ refused PatternSyntax → Verdict p
+  -- a tree is, but it has too many atoms
+  many : (t : Pattern) → formedPattern t ≡ true → writePattern t ≡ p → 29 < atomCount t → readPattern p ≡ refused TooManyAtoms → Verdict p
+  -- a tree is, and its atoms are few enough
+  fine : (t : Pattern) → formedPattern t ≡ true → writePattern t ≡ p → atomCount t ≤ 29 → readPattern p ≡ accepted t → Verdict p
+
+-- the length is wrong, which is refused, or right
+lengths : (p : List ℕ) → (((length p ≡ 0) ⊎ (128 < length p)) × (readPattern p ≡ refused PatternLength)) ⊎ ((1 ≤ length p) × (length p ≤ 128))
+unfolding readPattern
+lengths p = go (leb 1 (length p)) (leb (length p) 128) refl refl
+  where
+    go : (x y : Bool) → leb 1 (length p) ≡ x → leb (length p) 128 ≡ y → (((length p ≡ 0) ⊎ (128 < length p)) × (readPattern p ≡ refused PatternLength)) ⊎ ((1 ≤ length p) × (length p ≤ 128))
+    go false y low high = inl (inl (omega (arith, leb-false 1 (length p) low)), rw low)
+    go true false low high = inl (inr (leb-false (length p) 128 high), rw (low, high))
+    go true true low high = inr (leb-true 1 (length p) low, leb-true (length p) 128 high)
+
+-- bytes of a tree of the form, as they are read
+tree-read : (p : List ℕ) (t : Pattern) → 1 ≤ length p → length p ≤ 128 → formedPattern t ≡ true → writePattern t ≡ p → readPattern p ≡ cond (leb (atomCount t) 29) (accepted t) (refused TooManyAtoms)
+tree-read p t low high h w = rw (← w) (read-back t h (rw w low) (rw w high))
+
+-- so such bytes are not refused for their form
+not-bad : (p : List ℕ) (t : Pattern) → 1 ≤ length p → length p ≤ 128 → formedPattern t ≡ true → writePattern t ≡ p → readPattern p ≡ refused PatternSyntax → ⊥
+not-bad p t low high h w e = go (leb (atomCount t) 29) (tree-read p t low high h w)
+  where
+    go : (b : Bool) → readPattern p ≡ cond b (accepted t) (refused TooManyAtoms) → ⊥
+    go true f = clash (cc)
+    go false f = clash (cc)
+
+-- bytes of a tree of the form have a verdict by its atoms
+tree-verdict : (p : List ℕ) (t : Pattern) → 1 ≤ length p → length p ≤ 128 → formedPattern t ≡ true → writePattern t ≡ p → Verdict p
+tree-verdict p t low high h w = go (leb (atomCount t) 29) refl
+  where
+    go : (b : Bool) → leb (atomCount t) 29 ≡ b → Verdict p
+    go true e = fine t h w (leb-true (atomCount t) 29 e) (rw e at (tree-read p t low high h w))
+    go false e = many t h w (leb-false (atomCount t) 29 e) (rw e at (tree-read p t low high h w))
+
+-- and so have all bytes of the right length
+verdict : (p : List ℕ) → Bytes p → 1 ≤ length p → length p ≤ 128 → Verdict p
+unfolding readPattern
+verdict p h low high = go (member 0 p || member 10 p) refl
+  where
+    is-bad : readPattern p ≡ refused PatternSyntax → Verdict p
+    is-bad e = bad (λ t g w. not-bad p t low high g w e) e
+
+    of-parsed : Clean p → member 0 p || member 10 p ≡ false → (r : Parsed Pattern) → readBranches (length p) p ≡ r → Verdict p
+    of-parsed clean e (parsed t rest) q = let (w, g) = branches-from (length p) p rest t clean q in tree-verdict p t low high g w
+    of-parsed clean e fault q = is-bad (rw (le-leb 1 (length p) low, le-leb (length p) 128 high, e, q))
+
+    go : (b : Bool) → member 0 p || member 10 p ≡ b → Verdict p
+    go true e = is-bad (rw (le-leb 1 (length p) low, le-leb (length p) 128 high, e))
+    go false e =
+        let (z, ten) = neither (member 0 p) (member 10 p) e in
+        of-parsed (clean-of p h z ten) e (readBranches (length p) p) refl
+
+-- what is not refused for its length has the right one
+right-length : (p : List ℕ) → (readPattern p ≡ refused PatternLength → ⊥) → (1 ≤ length p) × (length p ≤ 128)
+right-length p h = ⊎-elim (λ (wrong, e). absurd (h e)) (λ right. right) (lengths p)
+
+-- an accepted pattern is written of its tree, which has the form, and keeps the limits
+pub accepted-from : (p : List ℕ) → Bytes p → (t : Pattern) → readPattern p ≡ accepted t → (formedPattern t ≡ true) × (writePattern t ≡ p) × (1 ≤ length p) × (length p ≤ 128) × (atomCount t ≤ 29)
+accepted-from p h t e =
+    let (low, high) = right-length p (λ f. clash (cc)) in
+    go low high (verdict p h low high)
+  where
+    go : 1 ≤ length p → length p ≤ 128 → Verdict p → (formedPattern t ≡ true) × (writePattern t ≡ p) × (1 ≤ length p) × (length p ≤ 128) × (atomCount t ≤ 29)
+    go low high (bad none-of f) = clash (cc)
+    go low high (many u g w over f) = clash (cc)
+    go low high (fine u g w few f) = let same : t ≡ u = cc in rw same (g, w, low, high, few)
+
+-- a pattern is accepted with a tree exactly if it is written of the tree, which has the form, and keeps the limits
+pub accepted-iff : (p : List ℕ) → Bytes p → (t : Pattern) → (readPattern p ≡ accepted t) ↔ ((formedPattern t ≡ true) × (writePattern t ≡ p) × (1 ≤ length p) × (length p ≤ 128) × (atomCount t ≤ 29))
+accepted-iff p h t = (λ e. accepted-from p h t e, λ (g, w, low, high, few). rw (← w) (accepted-back t g (rw w low) (rw w high) few))
+
+-- what is counted is not refused for its length
+counted-other : (b : Bool) (r : Parsed Pattern) → cond b (refused PatternSyntax) (counted r) ≡ refused PatternLength → ⊥
+counted-other true r e = clash (cc)
+counted-other false (parsed t l) e = go (leb (atomCount t) 29) e
+  where
+    go : (c : Bool) → cond c (accepted t) (refused TooManyAtoms) ≡ refused PatternLength → ⊥
+    go true f = clash (cc)
+    go false f = clash (cc)
+counted-other false fault e = clash (cc)
+
+-- 7: "0 or over 128"
+pub refused-length : (p : List ℕ) → (readPattern p ≡ refused PatternLength) ↔ ((length p ≡ 0) ⊎ (128 < length p))
+unfolding readPattern
+refused-length p = (from, back)
+  where
+    from : readPattern p ≡ refused PatternLength → (length p ≡ 0) ⊎ (128 < length p)
+    from e = ⊎-elim (λ (wrong, f). wrong) (λ (low, high). absurd (counted-other (member 0 p || member 10 p) (readBranches (length p) p) (rw (le-leb 1 (length p) low, le-leb (length p) 128 high) at e))) (lengths p)
+
+    back : (length p ≡ 0) ⊎ (128 < length p) → readPattern p ≡ refused PatternLength
+    back w = ⊎-elim (λ (wrong, e). e) (λ (low, high). absurd (⊎-elim (λ z. omega arith) (λ z. omega arith) w)) (lengths p)
+
+-- 8: "not of the form above"
+pub refused-syntax : (p : List ℕ) → Bytes p → (readPattern p ≡ refused PatternSyntax) ↔ ((1 ≤ length p) × (length p ≤ 128) × ((t : Pattern) → formedPattern t ≡ true → writePattern t ≡ p → ⊥))
+refused-syntax p h = (from, back)
+  where
+    from : readPattern p ≡ refused PatternSyntax → (1 ≤ length p) × (length p ≤ 128) × ((t : Pattern) → formedPattern t ≡ true → writePattern t ≡ p → ⊥)
+    from e =
+        let (low, high) = right-length p (λ f. clash (cc)) in
+        (low, high, λ t g w. not-bad p t low high g w e)
+
+    of : ((t : Pattern) → formedPattern t ≡ true → writePattern t ≡ p → ⊥) → Verdict p → readPattern p ≡ refused PatternSyntax
+    of none-of (bad n f) = f
+    of none-of (many t g w over f) = absurd (none-of t g w)
+    of none-of (fine t g w few f) = absurd (none-of t g w)
+
+    back : (1 ≤ length p) × (length p ≤ 128) × ((t : Pattern) → formedPattern t ≡ true → writePattern t ≡ p → ⊥) → readPattern p ≡ refused PatternSyntax
+    back (low, high, none-of) = of none-of (verdict p h low high)
+
+-- 9: "over 29"
+pub refused-atoms : (p : List ℕ) → Bytes p → (readPattern p ≡ refused TooManyAtoms) ↔ ((1 ≤ length p) × (length p ≤ 128) × ((t : Pattern) × (formedPattern t ≡ true) × (writePattern t ≡ p) × (29 < atomCount t)))
+refused-atoms p h = (from, back)
+  where
+    of : readPattern p ≡ refused TooManyAtoms → Verdict p → (t : Pattern) × (formedPattern t ≡ true) × (writePattern t ≡ p) × (29 < atomCount t)
+    of e (bad n f) = clash (cc)
+    of e (many t g w over f) = (t, g, w, over)
+    of e (fine t g w few f) = clash (cc)
+
+    from : readPattern p ≡ refused TooManyAtoms → (1 ≤ length p) × (length p ≤ 128) × ((t : Pattern) × (formedPattern t ≡ true) × (writePattern t ≡ p) × (29 < atomCount t))
+    from e =
+        let (low, high) = right-length p (λ f. clash (cc)) in
+        (low, high, of e (verdict p h low high))
+
+    back : (1 ≤ length p) × (length p ≤ 128) × ((t : Pattern) × (formedPattern t ≡ true) × (writePattern t ≡ p) × (29 < atomCount t)) → readPattern p ≡ refused TooManyAtoms
+    back (low, high, (t, g, w, over)) = rw (tree-read p t low high g w, lt-leb (atomCount t) 29 over)

@@ -1,0 +1,92 @@
+-- Whole branches: the anchors around pieces, and one law for each way out.
+use Prim.Native.Nat.{ℕ, _+_, _-_, _*_, _<_, _≤_}
+use native.Mathlib.Omega.{arith}
+use native.Mathlib.Nat.{add-zero}
+use mathlib.Core.Path.{_≡_, refl, sym, ap, _∙_}
+use mathlib.Core.Bool.{Bool, true, false, _||_, cond}
+use mathlib.Core.List.{List}
+use mathlib.Core.Option.{Option, none, some}
+use lib.Dec.{eqb}
+use lib.ListN.{length, drop, getD, length-drop}
+use lib.Seq.{drop-drop}
+use borrow.Author.Tests.{eq-eqb, ne-eqb, eqb-true}
+use Rattle.pattern.specs.declared.branch.BranchRead.{BranchRead}
+use Rattle.pattern.specs.declared.cursor.Cursor.{Cursor}
+use Rattle.pattern.specs.declared.cursor.Part.{Part}
+use Rattle.pattern.specs.declared.shape.Shape.{Shape}
+use Rattle.pattern.specs.Form.{Expr, Branch, atomsIn}
+use Rattle.pattern.specs.Reader.{Parsed, parsed, fault, at, Mode, endsPieces, enough, anchored, readRest, readBranch}
+use Rattle.pattern.specs.Cycle.{Ready, Reads}
+use Rattle.pattern.specs.Branches.{shapeIn, keysIn, enterIn, EndDone, BranchDone}
+use Rattle.pattern.proofs.Atoms.{inside}
+use Rattle.pattern.proofs.Cycles.{peeked, nonzero, View, view, unread}
+
+-- pieces, or none, were read up to the cursor d, and an optional `$` stands there
+module _ (s : List ℕ) (c d : Cursor) (start : Bool) (keys keys' enter enter' : List ℕ) (e : Option Expr) (rest : List ℕ) (p : Shape) (in-s : d .at ≤ length s) (here : rest ≡ drop (d .at) s) (next : d ≡ record { at = length s - length rest; atoms = c .atoms + atomsIn e }) (shape : p ≡ shapeIn (c .atoms) e) (keyed : keys' ≡ keysIn (c .atoms) e keys) (entered : enter' ≡ enterIn (c .atoms) e enter) where
+  done-end : (y : BranchRead) → EndDone s d start p y → BranchDone (length s) c keys enter y keys' enter' (anchored start e rest)
+  done-end y f = rw (ap (at 0) here ∙ peeked s (d .at), f) (go (eqb (getD s (d .at) 0) 36) refl)
+    where
+      many : d .atoms ≡ c .atoms + atomsIn e
+      many = ap (λ (z : Cursor). z .atoms) next
+
+      on : eqb (getD s (d .at) 0) 36 ≡ true → d .at + 1 ≡ length s - length (drop 1 rest)
+      on q =
+          let i : d .at < length s = inside s (d .at) (nonzero (getD s (d .at) 0) 36 (omega arith) (eqb-true _ _ q)) in
+          rw (here, length-drop, length-drop) (omega arith)
+
+      go : (t : Bool) → eqb (getD s (d .at) 0) 36 ≡ t → BranchDone (length s) c keys enter (cond t (BranchRead.Read (record { at = d .at + 1; atoms = d .atoms }) start p true) (BranchRead.Read d start p false)) keys' enter' (cond t (parsed (record { start = start; pieces = e; end = true }) (drop 1 rest)) (parsed (record { start = start; pieces = e; end = false }) rest))
+      go true q = (rw (on q, many, shape), keyed, entered)
+      go false q = (rw (next, shape), keyed, entered)
+
+module _ (s : List ℕ) (c : Cursor) (r : Ready s c) (keys enter : List ℕ) (start : Bool) (b : ℕ) (eb : b ≡ getD s (c .at) 0) (t : Bool) (et : t ≡ endsPieces b) where
+  front : at 0 (drop (c .at) s) ≡ b
+  front = peeked s (c .at) ∙ sym eb
+
+  -- no pieces
+  module _ (ends : t ≡ true) where
+    none-read : (start || eqb b 36) ≡ true → (y : BranchRead) → EndDone s c start (record { nothing = true; first = 0; last = 0 }) y → BranchDone (length s) c keys enter y keys enter (readRest start (drop (c .at) s))
+    none-read a y f =
+        let here : length s - (length s - c .at) ≡ c .at = omega (arith, r .inside) in
+        let read : BranchDone (length s) c keys enter y keys enter (anchored start none (drop (c .at) s)) =
+        done-end s c c start keys keys enter enter none (drop (c .at) s) (record { nothing = true; first = 0; last = 0 }) (r .inside) refl (rw (length-drop, here, add-zero)) refl refl refl y f in
+        rw (front, ← et, ends, a) (rw front at read)
+
+    pub rest-start : start ≡ true → (y : BranchRead) → EndDone s c start (record { nothing = true; first = 0; last = 0 }) y → BranchDone (length s) c keys enter y keys enter (readRest start (drop (c .at) s))
+    rest-start e y f = none-read (rw e) y f
+
+    module _ (unstarted : start ≡ false) where
+      pub rest-end : b ≡ 36 → (y : BranchRead) → EndDone s c start (record { nothing = true; first = 0; last = 0 }) y → BranchDone (length s) c keys enter y keys enter (readRest start (drop (c .at) s))
+      rest-end e y f = none-read (rw (unstarted, eq-eqb _ _ e)) y f
+
+      pub rest-none : (b ≡ 36 → ⊥) → BranchDone (length s) c keys enter BranchRead.Fault keys enter (readRest start (drop (c .at) s))
+      rest-none e = rw (front, ← et, ends, unstarted, ne-eqb _ _ e) refl
+
+  -- pieces
+  module _ (some-piece : t ≡ false) (x : Part) (keys' enter' : List ℕ) (h : Reads Mode.branch s c keys enter x keys' enter') where
+    bound : 4 * (length s - c .at) + 2 ≤ enough (drop (c .at) s)
+    bound = rw length-drop (omega arith)
+
+    pub rest-fault : x ≡ Part.Fault → BranchDone (length s) c keys enter BranchRead.Fault keys' enter' (readRest start (drop (c .at) s))
+    rest-fault e = rw (front, ← et, some-piece, unread s c r Mode.branch keys enter x keys' enter' h e (enough (drop (c .at) s)) bound) refl
+
+    pub rest-pieces : (d : Cursor) (p : Shape) (y : BranchRead) → x ≡ Part.Read d p → EndDone s d start p y → BranchDone (length s) c keys enter y keys' enter' (readRest start (drop (c .at) s))
+    rest-pieces d p y e f = go (view s c r Mode.branch keys enter x keys' enter' h d p e (enough (drop (c .at) s)) bound)
+      where
+        go : View s c r Mode.branch keys enter d p keys' enter' (enough (drop (c .at) s)) → BranchDone (length s) c keys enter y keys' enter' (readRest start (drop (c .at) s))
+        go v =
+            rw (front, ← et, some-piece, v .reading)
+            (done-end s c d start keys keys' enter enter' (some (v .expr)) (v .rest) p (v .behind-it .ready .inside) (v .behind-it .here) (v .behind-it .next) (v .shape) (v .keyed) (v .entered) y f)
+
+-- the optional `^`
+module _ (s : List ℕ) (c : Cursor) (keys keys' enter enter' : List ℕ) (b : ℕ) (eb : b ≡ getD s (c .at) 0) (y : BranchRead) where
+  pub branch-start : b ≡ 94 → BranchDone (length s) (record { at = c .at + 1; atoms = c .atoms }) keys enter y keys' enter' (readRest true (drop (c .at + 1) s)) → BranchDone (length s) c keys enter y keys' enter' (readBranch (drop (c .at) s))
+  unfolding readBranch
+  branch-start e h = rw (peeked s (c .at) ∙ sym eb, e, drop-drop) (same (readRest true (drop (c .at + 1) s)) h)
+    where
+      same : (z : Parsed Branch) → BranchDone (length s) (record { at = c .at + 1; atoms = c .atoms }) keys enter y keys' enter' z → BranchDone (length s) c keys enter y keys' enter' z
+      same (parsed t rest) k = k
+      same fault k = k
+
+  pub branch-free : (b ≡ 94 → ⊥) → BranchDone (length s) c keys enter y keys' enter' (readRest false (drop (c .at) s)) → BranchDone (length s) c keys enter y keys' enter' (readBranch (drop (c .at) s))
+  unfolding readBranch
+  branch-free e h = let front : at 0 (drop (c .at) s) ≡ b = peeked s (c .at) ∙ sym eb in rw (front, ne-eqb _ _ e) (rw front at h)

@@ -1,0 +1,215 @@
+-- The tables that a whole pattern was read into are those of its tree.
+use Prim.Native.Nat.{ℕ, zero, suc, _+_, _-_, _<_, _≤_}
+use native.Mathlib.Omega.{arith}
+use native.Mathlib.Nat.{zero-add}
+use mathlib.Core.Path.{_≡_, refl, sym, ap, _∙_}
+use mathlib.Core.Bool.{Bool, true, false, not, _&&_, _||_, cond, or-assoc, or-false}
+use mathlib.Core.List.{List, [], _∷_}
+use mathlib.Core.Option.{Option, none, some}
+use lib.Bits.{bitOr, or-zero-r, or-zero-l}
+use lib.Dec.{leb, ltb}
+use lib.ListN.{length, set, replicate}
+use borrow.Author.Tests.{le-leb, lt-ltb, lt-leb}
+use Rattle.refusal.specs.declared.Refusal.the-variants.{PatternSyntax, TooManyAtoms}
+use Rattle.pattern.specs.declared.automaton.Accepting.{Accepting}
+use Rattle.pattern.specs.declared.automaton.Verdict.{Verdict}
+use Rattle.pattern.specs.declared.branch_list.PatternRead.{PatternRead}
+use Rattle.pattern.specs.declared.summary.Summary.{Summary}
+use Rattle.pattern.specs.Form.{Expr, Branch, Pattern, atomsIn, atomCount}
+use Rattle.pattern.specs.Reader.{Parsed, parsed, fault, readBranches, counted}
+use Rattle.pattern.specs.States.{nothingIn, inPieces, first, last, follow, holds, someBranch, firstInBranch, firstInFree, endsFree, endsAnchored, holdsKey, emptyBranch, emptyFree, atomWord}
+use Rattle.pattern.specs.Tables.{isAtom}
+use Rattle.pattern.specs.Branches.{shapeIn, keysIn, enterIn}
+use Rattle.pattern.specs.Summaries.{branchSummary, summaryOf, through, PatternDone, ReadsBranches}
+use Rattle.pattern.specs.Automata.{enters, keyTable, enterTable, accepts, ReadAs, acceptingOf}
+use Rattle.pattern.specs.Steps.{mapWith, tabled}
+use Rattle.pattern.proofs.Bytes.{clash}
+use Rattle.pattern.proofs.Entries.{with-same, with-with, with-none}
+use Rattle.pattern.proofs.Tables.{atoms-none, atoms-same, both-added, added-if}
+
+-- the word of no atom adds nothing
+none-added : (x : ℕ) → bitOr x (atomWord (λ k. false)) ≡ x
+none-added x = rw (atoms-none (λ k. false) (λ k. refl)) (or-zero-r x)
+
+-- what the branches add to a word of the summary
+module _ (field : Summary → ℕ) (P : ℕ → Branch → ℕ → Bool) (one : (b : ℕ) (r : Branch) (a : Summary) → field (branchSummary a (r .start) (shapeIn b (r .pieces)) (r .end)) ≡ bitOr (field a) (atomWord (P b r))) where
+  gathered : (t : Pattern) (b : ℕ) (a : Summary) → field (summaryOf b t a) ≡ bitOr (field a) (atomWord (λ k. someBranch (λ c r. P c r k) b t))
+  unfolding summaryOf someBranch
+  gathered [] b a = sym (none-added (field a))
+  gathered (r ∷ rs) b a =
+      let others : ℕ → Bool = λ k. someBranch (λ c r. P c r k) (b + atomsIn (r .pieces)) rs in
+      gathered rs (b + atomsIn (r .pieces)) (branchSummary a (r .start) (shapeIn b (r .pieces)) (r .end))
+      ∙ ap (λ (x : ℕ). bitOr x (atomWord others)) (one b r a)
+      ∙ both-added (P b r) others (λ k. P b r k || others k) (λ k. refl) (field a)
+
+-- and to a test of it
+module _ (field : Summary → Bool) (P : ℕ → Branch → Bool) (one : (b : ℕ) (r : Branch) (a : Summary) → field (branchSummary a (r .start) (shapeIn b (r .pieces)) (r .end)) ≡ (field a || P b r)) where
+  told : (t : Pattern) (b : ℕ) (a : Summary) → field (summaryOf b t a) ≡ (field a || someBranch P b t)
+  unfolding summaryOf someBranch
+  told [] b a = sym (or-false (field a))
+  told (r ∷ rs) b a =
+      told rs (b + atomsIn (r .pieces)) (branchSummary a (r .start) (shapeIn b (r .pieces)) (r .end))
+      ∙ ap (λ (x : Bool). x || someBranch P (b + atomsIn (r .pieces)) rs) (one b r a)
+      ∙ or-assoc (field a) (P b r) (someBranch P (b + atomsIn (r .pieces)) rs)
+
+-- the shape of pieces
+pieces-first : (b : ℕ) (o : Option Expr) → shapeIn b o .first ≡ atomWord (λ k. inPieces (λ e. first b e k) o)
+pieces-first b none = sym (atoms-none (λ k. false) (λ k. refl))
+pieces-first b (some e) = refl
+
+pieces-last : (b : ℕ) (o : Option Expr) → shapeIn b o .last ≡ atomWord (λ k. inPieces (λ e. last b e k) o)
+pieces-last b none = sym (atoms-none (λ k. false) (λ k. refl))
+pieces-last b (some e) = refl
+
+pieces-nothing : (b : ℕ) (o : Option Expr) → shapeIn b o .nothing ≡ nothingIn o
+pieces-nothing b none = refl
+pieces-nothing b (some e) = refl
+
+-- the summary of a pattern before any branch
+abbrev blank : Summary
+blank = record { first = 0; free = 0; ends = 0; anchored = 0; empty = false; jump = false }
+
+module _ (t : Pattern) where
+  all-first : summaryOf 0 t blank .first ≡ atomWord (firstInBranch t)
+  all-first = gathered (λ a. a .first) (λ b r k. inPieces (λ e. first b e k) (r .pieces)) (λ b r a. ap (bitOr (a .first)) (pieces-first b (r .pieces))) t 0 blank ∙ or-zero-l _
+
+  all-free : summaryOf 0 t blank .free ≡ atomWord (firstInFree t)
+  all-free =
+      gathered (λ a. a .free) (λ b r k. not (r .start) && inPieces (λ e. first b e k) (r .pieces))
+      (λ b r a. ap (λ (x : ℕ). cond (not (r .start)) (bitOr (a .free) x) (a .free)) (pieces-first b (r .pieces)) ∙ added-if (not (r .start)) (λ k. inPieces (λ e. first b e k) (r .pieces)) (a .free))
+      t 0 blank ∙ or-zero-l _
+
+  all-ends : summaryOf 0 t blank .ends ≡ atomWord (endsFree t)
+  all-ends =
+      gathered (λ a. a .ends) (λ b r k. not (r .end) && inPieces (λ e. last b e k) (r .pieces))
+      (λ b r a. ap (λ (x : ℕ). cond (not (r .end)) (bitOr (a .ends) x) (a .ends)) (pieces-last b (r .pieces)) ∙ added-if (not (r .end)) (λ k. inPieces (λ e. last b e k) (r .pieces)) (a .ends))
+      t 0 blank ∙ or-zero-l _
+
+  all-anchored : summaryOf 0 t blank .anchored ≡ atomWord (endsAnchored t)
+  all-anchored =
+      gathered (λ a. a .anchored) (λ b r k. r .end && inPieces (λ e. last b e k) (r .pieces))
+      (λ b r a. ap (λ (x : ℕ). cond (r .end) (bitOr (a .anchored) x) (a .anchored)) (pieces-last b (r .pieces)) ∙ added-if (r .end) (λ k. inPieces (λ e. last b e k) (r .pieces)) (a .anchored))
+      t 0 blank ∙ or-zero-l _
+
+  all-empty : summaryOf 0 t blank .empty ≡ emptyBranch t
+  all-empty = told (λ a. a .empty) (λ b r. nothingIn (r .pieces)) (λ b r a. ap (λ (x : Bool). a .empty || x) (pieces-nothing b (r .pieces))) t 0 blank
+
+  all-jump : summaryOf 0 t blank .jump ≡ emptyFree t
+  all-jump = told (λ a. a .jump) (λ b r. nothingIn (r .pieces) && not (r .start && r .end)) (λ b r a. ap (λ (x : Bool). a .jump || (x && not (r .start && r .end))) (pieces-nothing b (r .pieces))) t 0 blank
+
+  pub accepts-all : (n : ℕ) → n ≡ atomCount t → acceptingOf (summaryOf 0 t blank) n ≡ accepts t
+  unfolding accepts
+  accepts-all n e = rw (all-ends, all-anchored, all-empty, all-jump, e)
+
+-- what the branches add to the entries of a table
+module _ (table : ℕ → Option Expr → List ℕ → List ℕ) (G : ℕ → Expr → ℕ → ℕ → Bool) (one : (b : ℕ) (e : Expr) (l : List ℕ) → table b (some e) l ≡ mapWith (λ q x. bitOr x (atomWord (G b e q))) 0 l) (no : (b : ℕ) (l : List ℕ) → table b none l ≡ l) where
+  pieces-entries : (b : ℕ) (o : Option Expr) (l : List ℕ) → table b o l ≡ mapWith (λ q x. bitOr x (atomWord (λ k. inPieces (λ e. G b e q k) o))) 0 l
+  pieces-entries b none l = no b l ∙ sym (with-none _ (λ q x. none-added x) 0 l)
+  pieces-entries b (some e) l = one b e l
+
+  entries : (t : Pattern) (b : ℕ) (l : List ℕ) → through table b t l ≡ mapWith (λ q x. bitOr x (atomWord (λ k. someBranch (λ c r. inPieces (λ e. G c e q k) (r .pieces)) b t))) 0 l
+  unfolding through someBranch
+  entries [] b l = sym (with-none _ (λ q x. none-added x) 0 l)
+  entries (r ∷ rs) b l =
+      ap (through table (b + atomsIn (r .pieces)) rs) (pieces-entries b (r .pieces) l)
+      ∙ entries rs (b + atomsIn (r .pieces)) (mapWith (λ q x. bitOr x (atomWord (λ k. inPieces (λ e. G b e q k) (r .pieces)))) 0 l)
+      ∙ with-with _ _ 0 l
+      ∙ with-same _ _
+      (λ q x. both-added (λ k. inPieces (λ e. G b e q k) (r .pieces)) (λ k. someBranch (λ c r. inPieces (λ e. G c e q k) (r .pieces)) (b + atomsIn (r .pieces)) rs) (λ k. inPieces (λ e. G b e q k) (r .pieces) || someBranch (λ c r. inPieces (λ e. G c e q k) (r .pieces)) (b + atomsIn (r .pieces)) rs) (λ k. refl) x)
+      0
+      l
+
+-- tables that begin with 0 everywhere
+filled : (F : ℕ → ℕ) (n i : ℕ) → mapWith (λ q x. bitOr x (F q)) i (replicate n 0) ≡ tabled F n i
+unfolding mapWith tabled
+filled F zero i = refl
+filled F (suc n) i = ap (λ l. F i ∷ l) (filled F n (suc i))
+
+tabled-same : (F G : ℕ → ℕ) (n i : ℕ) → ((q : ℕ) → i ≤ q → q < i + n → F q ≡ G q) → tabled F n i ≡ tabled G n i
+unfolding tabled
+tabled-same F G zero i e = refl
+tabled-same F G (suc n) i e = rw (e i (omega arith) (omega arith), tabled-same F G n (suc i) (λ q g h. e q (omega arith) (omega arith))) refl
+
+module _ (t : Pattern) where
+  pub keys-all : through keysIn 0 t (replicate 256 0) ≡ keyTable t
+  unfolding keyTable
+  keys-all = entries keysIn (λ b e c k. holds b e k c) (λ b e l. refl) (λ b l. refl) t 0 (replicate 256 0) ∙ filled (λ c. atomWord (λ k. holdsKey t k c)) 256 0
+
+  -- a state that is found enters nothing, and one of an atom what follows it
+  enters-later : (q : ℕ) → 2 ≤ q → q < 32 → atomWord (λ k. someBranch (λ c r. inPieces (λ e. isAtom q && follow c e (q - 3) k) (r .pieces)) 0 t) ≡ atomWord (enters t q)
+  unfolding enters someBranch
+  enters-later zero g h = absurd (none-below g)
+    where
+      none-below : 2 ≤ 0 → ⊥
+      none-below g = omega arith
+  enters-later (suc zero) g h = absurd (none-below g)
+    where
+      none-below : 2 ≤ 1 → ⊥
+      none-below g = omega arith
+  enters-later (suc (suc zero)) g h = atoms-same _ _ (λ k. no-branch t 0)
+    where
+      no-piece : (o : Option Expr) → inPieces (λ e. false) o ≡ false
+      no-piece none = refl
+      no-piece (some e) = refl
+
+      no-branch : (t : Pattern) (b : ℕ) → someBranch (λ c r. inPieces (λ e. false) (r .pieces)) b t ≡ false
+      no-branch [] b = refl
+      no-branch (r ∷ rs) b = rw (no-piece (r .pieces), no-branch rs (b + atomsIn (r .pieces))) refl
+  enters-later (suc (suc (suc k))) g h =
+      let low : leb 3 (suc (suc (suc k))) ≡ true = le-leb 3 (suc (suc (suc k))) (omega arith) in
+      let high : ltb (suc (suc (suc k))) 32 ≡ true = lt-ltb (suc (suc (suc k))) 32 h in
+      let back : suc (suc (suc k)) - 3 ≡ k = omega arith in
+      rw (low, high, back) refl
+
+  pub enter-all : set (set (through enterIn 0 t (replicate 32 0)) 0 (summaryOf 0 t blank .first)) 1 (summaryOf 0 t blank .free) ≡ enterTable t
+  unfolding enterTable tabled enters
+  enter-all =
+      let F : ℕ → ℕ = λ q. atomWord (λ k. someBranch (λ c r. inPieces (λ e. isAtom q && follow c e (q - 3) k) (r .pieces)) 0 t) in
+      let whole : through enterIn 0 t (replicate 32 0) ≡ tabled F 32 0 = entries enterIn (λ b e q k. isAtom q && follow b e (q - 3) k) (λ b e l. refl) (λ b l. refl) t 0 (replicate 32 0) ∙ filled F 32 0 in
+      ap (λ (l : List ℕ). set (set l 0 (summaryOf 0 t blank .first)) 1 (summaryOf 0 t blank .free)) whole
+      ∙ two (summaryOf 0 t blank .first) (atomWord (enters t 0)) (summaryOf 0 t blank .free) (atomWord (enters t 1)) all-first' all-free' (tabled-same F (λ q. atomWord (enters t q)) 30 2 (λ q g h. enters-later q g h))
+    where
+      two : (a b c d : ℕ) {l m : List ℕ} → a ≡ b → c ≡ d → l ≡ m → a ∷ c ∷ l ≡ b ∷ d ∷ m
+      two a b c d e f g = rw (e, f, g)
+
+      all-first' : summaryOf 0 t blank .first ≡ atomWord (enters t 0)
+      all-first' = all-first t
+
+      all-free' : summaryOf 0 t blank .free ≡ atomWord (enters t 1)
+      all-free' = all-free t
+
+-- a whole pattern that has no byte 0 or 10
+module _ (s keys enter k e : List ℕ) (x : PatternRead) (h : ReadsBranches s (record { at = 0; atoms = 0 }) blank (replicate 256 0) (replicate 32 0) x k e) where
+  abbrev Answered : Verdict → List ℕ → List ℕ → Type 0
+  Answered v keys' enter' = ReadAs (counted (readBranches (length s) s)) keys enter v keys' enter'
+
+  read : PatternDone (record { at = 0; atoms = 0 }) blank (replicate 256 0) (replicate 32 0) x k e (readBranches (length s) s)
+  read = h (length s) (omega arith)
+
+  pub clean-fault : x ≡ PatternRead.Fault → Answered (Verdict.Refused PatternSyntax) keys enter
+  unfolding ReadAs
+  clean-fault f = go (readBranches (length s) s) read
+    where
+      go : (p : Parsed Pattern) → PatternDone (record { at = 0; atoms = 0 }) blank (replicate 256 0) (replicate 32 0) x k e p → ReadAs (counted p) keys enter (Verdict.Refused PatternSyntax) keys enter
+      go (parsed t rest) (i, j, l) = clash (cc)
+      go fault i = (refl, refl, refl)
+
+  module _ (n : ℕ) (a : Summary) (f : x ≡ PatternRead.Read n a) where
+    pub clean-many : 29 < n → Answered (Verdict.Refused TooManyAtoms) keys enter
+    unfolding ReadAs
+    clean-many g = go (readBranches (length s) s) read
+      where
+        go : (p : Parsed Pattern) → PatternDone (record { at = 0; atoms = 0 }) blank (replicate 256 0) (replicate 32 0) x k e p → ReadAs (counted p) keys enter (Verdict.Refused TooManyAtoms) keys enter
+        go (parsed t rest) (i, j, l) = let many : n ≡ 0 + atomCount t = cc in rw (lt-leb (atomCount t) 29 (omega arith)) (refl, refl, refl)
+        go fault i = clash (cc)
+
+    pub clean-fine : n ≤ 29 → (v : Accepting) → v ≡ acceptingOf a n → Answered (Verdict.Accepted v) k (set (set e 0 (a .first)) 1 (a .free))
+    unfolding ReadAs
+    clean-fine g v ev = go (readBranches (length s) s) read
+      where
+        go : (p : Parsed Pattern) → PatternDone (record { at = 0; atoms = 0 }) blank (replicate 256 0) (replicate 32 0) x k e p → ReadAs (counted p) keys enter (Verdict.Accepted v) k (set (set e 0 (a .first)) 1 (a .free))
+        go (parsed t rest) (i, j, l) =
+            let many : n ≡ 0 + atomCount t = cc in
+            let sum : a ≡ summaryOf 0 t blank = cc in
+            rw (le-leb (atomCount t) 29 (omega arith)) (ap (λ (w : Accepting). Verdict.Accepted w) (ev ∙ ap (λ (b : Summary). acceptingOf b n) sum ∙ accepts-all t n (many ∙ zero-add (atomCount t))), j ∙ keys-all t, rw (sum, l) (enter-all t))
+        go fault i = clash (cc)

@@ -1,0 +1,175 @@
+-- Brackets: what is written of one that has the form is read again.
+use Prim.Native.Nat.{ℕ, zero, suc, _+_, _<_, _≤_}
+use native.Mathlib.Omega.{arith}
+use mathlib.Core.Path.{_≡_, refl}
+use mathlib.Core.Bool.{Bool, true, false, not, _&&_, _||_, cond, and-false, or-comm, or-and-distrib-left}
+use mathlib.Core.List.{List, [], _∷_, _++_, append-assoc, append-nil}
+use mathlib.Core.Option.{some}
+use lib.Dec.{leb, eqb}
+use lib.ListN.{length, drop, length-append}
+use lib.Seq.{drop-at}
+use borrow.Author.Tests.{ltb-true, not-true}
+use Rattle.pattern.specs.Form.{Element, byte, range, class, bracket, className, member, patternByte, writeElement, writeElements, writeAtom, opening, endsOpen, formedElement, meets, formedElements, plainStart, formedAtom}
+use Rattle.pattern.specs.Reader.{parsed, at, findClass, startsRange, readElement, readElements, readBracket}
+use Rattle.pattern.proofs.Parses.{clash, both, Clean, clean-append, byte-is}
+use Rattle.pattern.proofs.BracketsFrom.{class-back, name-clean, opens, open-out, opening-front, elements-front, goes-on}
+
+-- the parts of a byte's form
+pub byte-form : (first last : Bool) (b : ℕ) → formedElement first last (byte b) ≡ true → (patternByte b ≡ true) × (first || not (eqb b 93) ≡ true) × (first || (last || not (eqb b 45)) ≡ true)
+unfolding formedElement
+byte-form first last b h =
+    let (fine, others) = both (patternByte b) ((first || not (eqb b 93)) && (first || (last || not (eqb b 45)))) h in
+    let (close, dash) = both (first || not (eqb b 93)) (first || (last || not (eqb b 45))) others in
+    (fine, close, dash)
+
+-- and of a range's
+pub range-form : (first last : Bool) (a b : ℕ) → formedElement first last (range a b) ≡ true → (patternByte a ≡ true) × (patternByte b ≡ true) × (leb a b ≡ true) × (first || not (eqb a 93) ≡ true) × (first || not (eqb a 45) ≡ true) × (not (eqb b 93) ≡ true)
+unfolding formedElement
+range-form first last a b h =
+    let (bytes, t1) = both (patternByte a && patternByte b) (leb a b && ((first || (not (eqb a 93) && not (eqb a 45))) && not (eqb b 93))) h in
+    let (fine-a, fine-b) = both (patternByte a) (patternByte b) bytes in
+    let (le, t2) = both (leb a b) ((first || (not (eqb a 93) && not (eqb a 45))) && not (eqb b 93)) t1 in
+    let (begins, last-not) = both (first || (not (eqb a 93) && not (eqb a 45))) (not (eqb b 93)) t2 in
+    let (close, dash) = both (first || not (eqb a 93)) (first || not (eqb a 45)) (rw or-and-distrib-left at begins) in
+    (fine-a, fine-b, le, close, dash, last-not)
+
+-- an element of the form is read again
+element-back : (first : Bool) (e : Element) (m : List ℕ) → formedElement first (eqb (at 0 m) 93) e ≡ true → opens e m ≡ false → startsRange m ≡ false → readElement first (writeElement e ++ m) ≡ parsed e m
+unfolding readElement writeElement formedElement member
+element-back first (byte b) m h o s =
+    let (r, pq) = open-out (eqb b 91) (eqb (at 0 m) 46) (eqb (at 0 m) 61) (eqb (at 0 m) 58) o in
+    let (fine, close, dash) = byte-form first (eqb (at 0 m) 93) b h in
+    let there : eqb b 0 ≡ false = byte-is b fine .2 in
+    let order : first || (not (eqb b 45) || eqb (at 0 m) 93) ≡ true = rw (or-comm (eqb (at 0 m) 93) (not (eqb b 45))) at dash in
+    rw (r, pq, s, there, order)
+element-back first (range a b) m h o s =
+    let (fine-a, fine-b, le, close, dash, last-not) = range-form first (eqb (at 0 m) 93) a b h in
+    rw (and-false (eqb a 91), last-not, dash, le, o)
+element-back first (class c) m h o s =
+    let long : length (className c ++ (58 ∷ 93 ∷ [])) ≡ length (className c) + 2 = length-append (className c) (58 ∷ 93 ∷ []) in
+    let found : findClass 12 0 ((className c ++ (58 ∷ 93 ∷ [])) ++ m) ≡ some c = rw append-assoc (class-back c m (ltb-true c 12 h)) in
+    rw (found, drop-at (className c ++ (58 ∷ 93 ∷ [])) m (length (className c) + 2) long, s)
+
+-- an element of the form ends no bracket, unless it is the first
+not-close : (first last : Bool) (e : Element) → formedElement first last e ≡ true → not first && eqb (opening e) 93 ≡ false
+not-close first last (byte b) h = goes-on first (eqb b 93) (byte-form first last b h .1)
+not-close first last (range a b) h = goes-on first (eqb a 93) (range-form first last a b h .3)
+not-close first last (class c) h = and-false (not first)
+
+-- and it begins with no `-`, unless it is the first or the last
+no-dash : (e : Element) → formedElement false false e ≡ true → eqb (opening e) 45 ≡ false
+no-dash (byte b) h = not-true _ (byte-form false false b h .2)
+no-dash (range a b) h = not-true _ (range-form false false a b h .4)
+no-dash (class c) h = refl
+
+-- so it starts no range for the one before it
+no-range : (es : List Element) (rest : List ℕ) → formedElements false es ≡ true → startsRange (writeElements es ++ (93 ∷ rest)) ≡ false
+unfolding formedElements writeElements writeElement
+no-range [] rest h = refl
+no-range (byte b ∷ []) rest h = and-false (eqb b 45)
+no-range (range a b ∷ []) rest h = rw (not-true (eqb a 45) (range-form false true a b h .4))
+no-range (class c ∷ []) rest h = refl
+no-range (e ∷ d ∷ es) rest h =
+    let (one, others) = both (formedElement false false e) (meets e d && formedElements false (d ∷ es)) h in
+    let begins : eqb (at 0 (writeElements (e ∷ d ∷ es) ++ (93 ∷ rest))) 45 ≡ false = rw (elements-front e (d ∷ es) (93 ∷ rest)) (no-dash e one) in
+    rw begins
+
+-- an element and then others are read again
+step-back : (f : ℕ) (first last : Bool) (e : Element) (es : List Element) (m rest : List ℕ) → formedElement first last e ≡ true → readElement first (writeElement e ++ m) ≡ parsed e m → readElements f false m ≡ parsed es rest → readElements (suc f) first (writeElement e ++ m) ≡ parsed (e ∷ es) rest
+unfolding readElements
+step-back f first last e es m rest h one others =
+    let on : not first && eqb (at 0 (writeElement e ++ m)) 93 ≡ false = rw (opening-front e m) (not-close first last e h) in
+    rw (on, one, others)
+
+-- the first of some elements of the form has the form
+first-formed : (first : Bool) (e : Element) (es : List Element) → formedElements first (e ∷ es) ≡ true → (last : Bool) × (formedElement first last e ≡ true)
+unfolding formedElements
+first-formed first e [] h = (true, h)
+first-formed first e (d ∷ es) h = (false, both _ _ h .0)
+
+-- an element and then others of the form are read again
+more-back : (f : ℕ) (first : Bool) (e d : Element) (es : List Element) (m rest : List ℕ) → formedElements first (e ∷ d ∷ es) ≡ true → m ≡ writeElements (d ∷ es) ++ (93 ∷ rest) → readElements f false m ≡ parsed (d ∷ es) rest → readElements (suc f) first (writeElement e ++ m) ≡ parsed (e ∷ d ∷ es) rest
+unfolding formedElements
+more-back f first e d es m rest h same others =
+    let (one, t) = both (formedElement first false e) (meets e d && formedElements false (d ∷ es)) h in
+    let (meet, after) = both (meets e d) (formedElements false (d ∷ es)) t in
+    let (last, next-one) = first-formed false d es after in
+    let begins : at 0 m ≡ opening d = rw same (elements-front d es (93 ∷ rest)) in
+    let on : eqb (at 0 m) 93 ≡ false = rw begins (not-close false last d next-one) in
+    let apart : opens e m ≡ false = rw begins (not-true (endsOpen e && member (opening d) (46 ∷ 61 ∷ 58 ∷ [])) meet) in
+    let range-not : startsRange m ≡ false = rw same (no-range (d ∷ es) rest after) in
+    step-back f first false e (d ∷ es) m rest one (element-back first e m (rw on one) apart range-not) others
+
+-- elements of the form are read again, up to the end of the bracket
+elements-back : (f : ℕ) (first : Bool) (es : List Element) (rest : List ℕ) → formedElements first es ≡ true → length es < f → readElements f first (writeElements es ++ (93 ∷ rest)) ≡ parsed es rest
+unfolding formedElements writeElements member readElements
+elements-back zero first es rest h l = absurd (omega arith)
+elements-back (suc f) first [] rest h l = clash (cc)
+elements-back (suc zero) first (e ∷ []) rest h l = absurd (omega arith)
+elements-back (suc (suc f)) first (e ∷ []) rest h l = rw append-nil (step-back (suc f) first true e [] (93 ∷ rest) rest h (element-back first e (93 ∷ rest) h (and-false (endsOpen e)) refl) refl)
+elements-back (suc f) first (e ∷ d ∷ es) rest h l =
+    let after = both (meets e d) (formedElements false (d ∷ es)) (both (formedElement first false e) (meets e d && formedElements false (d ∷ es)) h .1) .1 in
+    rw (append-assoc (writeElement e) (writeElements (d ∷ es)) (93 ∷ rest))
+    (more-back f first e d es (writeElements (d ∷ es) ++ (93 ∷ rest)) rest h refl (elements-back f false (d ∷ es) rest after (omega arith)))
+
+-- an element has a byte
+element-long : (e : Element) → 1 ≤ length (writeElement e)
+unfolding writeElement
+element-long (byte b) = omega arith
+element-long (range a b) = omega arith
+element-long (class c) = omega arith
+
+-- so there are no more elements than bytes
+elements-long : (es : List Element) → length es ≤ length (writeElements es)
+unfolding writeElements
+elements-long [] = omega arith
+elements-long (e ∷ es) = rw length-append (omega (arith, element-long e, elements-long es))
+
+-- the bytes up to the end of a bracket are more than its elements
+closed-long : (es : List Element) (rest : List ℕ) → length es < length (writeElements es ++ (93 ∷ rest))
+closed-long es rest = rw length-append (omega (arith, elements-long es))
+
+-- a bracket of the form is read again
+inside-back : (n : Bool) (es : List Element) (rest : List ℕ) → formedAtom (bracket n es) ≡ true → readBracket (cond n (94 ∷ []) [] ++ (writeElements es ++ (93 ∷ rest))) ≡ parsed (bracket n es) rest
+unfolding readBracket formedAtom formedElements
+inside-back true es rest h = rw (elements-back (suc (length (writeElements es ++ (93 ∷ rest)))) true es rest h (omega (arith, closed-long es rest)))
+inside-back false [] rest h = clash (cc)
+inside-back false (e ∷ es) rest h =
+    let (start, formed) = both (not (eqb (opening e) 94)) (formedElements true (e ∷ es)) h in
+    let begins : eqb (at 0 (writeElements (e ∷ es) ++ (93 ∷ rest))) 94 ≡ false = rw (elements-front e es (93 ∷ rest)) (not-true (eqb (opening e) 94) start) in
+    rw (begins, elements-back (length (writeElements (e ∷ es) ++ (93 ∷ rest))) true (e ∷ es) rest formed (closed-long (e ∷ es) rest))
+
+-- and so for the bytes of the whole atom after its `[`
+pub bracket-back : (n : Bool) (es : List Element) (rest : List ℕ) → formedAtom (bracket n es) ≡ true → readBracket (drop 1 (writeAtom (bracket n es) ++ rest)) ≡ parsed (bracket n es) rest
+unfolding writeAtom
+bracket-back n es rest h =
+    rw (append-assoc (cond n (94 ∷ []) []) (writeElements es ++ (93 ∷ [])) rest, append-assoc (writeElements es) (93 ∷ []) rest)
+    (inside-back n es rest h)
+
+-- an element of the form is written as bytes of a pattern
+element-clean : (first last : Bool) (e : Element) → formedElement first last e ≡ true → Clean (writeElement e)
+unfolding writeElement formedElement
+element-clean first last (byte b) h = (byte-form first last b h .0, tt)
+element-clean first last (range a b) h = (range-form first last a b h .0, (refl, (range-form first last a b h .1, tt)))
+element-clean first last (class c) h = (refl, (refl, clean-append (className c) (58 ∷ 93 ∷ []) (name-clean c (ltb-true c 12 h)) (refl, (refl, tt))))
+
+-- and so are elements of the form
+elements-clean : (first : Bool) (es : List Element) → formedElements first es ≡ true → Clean (writeElements es)
+unfolding writeElements formedElements
+elements-clean first [] h = tt
+elements-clean first (e ∷ []) h = clean-append (writeElement e) [] (element-clean first true e h) tt
+elements-clean first (e ∷ d ∷ es) h =
+    let (one, t) = both (formedElement first false e) (meets e d && formedElements false (d ∷ es)) h in
+    let (meet, others) = both (meets e d) (formedElements false (d ∷ es)) t in
+    clean-append (writeElement e) (writeElements (d ∷ es)) (element-clean first false e one) (elements-clean false (d ∷ es) others)
+
+-- and so is a bracket of the form
+pub bracket-clean : (n : Bool) (es : List Element) → formedAtom (bracket n es) ≡ true → Clean (writeAtom (bracket n es))
+unfolding writeAtom formedAtom
+bracket-clean n es h =
+    let inside : Clean (writeElements es ++ (93 ∷ [])) = clean-append (writeElements es) (93 ∷ []) (elements-clean true es (both (n || plainStart es) (formedElements true es) h .1)) (refl, tt) in
+    (refl, go n inside)
+  where
+    go : (t : Bool) → Clean (writeElements es ++ (93 ∷ [])) → Clean (cond t (94 ∷ []) [] ++ (writeElements es ++ (93 ∷ [])))
+    go true h = (refl, h)
+    go false h = h

@@ -1,0 +1,400 @@
+-- The readers that read each other in a cycle: what an answer says of what was read, and one law for each way out of each of them.
+use Prim.Native.Nat.{ℕ, zero, suc, _+_, _-_, _^_, _<_, _≤_}
+use native.Mathlib.Omega.{arith}
+use native.Mathlib.Nat.{add-zero, add-assoc, le-refl}
+use mathlib.Core.Path.{_≡_, refl, sym, ap, _∙_}
+use mathlib.Core.Bool.{Bool, true, false, _||_, cond}
+use mathlib.Core.List.{List, [], _∷_, _++_}
+use lib.Dec.{eqb}
+use lib.ListN.{length, drop, getD, length-append, length-drop}
+use lib.Seq.{drop-drop, getD-drop, drop-at}
+use borrow.Author.Tests.{ne-eqb, eqb-true}
+use Rattle.stateset.proofs.Sets.{word-lt}
+use Rattle.pattern.specs.declared.cursor.Cursor.{Cursor}
+use Rattle.pattern.specs.declared.cursor.Part.{Part}
+use Rattle.pattern.specs.declared.shape.Shape.{Shape}
+use Rattle.pattern.specs.Form.{Atom, plain, dot, escaped, bracket, Expr, atom, group, star, plus, opt, seq, alt, atoms, write, writeAtom}
+use Rattle.pattern.specs.Reader.{Parsed, parsed, fault, next, done, at, Mode, endsPieces, readAtom, readRepeat, readExpr}
+use Rattle.pattern.specs.States.{nothing, first, last, follow, holds, atomState}
+use Rattle.pattern.specs.Tables.{keysAfter, enterAfter, linked, shapeOf, seqShape, altShape}
+use Rattle.pattern.specs.Cycle.{Clean, Ready, Done, room, Reads, AtomDone, repeatShape, repeatEnter, repeatAt}
+use Rattle.pattern.proofs.Parses.{clash, clean-drop}
+use Rattle.pattern.proofs.TreesFrom.{expr-from, inner-group, atom-from}
+use Rattle.pattern.proofs.Atoms.{inside}
+use Rattle.pattern.proofs.Tables.{keys-seq, keys-alt, enter-seq, enter-alt, enter-again, enter-atom, first-seq, last-seq, first-alt, last-alt}
+
+-- an expression has an atom, and each atom has a byte
+pub atoms-some : (e : Expr) → 1 ≤ atoms e
+unfolding atoms
+atoms-some (atom a) = omega arith
+atoms-some (group e) = atoms-some e
+atoms-some (star e) = atoms-some e
+atoms-some (plus e) = atoms-some e
+atoms-some (opt e) = atoms-some e
+atoms-some (seq p q) = let h : 1 ≤ atoms p = atoms-some p in omega arith
+atoms-some (alt p q) = let h : 1 ≤ atoms p = atoms-some p in omega arith
+
+atom-written : (a : Atom) → 1 ≤ length (writeAtom a)
+unfolding writeAtom
+atom-written (plain b) = omega arith
+atom-written dot = omega arith
+atom-written (escaped b) = omega arith
+atom-written (bracket n es) = omega arith
+
+pub atoms-written : (e : Expr) → atoms e ≤ length (write e)
+unfolding atoms write
+atoms-written (atom a) = atom-written a
+atoms-written (group e) = let h : atoms e ≤ length (write e) = atoms-written e in rw length-append (omega arith)
+atoms-written (star e) = let h : atoms e ≤ length (write e) = atoms-written e in rw length-append (omega arith)
+atoms-written (plus e) = let h : atoms e ≤ length (write e) = atoms-written e in rw length-append (omega arith)
+atoms-written (opt e) = let h : atoms e ≤ length (write e) = atoms-written e in rw length-append (omega arith)
+atoms-written (seq p q) =
+    let h : atoms p ≤ length (write p) = atoms-written p in
+    let g : atoms q ≤ length (write q) = atoms-written q in
+    rw length-append (omega arith)
+atoms-written (alt p q) =
+    let h : atoms p ≤ length (write p) = atoms-written p in
+    let g : atoms q ≤ length (write q) = atoms-written q in
+    rw length-append (omega arith)
+
+-- the bytes that an expression was read from; those of a group stand behind its parenthesis
+inner-bytes : (x e : Expr) (l rest : List ℕ) → e ≡ group x → 40 ∷ l ≡ write e ++ rest → (w : List ℕ) × (l ≡ w ++ rest) × (atoms e ≤ length w)
+unfolding write atoms
+inner-bytes x e l rest same h =
+    let all : 40 ∷ l ≡ 40 ∷ ((write x ++ (41 ∷ [])) ++ rest) = rw same at h in
+    let many : atoms x ≤ length (write x) = atoms-written x in
+    (write x ++ (41 ∷ []), cc, rw (same, length-append) (omega arith))
+
+bytes-of : (f : ℕ) (m : Mode) (l rest : List ℕ) (e : Expr) → Clean l → readExpr f m l ≡ parsed e rest → (w : List ℕ) × (l ≡ w ++ rest) × (atoms e ≤ length w)
+bytes-of f Mode.alts l rest e h q = (write e, expr-from f Mode.alts l rest e h q .0, atoms-written e)
+bytes-of f Mode.branch l rest e h q = (write e, expr-from f Mode.branch l rest e h q .0, atoms-written e)
+bytes-of f Mode.piece l rest e h q = (write e, expr-from f Mode.piece l rest e h q .0, atoms-written e)
+bytes-of f Mode.inner l rest e h q =
+    let (x, same) = inner-group f l rest e q in
+    inner-bytes x e l rest same (expr-from f Mode.inner l rest e h q .0)
+
+-- what was read, and where reading goes on: behind it, inside, with no more atoms than bytes
+pub record Behind (s : List ℕ) (c d : Cursor) (e : Expr) (rest : List ℕ) : Type 0 where
+  pub next : d ≡ record { at = length s - length rest; atoms = c .atoms + atoms e }
+  pub here : rest ≡ drop (d .at) s
+  pub on : c .at < d .at
+  pub ready : Ready s d
+
+module _ (s : List ℕ) (c : Cursor) (r : Ready s c) where
+  -- bytes that an expression takes at least as many of as it has atoms
+  behind : (d : Cursor) (e : Expr) (w rest : List ℕ) → drop (c .at) s ≡ w ++ rest → atoms e ≤ length w → d ≡ record { at = length s - length rest; atoms = c .atoms + atoms e } → Behind s c d e rest
+  behind d e w rest f h g =
+      let some : 1 ≤ atoms e = atoms-some e in
+      let sum : length s - c .at ≡ length w + length rest = sym (length-drop (c .at) s) ∙ ap length f ∙ length-append w rest in
+      let place : length s - length rest ≡ c .at + length w = omega (arith, r .inside) in
+      let ate : d .at ≡ length s - length rest = ap (λ (x : Cursor). x .at) g in
+      let many : d .atoms ≡ c .atoms + atoms e = ap (λ (x : Cursor). x .atoms) g in
+      record {
+        next = g;
+        here = sym (drop-at w rest (length w) refl) ∙ ap (drop (length w)) (sym f) ∙ drop-drop (length w) (c .at) s ∙ ap (λ (i : ℕ). drop i s) (sym (ate ∙ place));
+        on = omega arith;
+        ready = record { inside = omega (arith, r .inside); short = r .short; few = omega (arith, r .few); clean = r .clean };
+      }
+
+  -- an answer of a reader says what was read
+  pub record View (m : Mode) (keys enter : List ℕ) (d : Cursor) (p : Shape) (keys' enter' : List ℕ) (f : ℕ) : Type 0 where
+    pub expr : Expr
+    pub rest : List ℕ
+    pub reading : readExpr f m (drop (c .at) s) ≡ parsed expr rest
+    pub behind-it : Behind s c d expr rest
+    pub shape : p ≡ shapeOf (c .atoms) expr
+    pub keyed : keys' ≡ keysAfter (c .atoms) expr keys
+    pub entered : enter' ≡ enterAfter (c .atoms) expr enter
+
+  module _ (m : Mode) (keys enter : List ℕ) (x : Part) (keys' enter' : List ℕ) (h : Reads m s c keys enter x keys' enter') where
+    pub view : (d : Cursor) (p : Shape) → x ≡ Part.Read d p → (f : ℕ) → room m (length s - c .at) ≤ f → View m keys enter d p keys' enter' f
+    view d p e f g = go (readExpr f m (drop (c .at) s)) refl (h f g)
+      where
+        go : (y : Parsed Expr) → readExpr f m (drop (c .at) s) ≡ y → Done (length s) c keys enter x keys' enter' y → View m keys enter d p keys' enter' f
+        go (parsed t rest) q (i, j, k) =
+            let (w, split, enough) = bytes-of f m (drop (c .at) s) rest t (clean-drop (c .at) s (r .clean)) q in
+            let next : d ≡ record { at = length s - length rest; atoms = c .atoms + atoms t } = cc in
+            record { expr = t; rest = rest; reading = q; behind-it = behind d t w rest split enough next; shape = cc; keyed = j; entered = k }
+        go fault q i = clash (cc)
+
+    pub unread : x ≡ Part.Fault → (f : ℕ) → room m (length s - c .at) ≤ f → readExpr f m (drop (c .at) s) ≡ fault
+    unread e f g = go (readExpr f m (drop (c .at) s)) refl (h f g)
+      where
+        go : (y : Parsed Expr) → readExpr f m (drop (c .at) s) ≡ y → Done (length s) c keys enter x keys' enter' y → readExpr f m (drop (c .at) s) ≡ fault
+        go (parsed t rest) q (i, j, k) = cc
+        go fault q i = q
+
+-- the byte at the cursor behind what was read
+pub peeked : (s : List ℕ) (i : ℕ) → at 0 (drop i s) ≡ getD s i 0
+peeked s i = getD-drop i s 0 0 ∙ ap (λ (j : ℕ). getD s j 0) (add-zero i)
+
+-- every bound is some depth
+room-some : (m : Mode) (k : ℕ) → 1 ≤ room m k
+room-some Mode.alts k = omega arith
+room-some Mode.branch k = omega arith
+room-some Mode.piece k = omega arith
+room-some Mode.inner k = omega arith
+
+deeper : (m : Mode) (s : List ℕ) (c : Cursor) (keys enter : List ℕ) (x : Part) (keys' enter' : List ℕ) → ((k : ℕ) → room m (length s - c .at) ≤ suc k → Done (length s) c keys enter x keys' enter' (readExpr (suc k) m (drop (c .at) s))) → Reads m s c keys enter x keys' enter'
+deeper m s c keys enter x keys' enter' h zero g = absurd (never (room-some m (length s - c .at)) g)
+  where
+    never : {n : ℕ} → 1 ≤ n → n ≤ 0 → ⊥
+    never a b = omega arith
+deeper m s c keys enter x keys' enter' h (suc k) g = h k g
+
+pub nonzero : (b n : ℕ) → 1 ≤ n → b ≡ n → b ≡ 0 → ⊥
+nonzero b n h e z = omega arith
+
+-- a cursor one byte on, where a byte stands
+pub past : (s : List ℕ) (d : Cursor) → Ready s d → (b : ℕ) → b ≡ getD s (d .at) 0 → (b ≡ 0 → ⊥) → Ready s (record { at = d .at + 1; atoms = d .atoms })
+past s d r b e n =
+    let i : d .at < length s = inside s (d .at) (λ z. n (e ∙ z)) in
+    record { inside = omega arith; short = r .short; few = omega (arith, r .few); clean = r .clean }
+
+-- and the bytes from there
+skipped : (s : List ℕ) (c d : Cursor) (e : Expr) (rest : List ℕ) → Behind s c d e rest → drop 1 rest ≡ drop (d .at + 1) s
+skipped s c d e rest v = ap (drop 1) (v .here) ∙ drop-drop 1 (d .at) s
+
+-- the shapes of two expressions together
+shape-alt : (b : ℕ) (p q : Expr) → altShape (shapeOf b p) (shapeOf (b + atoms p) q) ≡ shapeOf b (alt p q)
+unfolding nothing
+shape-alt b p q = rw (first-alt b p q, last-alt b p q)
+
+shape-seq : (b : ℕ) (p q : Expr) → seqShape (shapeOf b p) (shapeOf (b + atoms p) q) ≡ shapeOf b (seq p q)
+unfolding nothing
+shape-seq b p q = rw (first-seq b p q, last-seq b p q)
+
+-- two expressions were read, the second from base b2 on: the answer for both
+module _ (n : ℕ) (c d : Cursor) (keys keys' keys'' enter enter' enter'' : List ℕ) (e1 e2 : Expr) (rest : List ℕ) (p1 p2 : Shape) (b2 : ℕ) (base : b2 ≡ c .atoms + atoms e1) (next : d ≡ record { at = n - length rest; atoms = b2 + atoms e2 }) (s1 : p1 ≡ shapeOf (c .atoms) e1) (s2 : p2 ≡ shapeOf b2 e2) (k1 : keys' ≡ keysAfter (c .atoms) e1 keys) (k2 : keys'' ≡ keysAfter b2 e2 keys') (t1 : enter' ≡ enterAfter (c .atoms) e1 enter) (t2 : enter'' ≡ enterAfter b2 e2 enter') where
+  place-two : d ≡ record { at = n - length rest; atoms = c .atoms + (atoms e1 + atoms e2) }
+  place-two = next ∙ rw (base, add-assoc)
+
+  done-alt : (q : Shape) → q ≡ altShape p1 p2 → Done n c keys enter (Part.Read d q) keys'' enter'' (parsed (alt e1 e2) rest)
+  unfolding atoms
+  done-alt q e =
+      let whole : q ≡ shapeOf (c .atoms) (alt e1 e2) = e ∙ rw (s1, s2, base) (shape-alt (c .atoms) e1 e2) in
+      (cc (place-two, whole), k2 ∙ rw (base, k1) (keys-alt (c .atoms) e1 e2 keys), t2 ∙ rw (base, t1) (enter-alt (c .atoms) e1 e2 enter))
+
+  done-seq : (q : Shape) (after : List ℕ) → q ≡ seqShape p1 p2 → after ≡ linked (p1 .last) (p2 .first) enter'' → Done n c keys enter (Part.Read d q) keys'' after (parsed (seq e1 e2) rest)
+  unfolding atoms
+  done-seq q after e f =
+      let whole : q ≡ shapeOf (c .atoms) (seq e1 e2) = e ∙ rw (s1, s2, base) (shape-seq (c .atoms) e1 e2) in
+      (cc (place-two, whole), k2 ∙ rw (base, k1) (keys-seq (c .atoms) e1 e2 keys), f ∙ rw (s1, s2, t2, base, t1) (enter-seq (c .atoms) e1 e2 enter))
+
+module _ (s : List ℕ) (c : Cursor) (r : Ready s c) (keys enter : List ℕ) where
+  -- an answer is that of what was read
+  answer : (m : Mode) (d : Cursor) (p : Shape) (keys' enter' : List ℕ) (k : ℕ) (v : View s c r m keys enter d p keys' enter' k) → Done (length s) c keys enter (Part.Read d p) keys' enter' (parsed (v .expr) (v .rest))
+  answer m d p keys' enter' k v = (cc (v .behind-it .next, v .shape), v .keyed, v .entered)
+
+  -- the byte behind it
+  byte : (m : Mode) (d : Cursor) (p : Shape) (keys' enter' : List ℕ) (k : ℕ) (v : View s c r m keys enter d p keys' enter' k) (b : ℕ) → b ≡ getD s (d .at) 0 → at 0 (v .rest) ≡ b
+  byte m d p keys' enter' k v b e = ap (at 0) (v .behind-it .here) ∙ peeked s (d .at) ∙ sym e
+
+  -- an alternative list
+  module _ (x : Part) (keys' enter' : List ℕ) (h : Reads Mode.branch s c keys enter x keys' enter') where
+    pub alts-fault : x ≡ Part.Fault → Reads Mode.alts s c keys enter Part.Fault keys' enter'
+    unfolding readExpr
+    alts-fault e = deeper Mode.alts s c keys enter Part.Fault keys' enter' (λ k g. rw (unread s c r Mode.branch keys enter x keys' enter' h e k (omega arith)) refl)
+
+    module _ (d : Cursor) (p : Shape) (e : x ≡ Part.Read d p) (b : ℕ) (eb : b ≡ getD s (d .at) 0) where
+      pub alts-one : (b ≡ 124 → ⊥) → Reads Mode.alts s c keys enter (Part.Read d p) keys' enter'
+      unfolding readExpr
+      alts-one n = deeper Mode.alts s c keys enter (Part.Read d p) keys' enter' (λ k g. go k (view s c r Mode.branch keys enter x keys' enter' h d p e k (omega arith)))
+        where
+          go : (k : ℕ) (v : View s c r Mode.branch keys enter d p keys' enter' k) → Done (length s) c keys enter (Part.Read d p) keys' enter' (readExpr (suc k) Mode.alts (drop (c .at) s))
+          go k v = rw (v .reading, byte Mode.branch d p keys' enter' k v b eb, ne-eqb _ _ n) (answer Mode.branch d p keys' enter' k v)
+
+      module _ (y : Part) (keys'' enter'' : List ℕ) (h2 : Reads Mode.alts s (record { at = d .at + 1; atoms = d .atoms }) keys' enter' y keys'' enter'') (bar : b ≡ 124) where
+        pub alts-more-fault : y ≡ Part.Fault → Reads Mode.alts s c keys enter Part.Fault keys'' enter''
+        unfolding readExpr
+        alts-more-fault f = deeper Mode.alts s c keys enter Part.Fault keys'' enter'' (λ k g. go k g (view s c r Mode.branch keys enter x keys' enter' h d p e k (omega arith)))
+          where
+            go : (k : ℕ) → room Mode.alts (length s - c .at) ≤ suc k → (v : View s c r Mode.branch keys enter d p keys' enter' k) → Done (length s) c keys enter Part.Fault keys'' enter'' (readExpr (suc k) Mode.alts (drop (c .at) s))
+            go k g v =
+                let r2 = past s d (v .behind-it .ready) b eb (nonzero b 124 (omega arith) bar) in
+                rw (v .reading, byte Mode.branch d p keys' enter' k v b eb, bar, skipped s c d (v .expr) (v .rest) (v .behind-it), unread s (record { at = d .at + 1; atoms = d .atoms }) r2 Mode.alts keys' enter' y keys'' enter'' h2 f k (omega (arith, v .behind-it .on, r2 .inside))) refl
+
+        pub alts-more : (d2 : Cursor) (p2 q : Shape) → y ≡ Part.Read d2 p2 → q ≡ altShape p p2 → Reads Mode.alts s c keys enter (Part.Read d2 q) keys'' enter''
+        unfolding readExpr
+        alts-more d2 p2 q f g = deeper Mode.alts s c keys enter (Part.Read d2 q) keys'' enter'' (λ k i. go k i (view s c r Mode.branch keys enter x keys' enter' h d p e k (omega arith)))
+          where
+            c2 : Cursor
+            c2 = record { at = d .at + 1; atoms = d .atoms }
+
+            both : (k : ℕ) (v : View s c r Mode.branch keys enter d p keys' enter' k) (r2 : Ready s c2) → View s c2 r2 Mode.alts keys' enter' d2 p2 keys'' enter'' k → Done (length s) c keys enter (Part.Read d2 q) keys'' enter'' (readExpr (suc k) Mode.alts (drop (c .at) s))
+            both k v r2 w =
+                rw (v .reading, byte Mode.branch d p keys' enter' k v b eb, bar, skipped s c d (v .expr) (v .rest) (v .behind-it), w .reading)
+                (done-alt (length s) c d2 keys keys' keys'' enter enter' enter'' (v .expr) (w .expr) (w .rest) p p2 (d .atoms) (ap (λ (z : Cursor). z .atoms) (v .behind-it .next)) (w .behind-it .next) (v .shape) (w .shape) (v .keyed) (w .keyed) (v .entered) (w .entered) q g)
+
+            go : (k : ℕ) → room Mode.alts (length s - c .at) ≤ suc k → (v : View s c r Mode.branch keys enter d p keys' enter' k) → Done (length s) c keys enter (Part.Read d2 q) keys'' enter'' (readExpr (suc k) Mode.alts (drop (c .at) s))
+            go k i v =
+                let r2 = past s d (v .behind-it .ready) b eb (nonzero b 124 (omega arith) bar) in
+                both k v r2 (view s c2 r2 Mode.alts keys' enter' y keys'' enter'' h2 d2 p2 f k (omega (arith, v .behind-it .on, r2 .inside)))
+
+  -- a branch
+  module _ (x : Part) (keys' enter' : List ℕ) (h : Reads Mode.piece s c keys enter x keys' enter') where
+    pub branch-fault : x ≡ Part.Fault → Reads Mode.branch s c keys enter Part.Fault keys' enter'
+    unfolding readExpr
+    branch-fault e = deeper Mode.branch s c keys enter Part.Fault keys' enter' (λ k g. rw (unread s c r Mode.piece keys enter x keys' enter' h e k (omega arith)) refl)
+
+    module _ (d : Cursor) (p : Shape) (e : x ≡ Part.Read d p) (b : ℕ) (eb : b ≡ getD s (d .at) 0) (t : Bool) (et : t ≡ endsPieces b) where
+      pub branch-last : t ≡ true → Reads Mode.branch s c keys enter (Part.Read d p) keys' enter'
+      unfolding readExpr
+      branch-last n = deeper Mode.branch s c keys enter (Part.Read d p) keys' enter' (λ k g. go k (view s c r Mode.piece keys enter x keys' enter' h d p e k (omega arith)))
+        where
+          go : (k : ℕ) (v : View s c r Mode.piece keys enter d p keys' enter' k) → Done (length s) c keys enter (Part.Read d p) keys' enter' (readExpr (suc k) Mode.branch (drop (c .at) s))
+          go k v = rw (v .reading, byte Mode.piece d p keys' enter' k v b eb, ← et, n) (answer Mode.piece d p keys' enter' k v)
+
+      module _ (y : Part) (keys'' enter'' : List ℕ) (h2 : Reads Mode.branch s d keys' enter' y keys'' enter'') (more : t ≡ false) where
+        pub branch-more-fault : y ≡ Part.Fault → Reads Mode.branch s c keys enter Part.Fault keys'' enter''
+        unfolding readExpr
+        branch-more-fault f = deeper Mode.branch s c keys enter Part.Fault keys'' enter'' (λ k g. go k g (view s c r Mode.piece keys enter x keys' enter' h d p e k (omega arith)))
+          where
+            go : (k : ℕ) → room Mode.branch (length s - c .at) ≤ suc k → (v : View s c r Mode.piece keys enter d p keys' enter' k) → Done (length s) c keys enter Part.Fault keys'' enter'' (readExpr (suc k) Mode.branch (drop (c .at) s))
+            go k g v =
+                rw (v .reading, byte Mode.piece d p keys' enter' k v b eb, ← et, more, v .behind-it .here, unread s d (v .behind-it .ready) Mode.branch keys' enter' y keys'' enter'' h2 f k (omega (arith, v .behind-it .on, v .behind-it .ready .inside))) refl
+
+        pub branch-more : (d2 : Cursor) (p2 q : Shape) (after : List ℕ) → y ≡ Part.Read d2 p2 → after ≡ linked (p .last) (p2 .first) enter'' → q ≡ seqShape p p2 → Reads Mode.branch s c keys enter (Part.Read d2 q) keys'' after
+        unfolding readExpr
+        branch-more d2 p2 q after f l g = deeper Mode.branch s c keys enter (Part.Read d2 q) keys'' after (λ k i. go k i (view s c r Mode.piece keys enter x keys' enter' h d p e k (omega arith)))
+          where
+            both : (k : ℕ) (v : View s c r Mode.piece keys enter d p keys' enter' k) → View s d (v .behind-it .ready) Mode.branch keys' enter' d2 p2 keys'' enter'' k → Done (length s) c keys enter (Part.Read d2 q) keys'' after (readExpr (suc k) Mode.branch (drop (c .at) s))
+            both k v w =
+                rw (v .reading, byte Mode.piece d p keys' enter' k v b eb, ← et, more, v .behind-it .here, w .reading)
+                (done-seq (length s) c d2 keys keys' keys'' enter enter' enter'' (v .expr) (w .expr) (w .rest) p p2 (d .atoms) (ap (λ (z : Cursor). z .atoms) (v .behind-it .next)) (w .behind-it .next) (v .shape) (w .shape) (v .keyed) (w .keyed) (v .entered) (w .entered) q after g l)
+
+            go : (k : ℕ) → room Mode.branch (length s - c .at) ≤ suc k → (v : View s c r Mode.piece keys enter d p keys' enter' k) → Done (length s) c keys enter (Part.Read d2 q) keys'' after (readExpr (suc k) Mode.branch (drop (c .at) s))
+            go k i v = both k v (view s d (v .behind-it .ready) Mode.branch keys' enter' y keys'' enter'' h2 d2 p2 f k (omega (arith, v .behind-it .on, v .behind-it .ready .inside)))
+
+  -- a group behind its parenthesis
+  module _ (x : Part) (keys' enter' : List ℕ) (h : Reads Mode.alts s c keys enter x keys' enter') where
+    pub group-fault : x ≡ Part.Fault → Reads Mode.inner s c keys enter Part.Fault keys' enter'
+    unfolding readExpr
+    group-fault e = deeper Mode.inner s c keys enter Part.Fault keys' enter' (λ k g. rw (unread s c r Mode.alts keys enter x keys' enter' h e k (omega arith)) refl)
+
+    module _ (d : Cursor) (p : Shape) (e : x ≡ Part.Read d p) (b : ℕ) (eb : b ≡ getD s (d .at) 0) where
+      pub group-open : (b ≡ 41 → ⊥) → Reads Mode.inner s c keys enter Part.Fault keys' enter'
+      unfolding readExpr
+      group-open n = deeper Mode.inner s c keys enter Part.Fault keys' enter' (λ k g. go k (view s c r Mode.alts keys enter x keys' enter' h d p e k (omega arith)))
+        where
+          go : (k : ℕ) (v : View s c r Mode.alts keys enter d p keys' enter' k) → Done (length s) c keys enter Part.Fault keys' enter' (readExpr (suc k) Mode.inner (drop (c .at) s))
+          go k v = rw (v .reading, byte Mode.alts d p keys' enter' k v b eb, ne-eqb _ _ n) refl
+
+      pub group-closed : b ≡ 41 → Reads Mode.inner s c keys enter (Part.Read (record { at = d .at + 1; atoms = d .atoms }) p) keys' enter'
+      unfolding readExpr atoms nothing first last follow holds
+      group-closed n = deeper Mode.inner s c keys enter (Part.Read (record { at = d .at + 1; atoms = d .atoms }) p) keys' enter' (λ k g. go k (view s c r Mode.alts keys enter x keys' enter' h d p e k (omega arith)))
+        where
+          go : (k : ℕ) (v : View s c r Mode.alts keys enter d p keys' enter' k) → Done (length s) c keys enter (Part.Read (record { at = d .at + 1; atoms = d .atoms }) p) keys' enter' (readExpr (suc k) Mode.inner (drop (c .at) s))
+          go k v =
+              let r2 = past s d (v .behind-it .ready) b eb (nonzero b 41 (omega arith) n) in
+              let place : d .at + 1 ≡ length s - length (drop 1 (v .rest)) = rw (skipped s c d (v .expr) (v .rest) (v .behind-it), length-drop) (omega (arith, r2 .inside)) in
+              let many : d .atoms ≡ c .atoms + atoms (v .expr) = ap (λ (z : Cursor). z .atoms) (v .behind-it .next) in
+              rw (v .reading, byte Mode.alts d p keys' enter' k v b eb, n) (cc (place, many, v .shape), v .keyed, v .entered)
+
+-- an atom or a group was read, and a mark of repetition m or none stands behind it
+module _ (s : List ℕ) (c d : Cursor) (keys keys' enter enter' : List ℕ) (e : Expr) (rest : List ℕ) (p : Shape) (m : ℕ) (em : m ≡ getD s (d .at) 0) (in-s : d .at ≤ length s) (here : rest ≡ drop (d .at) s) (next : d ≡ record { at = length s - length rest; atoms = c .atoms + atoms e }) (shape : p ≡ shapeOf (c .atoms) e) (keyed : keys' ≡ keysAfter (c .atoms) e keys) (entered : enter' ≡ enterAfter (c .atoms) e enter) where
+  done-repeat : (y : Part) (after : List ℕ) → y ≡ Part.Read (record { at = repeatAt m (d .at); atoms = d .atoms }) (repeatShape m p) → after ≡ repeatEnter m p enter' → Done (length s) c keys enter y keys' after (readRepeat e rest)
+  unfolding readRepeat atoms nothing first last follow holds
+  done-repeat y after ey ea = rw (ey, ea, front) (go (eqb m 42) (eqb m 43) (eqb m 63) refl refl refl)
+    where
+      front : at 0 rest ≡ m
+      front = ap (at 0) here ∙ peeked s (d .at) ∙ sym em
+
+      many : d .atoms ≡ c .atoms + atoms e
+      many = ap (λ (z : Cursor). z .atoms) next
+
+      on : (n : ℕ) → 1 ≤ n → eqb m n ≡ true → d .at + 1 ≡ length s - length (drop 1 rest)
+      on n l q =
+          let i : d .at < length s = inside s (d .at) (λ z. nonzero m n l (eqb-true m n q) (em ∙ z)) in
+          rw (here, length-drop, length-drop) (omega arith)
+
+      two : m ≡ 43 → m ≡ 63 → ⊥
+      two f g = omega arith
+
+      go : (t u w : Bool) → eqb m 42 ≡ t → eqb m 43 ≡ u → eqb m 63 ≡ w → Done (length s) c keys enter (Part.Read (record { at = cond (t || (u || w)) (d .at + 1) (d .at); atoms = d .atoms }) (cond (t || w) (record { nothing = true; first = p .first; last = p .last }) p)) keys' (cond (t || u) (linked (p .last) (p .first) enter') enter') (cond t (parsed (star e) (drop 1 rest)) (cond u (parsed (plus e) (drop 1 rest)) (cond w (parsed (opt e) (drop 1 rest)) (parsed e rest))))
+      go true u w i j k = (cc (on 42 (omega arith) i, many, shape), keyed, rw (shape, entered) (enter-again (c .atoms) e enter))
+      go false true true i j k = absurd (two (eqb-true m 43 j) (eqb-true m 63 k))
+      go false true false i j k = (cc (on 43 (omega arith) j, many, shape), keyed, rw (shape, entered) (enter-again (c .atoms) e enter))
+      go false false true i j k = (rw (on 63 (omega arith) k, many, shape), keyed, entered)
+      go false false false i j k = (cc (next, shape), keyed, entered)
+
+module _ (s : List ℕ) (c : Cursor) (r : Ready s c) (keys enter : List ℕ) (b : ℕ) (eb : b ≡ getD s (c .at) 0) where
+  opened : at 0 (drop (c .at) s) ≡ b
+  opened = peeked s (c .at) ∙ sym eb
+
+  -- a piece that is a group
+  module _ (paren : b ≡ 40) (x : Part) (keys' enter' : List ℕ) (h : Reads Mode.inner s (record { at = c .at + 1; atoms = c .atoms }) keys enter x keys' enter') where
+    r2 : Ready s (record { at = c .at + 1; atoms = c .atoms })
+    r2 = past s c r b eb (nonzero b 40 (omega arith) paren)
+
+    pub piece-fault : x ≡ Part.Fault → Reads Mode.piece s c keys enter Part.Fault keys' enter'
+    unfolding readExpr
+    piece-fault e = deeper Mode.piece s c keys enter Part.Fault keys' enter' (λ k g. rw (opened, paren, drop-drop 1 (c .at) s, unread s (record { at = c .at + 1; atoms = c .atoms }) r2 Mode.inner keys enter x keys' enter' h e k (omega (arith, r2 .inside))) refl)
+
+    pub piece-group : (d : Cursor) (p : Shape) (m : ℕ) (y : Part) (after : List ℕ) → x ≡ Part.Read d p → m ≡ getD s (d .at) 0 → y ≡ Part.Read (record { at = repeatAt m (d .at); atoms = d .atoms }) (repeatShape m p) → after ≡ repeatEnter m p enter' → Reads Mode.piece s c keys enter y keys' after
+    unfolding readExpr
+    piece-group d p m y after e em ey ea = deeper Mode.piece s c keys enter y keys' after (λ k g. go k (view s (record { at = c .at + 1; atoms = c .atoms }) r2 Mode.inner keys enter x keys' enter' h d p e k (omega (arith, r2 .inside))))
+      where
+        go : (k : ℕ) (v : View s (record { at = c .at + 1; atoms = c .atoms }) r2 Mode.inner keys enter d p keys' enter' k) → Done (length s) c keys enter y keys' after (readExpr (suc k) Mode.piece (drop (c .at) s))
+        go k v =
+            rw (opened, paren, drop-drop 1 (c .at) s, v .reading)
+            (done-repeat s c d keys keys' enter enter' (v .expr) (v .rest) p m em (v .behind-it .ready .inside) (v .behind-it .here) (v .behind-it .next) (v .shape) (v .keyed) (v .entered) y after ey ea)
+
+  -- a piece that is an atom
+  module _ (plain-one : b ≡ 40 → ⊥) (x : Part) (keys' : List ℕ) (h : AtomDone (length s) c keys x keys' (readAtom (drop (c .at) s))) where
+    pub piece-atom-fault : x ≡ Part.Fault → Reads Mode.piece s c keys enter Part.Fault keys' enter
+    unfolding readExpr
+    piece-atom-fault e = deeper Mode.piece s c keys enter Part.Fault keys' enter (λ k g. rw (opened, ne-eqb _ _ plain-one) (go (readAtom (drop (c .at) s)) h))
+      where
+        go : (y : Parsed Atom) → AtomDone (length s) c keys x keys' y → Done (length s) c keys enter Part.Fault keys' enter (next (next y (λ a. done (atom a))) readRepeat)
+        go (parsed a rest) (i, j) = clash (cc)
+        go fault i = refl
+
+    pub piece-atom : (d : Cursor) (p : Shape) (m : ℕ) (y : Part) (after : List ℕ) → x ≡ Part.Read d p → m ≡ getD s (d .at) 0 → y ≡ Part.Read (record { at = repeatAt m (d .at); atoms = d .atoms }) (repeatShape m p) → after ≡ repeatEnter m p enter → Reads Mode.piece s c keys enter y keys' after
+    unfolding readExpr atoms
+    piece-atom d p m y after e em ey ea = deeper Mode.piece s c keys enter y keys' after (λ k g. rw (opened, ne-eqb _ _ plain-one) (go (readAtom (drop (c .at) s)) refl h))
+      where
+        go : (z : Parsed Atom) → readAtom (drop (c .at) s) ≡ z → AtomDone (length s) c keys x keys' z → Done (length s) c keys enter y keys' after (next (next z (λ a. done (atom a))) readRepeat)
+        go (parsed a rest) q (i, j) =
+            let there : d ≡ record { at = length s - length rest; atoms = c .atoms + 1 } = cc in
+            let v = behind s c r d (atom a) (writeAtom a) rest (atom-from (drop (c .at) s) rest a (clean-drop (c .at) s (r .clean)) q .0) (atom-written a) there in
+            done-repeat s c d keys keys' enter enter (atom a) rest p m em (v .ready .inside) (v .here) there (cc) j (enter-atom (c .atoms) a enter) y after ey ea
+        go fault q i = clash (cc)
+
+-- What the calls in the cycle ask: each reads on with less room, and where it is ready.
+module _ (s : List ℕ) (c : Cursor) (r : Ready s c) (m : Mode) (keys enter : List ℕ) (x : Part) (keys' enter' : List ℕ) (h : Reads m s c keys enter x keys' enter') (d : Cursor) (p : Shape) (e : x ≡ Part.Read d p) where
+  seen : View s c r m keys enter d p keys' enter' (room m (length s - c .at))
+  seen = view s c r m keys enter x keys' enter' h d p e (room m (length s - c .at)) (le-refl (room m (length s - c .at)))
+
+  pub read-ready : Ready s d
+  read-ready = seen .behind-it .ready
+
+  pub read-later : c .at < d .at
+  read-later = seen .behind-it .on
+
+  pub read-small : p .last < 2 ^ 32
+  read-small = rw (seen .shape) (word-lt 32 (λ q. atomState (last (c .atoms) (seen .expr)) q))
+
+  module _ (b : ℕ) (eb : b ≡ getD s (d .at) 0) (n : ℕ) (some : 1 ≤ n) (eq : b ≡ n) where
+    pub read-past : Ready s (record { at = d .at + 1; atoms = d .atoms })
+    read-past = past s d read-ready b eb (nonzero b n some eq)
+
+-- an atom leaves a cursor that is ready, and a small word
+module _ (s : List ℕ) (c : Cursor) (r : Ready s c) (keys keys' : List ℕ) (x : Part) (h : AtomDone (length s) c keys x keys' (readAtom (drop (c .at) s))) (d : Cursor) (p : Shape) (e : x ≡ Part.Read d p) where
+  atom-seen : (Ready s d) × (p .last < 2 ^ 32)
+  unfolding atoms
+  atom-seen = go (readAtom (drop (c .at) s)) refl h
+    where
+      go : (z : Parsed Atom) → readAtom (drop (c .at) s) ≡ z → AtomDone (length s) c keys x keys' z → (Ready s d) × (p .last < 2 ^ 32)
+      go (parsed a rest) q (i, j) =
+          let there : d ≡ record { at = length s - length rest; atoms = c .atoms + 1 } = cc in
+          let shape : p ≡ shapeOf (c .atoms) (atom a) = cc in
+          let v = behind s c r d (atom a) (writeAtom a) rest (atom-from (drop (c .at) s) rest a (clean-drop (c .at) s (r .clean)) q .0) (atom-written a) there in
+          (v .ready, rw shape (word-lt 32 (λ q. atomState (last (c .atoms) (atom a)) q)))
+      go fault q i = clash (cc)
+
+  pub atom-ready : Ready s d
+  atom-ready = atom-seen .0
+
+  pub atom-small : p .last < 2 ^ 32
+  atom-small = atom-seen .1

@@ -1,0 +1,263 @@
+-- Atoms, pieces, groups: what is written of one that has the form is read again.
+use Prim.Native.Nat.{ℕ, zero, suc, _+_, _*_, _≤_}
+use native.Mathlib.Omega.{arith}
+use mathlib.Core.Path.{_≡_, refl}
+use mathlib.Core.Bool.{Bool, true, false, not, _&&_, _||_, cond}
+use mathlib.Core.List.{List, [], _∷_, _++_, append-assoc}
+use lib.Dec.{leb, eqb}
+use lib.ListN.{length, drop, length-append}
+use borrow.Author.Tests.{eqb-true, not-true}
+use Rattle.pattern.specs.Form.{Atom, plain, dot, escaped, bracket, Expr, atom, group, star, plus, opt, seq, alt, member, patternByte, marks, writeAtom, write, formedAtom, formed}
+use Rattle.pattern.specs.Reader.{parsed, next, done, at, readAtom, readRepeat, endsPieces, Mode, readExpr}
+use Rattle.pattern.proofs.Parses.{clash, both, neither, other-than, Clean, clean-append, cleanBytes, clean-bytes, clean-member, byte-is}
+use Rattle.pattern.proofs.BracketsBack.{bracket-back, bracket-clean}
+
+-- What expressions begin with.
+
+-- whether a byte is one of the repetition marks
+abbrev pub repeats : ℕ → Bool
+repeats b = eqb b 42 || (eqb b 43 || eqb b 63)
+
+-- the first byte of an expression: no byte that ends pieces, no `^`, no repetition mark
+abbrev pub Starts : ℕ → Type 0
+Starts b = (endsPieces b ≡ false) × (eqb b 94 ≡ false) × (repeats b ≡ false)
+
+-- a plain byte is no mark
+plain-apart : (b c : ℕ) → formedAtom (plain b) ≡ true → member c marks ≡ true → eqb b c ≡ false
+unfolding formedAtom
+plain-apart b c h g = other-than b c marks (not-true _ (both (patternByte b) (not (member b marks)) h .1)) g
+
+-- and not the end of the bytes
+plain-there : (b : ℕ) → formedAtom (plain b) ≡ true → eqb b 0 ≡ false
+unfolding formedAtom
+plain-there b h = byte-is b (both (patternByte b) (not (member b marks)) h .0) .2
+
+-- an atom of the form begins so, and not with `(`
+pub atom-starts : (a : Atom) (r : List ℕ) → formedAtom a ≡ true → Starts (at 0 (writeAtom a ++ r)) × (eqb (at 0 (writeAtom a ++ r)) 40 ≡ false)
+unfolding writeAtom member
+atom-starts (plain b) r h = ((rw (plain-there b h, plain-apart b 124 h refl, plain-apart b 41 h refl) (plain-apart b 36 h refl), plain-apart b 94 h refl, rw (plain-apart b 42 h refl, plain-apart b 43 h refl) (plain-apart b 63 h refl)), plain-apart b 40 h refl)
+atom-starts dot r h = ((refl, refl, refl), refl)
+atom-starts (escaped b) r h = ((refl, refl, refl), refl)
+atom-starts (bracket n es) r h = ((refl, refl, refl), refl)
+
+-- and an expression of the form begins so
+pub expr-starts : (e : Expr) (k : ℕ) (r : List ℕ) → formed e k ≡ true → Starts (at 0 (write e ++ r))
+unfolding write formed
+expr-starts (atom a) k r h = atom-starts a r h .0
+expr-starts (group e) k r h = (refl, refl, refl)
+expr-starts (star e) k r h = rw append-assoc (expr-starts e 0 (42 ∷ r) (both (leb 1 k) (formed e 0) h .1))
+expr-starts (plus e) k r h = rw append-assoc (expr-starts e 0 (43 ∷ r) (both (leb 1 k) (formed e 0) h .1))
+expr-starts (opt e) k r h = rw append-assoc (expr-starts e 0 (63 ∷ r) (both (leb 1 k) (formed e 0) h .1))
+expr-starts (seq p q) k r h = rw append-assoc (expr-starts p 1 (write q ++ r) (both (formed p 1) (formed q 2) (both (leb 2 k) _ h .1) .0))
+expr-starts (alt p q) k r h = rw append-assoc (expr-starts p 2 (124 ∷ write q ++ r) (both (formed p 2) (formed q 3) (both (leb 3 k) _ h .1) .0))
+
+-- an atom has a byte
+atom-long : (a : Atom) → 1 ≤ length (writeAtom a)
+unfolding writeAtom
+atom-long (plain b) = omega arith
+atom-long dot = omega arith
+atom-long (escaped b) = omega arith
+atom-long (bracket n es) = omega arith
+
+-- and so has an expression
+pub expr-long : (e : Expr) → 1 ≤ length (write e)
+unfolding write
+expr-long (atom a) = atom-long a
+expr-long (group e) = omega arith
+expr-long (star e) = rw length-append (omega (arith, expr-long e))
+expr-long (plus e) = rw length-append (omega (arith, expr-long e))
+expr-long (opt e) = rw length-append (omega (arith, expr-long e))
+expr-long (seq p q) = rw length-append (omega (arith, expr-long p))
+expr-long (alt p q) = rw length-append (omega (arith, expr-long p))
+
+-- a plain byte of the form is read as nothing else
+plain-dot : (b : ℕ) → formedAtom (plain b) ≡ true → (eqb b 46 ≡ false) × (eqb b 91 ≡ false) × (eqb b 92 ≡ false)
+unfolding member
+plain-dot b h = (plain-apart b 46 h refl, plain-apart b 91 h refl, plain-apart b 92 h refl)
+
+-- an atom of the form is read again
+pub atom-back : (a : Atom) (rest : List ℕ) → formedAtom a ≡ true → readAtom (writeAtom a ++ rest) ≡ parsed a rest
+unfolding readAtom writeAtom formedAtom
+atom-back (plain b) rest h =
+    let (dot-not, open-not, slash-not) = plain-dot b h in
+    rw (dot-not, open-not, slash-not, plain-there b h, not-true (member b marks) (both (patternByte b) (not (member b marks)) h .1))
+atom-back dot rest h = refl
+atom-back (escaped b) rest h = rw h
+atom-back (bracket n es) rest h = bracket-back n es rest h
+
+-- The cycle.
+
+-- what has the form for a mode: for a group after its opening parenthesis, a group
+abbrev pub Formed : Mode → Expr → Type 0
+Formed Mode.alts e = formed e 3 ≡ true
+Formed Mode.branch e = formed e 2 ≡ true
+Formed Mode.piece e = formed e 1 ≡ true
+Formed Mode.inner e = (x : Expr) × (e ≡ group x) × (formed x 3 ≡ true)
+
+-- the bytes that a mode is given of an expression, with the bytes after it
+abbrev pub given : Mode → Expr → List ℕ → List ℕ
+given Mode.alts e rest = write e ++ rest
+given Mode.branch e rest = write e ++ rest
+given Mode.piece e rest = write e ++ rest
+given Mode.inner e rest = drop 1 (write e ++ rest)
+
+-- the byte that follows does not go on what the mode reads
+abbrev pub stops : Mode → ℕ → Bool
+stops Mode.alts b = endsPieces b && not (eqb b 124)
+stops Mode.branch b = endsPieces b
+stops Mode.piece b = not (repeats b)
+stops Mode.inner b = true
+
+-- a bound that is enough for an expression of k bytes
+abbrev pub room : Mode → ℕ → ℕ
+room Mode.alts k = 4 * k + 3
+room Mode.branch k = 4 * k + 2
+room Mode.piece k = 4 * k + 1
+room Mode.inner k = 4 * k
+
+-- reading within a bound undoes writing
+abbrev Back : ℕ → Mode → Type 0
+Back f m = (e : Expr) (rest : List ℕ) → Formed m e → stops m (at 0 rest) ≡ true → room m (length (write e)) ≤ f → readExpr f m (given m e rest) ≡ parsed e rest
+
+-- what ends pieces is no repetition mark
+no-repeat : (b : ℕ) → endsPieces b ≡ true → not (repeats b) ≡ true
+no-repeat b h = go (eqb b 0) (eqb b 124) (eqb b 41) refl refl refl h
+  where
+    is : (c : ℕ) → eqb b c ≡ true → not (repeats c) ≡ true → not (repeats b) ≡ true
+    is c e g = rw (eqb-true b c e) g
+
+    go : (x y z : Bool) → eqb b 0 ≡ x → eqb b 124 ≡ y → eqb b 41 ≡ z → x || (y || (z || eqb b 36)) ≡ true → not (repeats b) ≡ true
+    go true y z p q r t = is 0 p refl
+    go false true z p q r t = is 124 q refl
+    go false false true p q r t = is 41 r refl
+    go false false false p q r t = is 36 t refl
+
+module _ (f : ℕ) (ih : (m : Mode) → Back f m) where
+  -- an atom or a group
+  single-back : (e : Expr) (rest : List ℕ) → formed e 0 ≡ true → 4 * length (write e) ≤ f → cond (eqb (at 0 (write e ++ rest)) 40) (readExpr f Mode.inner (drop 1 (write e ++ rest))) (next (readAtom (write e ++ rest)) (λ a. done (atom a))) ≡ parsed e rest
+  unfolding write formed
+  single-back (atom a) rest h l = rw (atom-starts a rest h .1, atom-back a rest h)
+  single-back (group e) rest h l = ih Mode.inner (group e) rest (e, refl, h) refl l
+  single-back (star e) rest h l = clash (cc)
+  single-back (plus e) rest h l = clash (cc)
+  single-back (opt e) rest h l = clash (cc)
+  single-back (seq p q) rest h l = clash (cc)
+  single-back (alt p q) rest h l = clash (cc)
+
+  -- and with its repetition mark
+  marked-back : (e x : Expr) (c : ℕ) (rest : List ℕ) → write x ≡ write e ++ (c ∷ []) → readRepeat e (c ∷ rest) ≡ parsed x rest → formed e 0 ≡ true → room Mode.piece (length (write x)) ≤ suc f → readExpr (suc f) Mode.piece (write x ++ rest) ≡ parsed x rest
+  unfolding readExpr
+  marked-back e x c rest same r h l =
+      let long : length (write x) ≡ length (write e) + 1 = rw same (length-append (write e) (c ∷ [])) in
+      rw (same, append-assoc (write e) (c ∷ []) rest, single-back e (c ∷ rest) h (omega arith)) r
+
+  -- and without one
+  bare-back : (e : Expr) (rest : List ℕ) → formed e 0 ≡ true → repeats (at 0 rest) ≡ false → room Mode.piece (length (write e)) ≤ suc f → readExpr (suc f) Mode.piece (write e ++ rest) ≡ parsed e rest
+  unfolding readExpr readRepeat
+  bare-back e rest h s l =
+      let (a, t) = neither (eqb (at 0 rest) 42) (eqb (at 0 rest) 43 || eqb (at 0 rest) 63) s in
+      let (b, c) = neither (eqb (at 0 rest) 43) (eqb (at 0 rest) 63) t in
+      rw (single-back e rest h (omega arith), a, b, c)
+
+  -- so a piece is read again
+  piece-back : Back (suc f) Mode.piece
+  unfolding write formed readRepeat
+  piece-back (atom a) rest h s l = bare-back (atom a) rest h (not-true _ s) l
+  piece-back (group e) rest h s l = bare-back (group e) rest h (not-true _ s) l
+  piece-back (star e) rest h s l = marked-back e (star e) 42 rest refl refl h l
+  piece-back (plus e) rest h s l = marked-back e (plus e) 43 rest refl refl h l
+  piece-back (opt e) rest h s l = marked-back e (opt e) 63 rest refl refl h l
+  piece-back (seq p q) rest h s l = clash (cc)
+  piece-back (alt p q) rest h s l = clash (cc)
+
+  -- a branch of one piece
+  one-back : (e : Expr) (rest : List ℕ) → formed e 1 ≡ true → endsPieces (at 0 rest) ≡ true → room Mode.branch (length (write e)) ≤ suc f → readExpr (suc f) Mode.branch (write e ++ rest) ≡ parsed e rest
+  unfolding readExpr
+  one-back e rest h s l = rw (ih Mode.piece e rest h (no-repeat (at 0 rest) s) (omega arith), s)
+
+  -- a branch is read again
+  branch-back : Back (suc f) Mode.branch
+  unfolding write formed readExpr
+  branch-back (atom a) rest h s l = one-back (atom a) rest h s l
+  branch-back (group e) rest h s l = one-back (group e) rest h s l
+  branch-back (star e) rest h s l = one-back (star e) rest h s l
+  branch-back (plus e) rest h s l = one-back (plus e) rest h s l
+  branch-back (opt e) rest h s l = one-back (opt e) rest h s l
+  branch-back (seq p q) rest h s l =
+      let (hp, hq) = both (formed p 1) (formed q 2) h in
+      let (on, start, mark) = expr-starts q 2 rest hq in
+      let long : 4 * (length (write p) + length (write q)) + 2 ≤ suc f = rw length-append at l in
+      let some : 1 ≤ length (write p) = expr-long p in
+      rw (append-assoc (write p) (write q) rest, ih Mode.piece p (write q ++ rest) hp (rw mark) (omega arith), on, ih Mode.branch q rest hq s (omega arith))
+  branch-back (alt p q) rest h s l = clash (cc)
+
+  -- an alternative list of one branch
+  only-back : (e : Expr) (rest : List ℕ) → formed e 2 ≡ true → stops Mode.alts (at 0 rest) ≡ true → room Mode.alts (length (write e)) ≤ suc f → readExpr (suc f) Mode.alts (write e ++ rest) ≡ parsed e rest
+  unfolding readExpr
+  only-back e rest h s l =
+      let (ends, bar) = both (endsPieces (at 0 rest)) (not (eqb (at 0 rest) 124)) s in
+      rw (ih Mode.branch e rest h ends (omega arith), not-true (eqb (at 0 rest) 124) bar)
+
+  -- an alternative list is read again
+  alts-back : Back (suc f) Mode.alts
+  unfolding write formed readExpr
+  alts-back (atom a) rest h s l = only-back (atom a) rest h s l
+  alts-back (group e) rest h s l = only-back (group e) rest h s l
+  alts-back (star e) rest h s l = only-back (star e) rest h s l
+  alts-back (plus e) rest h s l = only-back (plus e) rest h s l
+  alts-back (opt e) rest h s l = only-back (opt e) rest h s l
+  alts-back (seq p q) rest h s l = only-back (seq p q) rest h s l
+  alts-back (alt p q) rest h s l =
+      let (hp, hq) = both (formed p 2) (formed q 3) h in
+      let long : 4 * (length (write p) + suc (length (write q))) + 3 ≤ suc f = rw length-append at l in
+      rw (append-assoc (write p) (124 ∷ write q) rest, ih Mode.branch p (124 ∷ write q ++ rest) hp refl (omega arith), ih Mode.alts q rest hq s (omega arith))
+
+  -- a group after its opening parenthesis
+  group-back : (x : Expr) (rest : List ℕ) → formed x 3 ≡ true → room Mode.inner (length (write (group x))) ≤ suc f → readExpr (suc f) Mode.inner (drop 1 (write (group x) ++ rest)) ≡ parsed (group x) rest
+  unfolding write readExpr
+  group-back x rest h l =
+      let long : 4 * suc (length (write x) + 1) ≤ suc f = rw length-append at l in
+      rw (append-assoc (write x) (41 ∷ []) rest, ih Mode.alts x (41 ∷ rest) h refl (omega arith))
+
+  -- the same, as the mode says it
+  inner-back : Back (suc f) Mode.inner
+  inner-back e rest (x, same, h) s l = rw same (group-back x rest h (rw same at l))
+
+-- what is written of an expression that has a mode's form is read again, within every bound that is large enough
+pub expr-back : (f : ℕ) (m : Mode) (e : Expr) (rest : List ℕ) → Formed m e → stops m (at 0 rest) ≡ true → room m (length (write e)) ≤ f → readExpr f m (given m e rest) ≡ parsed e rest
+expr-back zero Mode.alts e rest h s l = absurd (omega arith)
+expr-back zero Mode.branch e rest h s l = absurd (omega arith)
+expr-back zero Mode.piece e rest h s l = absurd (omega arith)
+expr-back zero Mode.inner e rest h s l = absurd (omega (arith, expr-long e))
+expr-back (suc f) Mode.alts e rest h s l = alts-back f (λ m d r. expr-back f m d r) e rest h s l
+expr-back (suc f) Mode.branch e rest h s l = branch-back f (λ m d r. expr-back f m d r) e rest h s l
+expr-back (suc f) Mode.piece e rest h s l = piece-back f (λ m d r. expr-back f m d r) e rest h s l
+expr-back (suc f) Mode.inner e rest h s l = inner-back f (λ m d r. expr-back f m d r) e rest h s l
+
+-- a mark is a byte of a pattern
+mark-clean : (b : ℕ) → member b marks ≡ true → patternByte b ≡ true
+unfolding cleanBytes
+mark-clean b h = clean-member b marks h (clean-bytes marks refl)
+
+-- an atom of the form is written as bytes of a pattern
+atom-clean : (a : Atom) → formedAtom a ≡ true → Clean (writeAtom a)
+unfolding writeAtom formedAtom
+atom-clean (plain b) h = (both (patternByte b) (not (member b marks)) h .0, tt)
+atom-clean dot h = (refl, tt)
+atom-clean (escaped b) h = (refl, (mark-clean b h, tt))
+atom-clean (bracket n es) h = bracket-clean n es h
+
+-- and so is an expression
+pub expr-clean : (e : Expr) (k : ℕ) → formed e k ≡ true → Clean (write e)
+unfolding write formed
+expr-clean (atom a) k h = atom-clean a h
+expr-clean (group e) k h = (refl, clean-append (write e) (41 ∷ []) (expr-clean e 3 h) (refl, tt))
+expr-clean (star e) k h = clean-append (write e) (42 ∷ []) (expr-clean e 0 (both (leb 1 k) (formed e 0) h .1)) (refl, tt)
+expr-clean (plus e) k h = clean-append (write e) (43 ∷ []) (expr-clean e 0 (both (leb 1 k) (formed e 0) h .1)) (refl, tt)
+expr-clean (opt e) k h = clean-append (write e) (63 ∷ []) (expr-clean e 0 (both (leb 1 k) (formed e 0) h .1)) (refl, tt)
+expr-clean (seq p q) k h =
+    let (hp, hq) = both (formed p 1) (formed q 2) (both (leb 2 k) (formed p 1 && formed q 2) h .1) in
+    clean-append (write p) (write q) (expr-clean p 1 hp) (expr-clean q 2 hq)
+expr-clean (alt p q) k h =
+    let (hp, hq) = both (formed p 2) (formed q 3) (both (leb 3 k) (formed p 2 && formed q 3) h .1) in
+    clean-append (write p) (124 ∷ write q) (expr-clean p 2 hp) (refl, expr-clean q 3 hq)

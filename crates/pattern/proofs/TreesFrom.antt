@@ -1,0 +1,175 @@
+-- Atoms, pieces, groups: what is read is what is written, and it has the form.
+use Prim.Native.Nat.{ℕ, zero, suc, _≤_}
+use native.Mathlib.Omega.{arith}
+use mathlib.Core.Path.{_≡_, refl, sym, ap, _∙_}
+use mathlib.Core.Bool.{Bool, true, false, _&&_, _||_, cond}
+use mathlib.Core.List.{List, [], _∷_, _++_, append-assoc}
+use lib.Dec.{leb, eqb}
+use lib.ListN.{drop}
+use borrow.Author.Tests.{eqb-true, leb-true, le-leb}
+use Rattle.pattern.specs.Form.{Atom, plain, dot, escaped, Expr, atom, group, star, plus, opt, seq, alt, member, marks, writeAtom, write, formedAtom, formed}
+use Rattle.pattern.specs.Reader.{parsed, fault, next, done, at, readBracket, readAtom, readRepeat, endsPieces, Mode, readExpr}
+use Rattle.pattern.proofs.Parses.{clash, same-parsed, test-parsed, untest-parsed, next-parsed, made-parsed, both, neither, front, Clean, clean-after, clean-drop}
+use Rattle.pattern.proofs.BracketsFrom.{bracket-from}
+
+-- what an atom that was read is
+abbrev Atom-from : List ℕ → Atom → List ℕ → Type 0
+Atom-from l a rest = (l ≡ writeAtom a ++ rest) × (formedAtom a ≡ true)
+
+-- an escaped byte that was read
+escaped-from : (l rest : List ℕ) (a : Atom) → eqb (at 0 l) 92 ≡ true → cond (member (at 1 l) marks) (parsed (escaped (at 1 l)) (drop 2 l)) fault ≡ parsed a rest → Atom-from l a rest
+unfolding writeAtom formedAtom member
+escaped-from [] rest a t p = clash (cc)
+escaped-from (x ∷ []) rest a t p = clash (cc)
+escaped-from (x ∷ b ∷ l) rest a t p =
+    let (mark, q) = test-parsed (member b marks) (parsed (escaped b) l) a rest p in
+    let (same, after) = same-parsed q in
+    rw (← same, ← after, eqb-true x 92 t) (refl, mark)
+
+-- a plain byte that was read
+plain-from : (l rest : List ℕ) (a : Atom) → Clean l → cond (eqb (at 0 l) 0 || member (at 0 l) marks) fault (parsed (plain (at 0 l)) (drop 1 l)) ≡ parsed a rest → Atom-from l a rest
+unfolding writeAtom formedAtom
+plain-from [] rest a h p = clash (cc)
+plain-from (x ∷ l) rest a h p =
+    let (t, q) = untest-parsed (eqb x 0 || member x marks) (parsed (plain x) l) a rest p in
+    let (same, after) = same-parsed q in
+    rw (← same, ← after) (refl, rw (h .0, neither (eqb x 0) (member x marks) t .1))
+
+-- an atom that was read is what the bytes begin with, and of the form
+pub atom-from : (l rest : List ℕ) (a : Atom) → Clean l → readAtom l ≡ parsed a rest → Atom-from l a rest
+unfolding readAtom writeAtom formedAtom
+atom-from l rest a h p = go (eqb (at 0 l) 46) (eqb (at 0 l) 91) (eqb (at 0 l) 92) refl refl refl p
+  where
+    go : (x y z : Bool) → eqb (at 0 l) 46 ≡ x → eqb (at 0 l) 91 ≡ y → eqb (at 0 l) 92 ≡ z → cond x (parsed dot (drop 1 l)) (cond y (readBracket (drop 1 l)) (cond z (cond (member (at 1 l) marks) (parsed (escaped (at 1 l)) (drop 2 l)) fault) (cond (eqb (at 0 l) 0 || member (at 0 l) marks) fault (parsed (plain (at 0 l)) (drop 1 l))))) ≡ parsed a rest → Atom-from l a rest
+    go true y z d b e q =
+        let (same, after) = same-parsed q in
+        rw (← same, ← after) (front l 46 (omega arith) d, refl)
+    go false true z d b e q =
+        let (there, formed) = bracket-from (drop 1 l) rest a (clean-drop 1 l h) q in
+        (front l 91 (omega arith) b ∙ there, formed)
+    go false false true d b e q = escaped-from l rest a e q
+    go false false false d b e q = plain-from l rest a h q
+
+-- a test of how loosely something may bind passes too where it may bind more loosely
+looser : (n k : ℕ) (t : Bool) → leb n k && t ≡ true → leb n (suc k) && t ≡ true
+looser n k t h =
+    let (less, others) = both (leb n k) t h in
+    let more : n ≤ suc k = omega (arith, leb-true n k less) in
+    rw (le-leb n (suc k) more) others
+
+-- what has the form where it must bind closely has it where it may bind more loosely
+pub formed-looser : (e : Expr) (k : ℕ) → formed e k ≡ true → formed e (suc k) ≡ true
+unfolding formed
+formed-looser (atom a) k h = h
+formed-looser (group e) k h = h
+formed-looser (star e) k h = looser 1 k (formed e 0) h
+formed-looser (plus e) k h = looser 1 k (formed e 0) h
+formed-looser (opt e) k h = looser 1 k (formed e 0) h
+formed-looser (seq p q) k h = looser 2 k (formed p 1 && formed q 2) h
+formed-looser (alt p q) k h = looser 3 k (formed p 2 && formed q 3) h
+
+-- what a mode's bytes are, from the opening parenthesis on
+abbrev pub from : Mode → List ℕ → List ℕ
+from Mode.alts l = l
+from Mode.branch l = l
+from Mode.piece l = l
+from Mode.inner l = 40 ∷ l
+
+-- and how loosely it binds
+abbrev pub level : Mode → ℕ
+level Mode.alts = 3
+level Mode.branch = 2
+level Mode.piece = 1
+level Mode.inner = 0
+
+-- what an expression that was read is
+abbrev pub Expr-from : Mode → List ℕ → Expr → List ℕ → Type 0
+Expr-from m l e rest = (from m l ≡ write e ++ rest) × (formed e (level m) ≡ true)
+
+-- after an atom or a group, with its repetition mark
+repeat-from : (l mid rest : List ℕ) (p e : Expr) → (l ≡ write p ++ mid) × (formed p 0 ≡ true) → readRepeat p mid ≡ parsed e rest → Expr-from Mode.piece l e rest
+unfolding readRepeat write formed
+repeat-from l mid rest p e h r = go (eqb (at 0 mid) 42) (eqb (at 0 mid) 43) (eqb (at 0 mid) 63) refl refl refl r
+  where
+    marked : (c : ℕ) → 1 ≤ c → eqb (at 0 mid) c ≡ true → l ≡ (write p ++ (c ∷ [])) ++ drop 1 mid
+    marked c s t = rw (append-assoc, ← front mid c s t) (h .0)
+
+    go : (x y z : Bool) → eqb (at 0 mid) 42 ≡ x → eqb (at 0 mid) 43 ≡ y → eqb (at 0 mid) 63 ≡ z → cond x (parsed (star p) (drop 1 mid)) (cond y (parsed (plus p) (drop 1 mid)) (cond z (parsed (opt p) (drop 1 mid)) (parsed p mid))) ≡ parsed e rest → Expr-from Mode.piece l e rest
+    go true y z a b c q = let (same, after) = same-parsed q in rw (← same, ← after) (marked 42 (omega arith) a, h .1)
+    go false true z a b c q = let (same, after) = same-parsed q in rw (← same, ← after) (marked 43 (omega arith) b, h .1)
+    go false false true a b c q = let (same, after) = same-parsed q in rw (← same, ← after) (marked 63 (omega arith) c, h .1)
+    go false false false a b c q = let (same, after) = same-parsed q in rw (← same, ← after) (h .0, formed-looser p 0 (h .1))
+
+-- after a branch of an alternative list, with the others
+alts-from : (f : ℕ) (l mid rest : List ℕ) (p e : Expr) → Expr-from Mode.branch l p mid → ((q : Expr) → readExpr f Mode.alts (drop 1 mid) ≡ parsed q rest → Expr-from Mode.alts (drop 1 mid) q rest) → cond (eqb (at 0 mid) 124) (next (readExpr f Mode.alts (drop 1 mid)) (λ q. done (alt p q))) (parsed p mid) ≡ parsed e rest → Expr-from Mode.alts l e rest
+unfolding write formed
+alts-from f l mid rest p e h ih r = go (eqb (at 0 mid) 124) refl r
+  where
+    go : (t : Bool) → eqb (at 0 mid) 124 ≡ t → cond t (next (readExpr f Mode.alts (drop 1 mid)) (λ q. done (alt p q))) (parsed p mid) ≡ parsed e rest → Expr-from Mode.alts l e rest
+    go true t r =
+        let (q, same, others) = made-parsed (readExpr f Mode.alts (drop 1 mid)) (λ q. alt p q) e rest r in
+        let (there, formed-q) = ih q others in
+        rw same (rw (append-assoc (write p) (124 ∷ write q) rest, ← there, ← front mid 124 (omega arith) t) (h .0), rw (h .1) formed-q)
+    go false t r = let (same, after) = same-parsed r in rw (← same, ← after) (h .0, formed-looser p 2 (h .1))
+
+-- after a piece of a branch, with the others
+branch-from : (f : ℕ) (l mid rest : List ℕ) (p e : Expr) → Expr-from Mode.piece l p mid → ((q : Expr) → readExpr f Mode.branch mid ≡ parsed q rest → Expr-from Mode.branch mid q rest) → cond (endsPieces (at 0 mid)) (parsed p mid) (next (readExpr f Mode.branch mid) (λ q. done (seq p q))) ≡ parsed e rest → Expr-from Mode.branch l e rest
+unfolding write formed
+branch-from f l mid rest p e h ih r = go (endsPieces (at 0 mid)) r
+  where
+    go : (t : Bool) → cond t (parsed p mid) (next (readExpr f Mode.branch mid) (λ q. done (seq p q))) ≡ parsed e rest → Expr-from Mode.branch l e rest
+    go true r = let (same, after) = same-parsed r in rw (← same, ← after) (h .0, formed-looser p 1 (h .1))
+    go false r =
+        let (q, same, others) = made-parsed (readExpr f Mode.branch mid) (λ q. seq p q) e rest r in
+        let (there, formed-q) = ih q others in
+        rw same (rw (append-assoc (write p) (write q) rest, ← there) (h .0), rw (h .1) formed-q)
+
+-- an atom or a group
+single-from : (f : ℕ) (l mid : List ℕ) (e : Expr) → Clean l → (readExpr f Mode.inner (drop 1 l) ≡ parsed e mid → Expr-from Mode.inner (drop 1 l) e mid) → cond (eqb (at 0 l) 40) (readExpr f Mode.inner (drop 1 l)) (next (readAtom l) (λ a. done (atom a))) ≡ parsed e mid → (l ≡ write e ++ mid) × (formed e 0 ≡ true)
+unfolding write formed
+single-from f l mid e h ih r = go (eqb (at 0 l) 40) refl r
+  where
+    go : (t : Bool) → eqb (at 0 l) 40 ≡ t → cond t (readExpr f Mode.inner (drop 1 l)) (next (readAtom l) (λ a. done (atom a))) ≡ parsed e mid → (l ≡ write e ++ mid) × (formed e 0 ≡ true)
+    go true t r = (front l 40 (omega arith) t ∙ ih r .0, ih r .1)
+    go false t r =
+        let (a, same, one) = made-parsed (readAtom l) (λ a. atom a) e mid r in
+        rw same (atom-from l mid a h one)
+
+-- a group after its opening parenthesis, from what is in it
+inner-from : (l mid rest : List ℕ) (p e : Expr) → Expr-from Mode.alts l p mid → cond (eqb (at 0 mid) 41) (parsed (group p) (drop 1 mid)) fault ≡ parsed e rest → Expr-from Mode.inner l e rest
+unfolding write formed
+inner-from l mid rest p e h r =
+    let (t, q) = test-parsed (eqb (at 0 mid) 41) (parsed (group p) (drop 1 mid)) e rest r in
+    let (same, after) = same-parsed q in
+    let closes : mid ≡ 41 ∷ rest = rw (← after) (front mid 41 (omega arith) t) in
+    rw (← same) (ap (λ (m : List ℕ). 40 ∷ m) (rw (append-assoc (write p) (41 ∷ []) rest, ← closes) (h .0)), h .1)
+
+-- what was read in any mode is what the bytes begin with, and of the form
+pub expr-from : (f : ℕ) (m : Mode) (l rest : List ℕ) (e : Expr) → Clean l → readExpr f m l ≡ parsed e rest → Expr-from m l e rest
+unfolding readExpr
+expr-from zero m l rest e h r = clash (cc)
+expr-from (suc f) Mode.alts l rest e h r =
+    let (p, mid, one, others) = next-parsed (readExpr f Mode.branch l) (λ p m. cond (eqb (at 0 m) 124) (next (readExpr f Mode.alts (drop 1 m)) (λ q. done (alt p q))) (parsed p m)) e rest r in
+    let this = expr-from f Mode.branch l mid p h one in
+    let clean : Clean mid = clean-after (write p) mid (rw (this .0) at h) in
+    alts-from f l mid rest p e this (λ q s. expr-from f Mode.alts (drop 1 mid) rest q (clean-drop 1 mid clean) s) others
+expr-from (suc f) Mode.branch l rest e h r =
+    let (p, mid, one, others) = next-parsed (readExpr f Mode.piece l) (λ p m. cond (endsPieces (at 0 m)) (parsed p m) (next (readExpr f Mode.branch m) (λ q. done (seq p q)))) e rest r in
+    let this = expr-from f Mode.piece l mid p h one in
+    let clean : Clean mid = clean-after (write p) mid (rw (this .0) at h) in
+    branch-from f l mid rest p e this (λ q s. expr-from f Mode.branch mid rest q clean s) others
+expr-from (suc f) Mode.piece l rest e h r =
+    let (p, mid, one, others) = next-parsed (cond (eqb (at 0 l) 40) (readExpr f Mode.inner (drop 1 l)) (next (readAtom l) (λ a. done (atom a)))) readRepeat e rest r in
+    repeat-from l mid rest p e (single-from f l mid p h (λ s. expr-from f Mode.inner (drop 1 l) mid p (clean-drop 1 l h) s) one) others
+expr-from (suc f) Mode.inner l rest e h r =
+    let (p, mid, one, others) = next-parsed (readExpr f Mode.alts l) (λ e m. cond (eqb (at 0 m) 41) (parsed (group e) (drop 1 m)) fault) e rest r in
+    inner-from l mid rest p e (expr-from f Mode.alts l mid p h one) others
+
+-- what was read after an opening parenthesis is a group
+pub inner-group : (f : ℕ) (l rest : List ℕ) (e : Expr) → readExpr f Mode.inner l ≡ parsed e rest → (x : Expr) × (e ≡ group x)
+unfolding readExpr
+inner-group zero l rest e r = clash (cc)
+inner-group (suc f) l rest e r =
+    let (p, mid, one, others) = next-parsed (readExpr f Mode.alts l) (λ e m. cond (eqb (at 0 m) 41) (parsed (group e) (drop 1 m)) fault) e rest r in
+    let (t, q) = test-parsed (eqb (at 0 mid) 41) (parsed (group p) (drop 1 mid)) e rest others in
+    (p, sym (same-parsed q .0))

@@ -1,0 +1,45 @@
+use borrow.Author.Needs.{needs}
+use Rattle.pattern.proofs.Automata as laws
+use Rattle.pattern.proofs.automaton.read_clean.Statement.{statement}
+use Rattle.pattern.proofs.automaton.read_clean.Tie as tie
+
+branches-requires : tie.Need-branches-requires
+branches-requires c κs = search needs
+
+enum-known-read : tie.Need-enum-known-read
+enum-known-read c = search needs
+
+enum-told : tie.Need-enum-told
+enum-told c = search needs
+
+returns : tie.Need-returns
+returns c = search (laws.clean-fault)
+
+returns-2 : tie.Need-returns-2
+returns-2 c = search (laws.clean-many)
+
+array-write-entered : tie.Need-array-write-entered
+array-write-entered c = search needs
+
+array-write-entered-2 : tie.Need-array-write-entered-2
+array-write-entered-2 c = search needs
+
+at-end-requires : tie.Need-at-end-requires
+at-end-requires c κs = search needs
+
+returns-3 : tie.Need-returns-3
+returns-3 c = search (laws.clean-fine)
+
+pub read-clean-spec : {M : Type 1} → statement M
+read-clean-spec =
+    tie.close
+    (tie.spec
+    branches-requires
+    enum-known-read
+    enum-told
+    returns
+    returns-2
+    array-write-entered
+    array-write-entered-2
+    at-end-requires
+    returns-3)

@@ -1,0 +1,26 @@
+use borrow.Author.Needs.{needs}
+use Rattle.pattern.proofs.Scans as laws
+use Rattle.pattern.proofs.automaton.read_pattern.Statement.{statement}
+use Rattle.pattern.proofs.automaton.read_pattern.Tie as tie
+
+returns : tie.Need-returns
+returns c = search (laws.pattern-none)
+
+returns-2 : tie.Need-returns-2
+returns-2 c = search (laws.pattern-long)
+
+clean-requires : tie.Need-clean-requires
+clean-requires c κs = search needs
+
+read-clean-requires : tie.Need-read-clean-requires
+read-clean-requires c κs = search (laws.pattern-ready)
+
+returns-3 : tie.Need-returns-3
+returns-3 c = search (laws.pattern-clean)
+
+returns-4 : tie.Need-returns-4
+returns-4 c = search (laws.pattern-unclean)
+
+pub read-pattern-spec : {M : Type 1} → statement M
+read-pattern-spec =
+    tie.close (tie.spec returns returns-2 clean-requires read-clean-requires returns-3 returns-4)

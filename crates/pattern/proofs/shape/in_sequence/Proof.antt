@@ -1,0 +1,18 @@
+use borrow.Author.Needs.{needs}
+use Rattle.pattern.proofs.shape.in_sequence.Statement.{statement}
+use Rattle.pattern.proofs.shape.in_sequence.Tie as tie
+
+both-requires : tie.Need-both-requires
+both-requires c κs = search needs
+
+union-if-requires : tie.Need-union-if-requires
+union-if-requires c κs = search needs
+
+union-if-requires-2 : tie.Need-union-if-requires-2
+union-if-requires-2 c κs = search needs
+
+returns : tie.Need-returns
+returns c = rw (c .before .before .both .ensures, c .before .union-if .ensures, c .union-if2 .ensures)
+
+pub in-sequence-spec : {M : Type 1} → statement M
+in-sequence-spec = tie.close (tie.spec both-requires union-if-requires union-if-requires-2 returns)

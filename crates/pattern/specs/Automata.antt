@@ -1,0 +1,45 @@
+-- What reading a pattern yields, by the definitions on its tree: the tables of its automaton, or a refusal.
+use Prim.Native.Nat.{ℕ, zero, suc}
+use mathlib.Core.Path.{_≡_}
+use mathlib.Core.Bool.{Bool, false}
+use mathlib.Core.List.{List}
+use Rattle.pattern.specs.declared.automaton.Accepting.{Accepting}
+use Rattle.pattern.specs.declared.automaton.Verdict.{Verdict}
+use Rattle.pattern.specs.declared.summary.Summary.{Summary}
+use Rattle.pattern.specs.Form.{Pattern, atomCount}
+use Rattle.pattern.specs.Reader.{Read, accepted, refused}
+use Rattle.pattern.specs.States.{firstInBranch, firstInFree, endsFree, endsAnchored, follows, holdsKey, emptyBranch, emptyFree, atomWord}
+use Rattle.pattern.specs.Steps.{tabled}
+
+-- atom j can be entered from a state: from line-start 0 what can come first, from mid-line 1 what can come first in a branch that
+-- has no `^`, from found 2 nothing, from atom k what can follow it
+unfoldable pub enters : Pattern → ℕ → ℕ → Bool
+enters t zero j = firstInBranch t j
+enters t (suc zero) j = firstInFree t j
+enters t (suc (suc zero)) j = false
+enters t (suc (suc (suc k))) j = follows t k j
+
+-- for each key, the atoms whose set has it; for each state, the atoms that it may enter
+unfoldable pub keyTable : Pattern → List ℕ
+keyTable t = tabled (λ c. atomWord (λ k. holdsKey t k c)) 256 0
+
+unfoldable pub enterTable : Pattern → List ℕ
+enterTable t = tabled (λ q. atomWord (enters t q)) 32 0
+
+unfoldable pub accepts : Pattern → Accepting
+accepts t = record {
+  ends = atomWord (endsFree t);
+  anchored = atomWord (endsAnchored t);
+  empty = emptyBranch t;
+  jump = emptyFree t;
+  atoms = atomCount t;
+}
+
+-- what a reading answers, and what it makes of the tables
+unfoldable pub ReadAs : Read → List ℕ → List ℕ → Verdict → List ℕ → List ℕ → Type 0
+ReadAs (accepted t) keys enter v keys' enter' = (v ≡ Verdict.Accepted (accepts t)) × (keys' ≡ keyTable t) × (enter' ≡ enterTable t)
+ReadAs (refused r) keys enter v keys' enter' = (v ≡ Verdict.Refused r) × (keys' ≡ keys) × (enter' ≡ enter)
+
+-- the same of what the branches come to
+abbrev pub acceptingOf : Summary → ℕ → Accepting
+acceptingOf a n = record { ends = a .ends; anchored = a .anchored; empty = a .empty; jump = a .jump; atoms = n }

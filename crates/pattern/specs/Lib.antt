@@ -1,0 +1,12 @@
+-- The patterns of document 01: form, sets, meaning, reader, states and tables; and what private functions promise each other.
+pub mod Form
+pub mod Sets
+pub mod Meaning
+pub mod Reader
+pub mod States
+pub mod Tables
+pub mod Cycle
+pub mod Branches
+pub mod Summaries
+pub mod Automata
+pub mod Steps

@@ -1,0 +1,111 @@
+// The twelve classes of a bracket, and the search for one (document 01, "Patterns").
+use crate::peek::peek;
+ghost use mathlib.Core.Path.{_≡_};
+ghost use Prim.Native.Nat.{_+_, _<_, _≤_};
+ghost use lib.ListN.{drop, getD, length};
+ghost use Rattle.pattern.specs.Form.{className};
+ghost use Rattle.pattern.specs.Reader.{findClass, isClass};
+ghost use Rattle.pattern.specs.Steps.{classRange, classShown, classText};
+
+// "The twelve class names", each with its `:]`, filled up to eight bytes with 0.
+const NAMES: [u8; 96] = *b"upper:]\0\
+    lower:]\0\
+    alpha:]\0\
+    digit:]\0\
+    alnum:]\0\
+    xdigit:]\
+    punct:]\0\
+    graph:]\0\
+    print:]\0\
+    cntrl:]\0\
+    space:]\0\
+    blank:]\0";
+
+// The ranges that they "stand for", four to a class, each as its first and last byte. Those from `1` to `0` are empty.
+const RANGES: [u8; 96] = *b"AZ101010\
+    az101010\
+    AZaz1010\
+    09101010\
+    AZaz0910\
+    09AFaf10\
+    !/:@[`{~\
+    !~101010\
+    \x20~101010\
+    \0\x1f\x7f\x7f1010\
+    \t\r\x20\x201010\
+    \t\t\x20\x201010";
+
+// A class's place in the tables.
+pub(crate) enum ClassRead {
+    Found(u8),
+    Unknown,
+}
+
+// Byte j of a class's name and its `:]`.
+fn name_byte(c: u8, j: usize) -> u8
+    requires { ⌜ (c < 12) × (j < 8) ⌝ }
+    ensures { λ r. ⌜ r ≡ getD (classText c) j 0 ⌝ }
+{
+    NAMES[c as usize * 8 + j]
+}
+
+// The first byte of a class's range j.
+pub(crate) fn range_first(c: u8, j: usize) -> u8
+    requires { ⌜ (c < 12) × (j < 4) ⌝ }
+    ensures { λ r. ⌜ r ≡ classRange c j .first ⌝ }
+{
+    RANGES[c as usize * 8 + j * 2]
+}
+
+// And the last one.
+pub(crate) fn range_last(c: u8, j: usize) -> u8
+    requires { ⌜ (c < 12) × (j < 4) ⌝ }
+    ensures { λ r. ⌜ r ≡ classRange c j .last ⌝ }
+{
+    RANGES[c as usize * 8 + j * 2 + 1]
+}
+
+// How many bytes a class's name and its `:]` have.
+pub(crate) fn class_size(c: u8) -> usize
+    requires { ⌜ c < 12 ⌝ }
+    ensures { λ r. ⌜ (r ≡ length (className c) + 2) × (r ≤ 8) ⌝ }
+{
+    if name_byte(c, 7) == 0 {
+        return 7;
+    }
+    8
+}
+
+// Whether a class's name and its `:]` stand at a place.
+fn is_class(s: &[u8], at: usize, c: u8) -> bool
+    requires { ⌜ (at ≤ length (now s) + 2) × (c < 12) ⌝ }
+    ensures { λ r. ⌜ r ≡ isClass c (drop at (now (s .entry))) ⌝ }
+{
+    let mut j = 0;
+    while j < 8 {
+        let b = name_byte(c, j);
+        if b == 0 {
+            return true;
+        }
+        if peek(s, at + j) != b {
+            return false;
+        }
+        j += 1;
+    }
+    true
+}
+
+// The class whose name and `:]` stand at a place.
+pub(crate) fn find_class(s: &[u8], at: usize) -> ClassRead
+    requires { ⌜ at ≤ length (now s) + 2 ⌝ }
+    ensures { λ r. ⌜ r ≡ classShown (findClass 12 0 (drop at (now (s .entry)))) ⌝ }
+{
+    let mut c = 0;
+    while c < 12 {
+        if is_class(s, at, c) {
+            return ClassRead::Found(c);
+        }
+        c += 1;
+    }
+    ClassRead::Unknown
+}

@@ -1,0 +1,165 @@
+// The readers of what stands inside a branch: alternative list, branch, piece and group read each other in a cycle, and the
+// bytes left fall. Tables of keys and states are lent; the cursor and an expression's shape go by value.
+use crate::peek::peek;
+use crate::shape::Shape;
+use crate::shape::either;
+use crate::shape::in_sequence;
+use crate::shape::link;
+ghost use mathlib.Core.Path.{_≡_};
+ghost use Prim.Native.Nat.{_^_, _≤_, _<_};
+ghost use lib.ListN.{getD, length};
+ghost use Rattle.pattern.specs.Reader.{Mode, endsPieces};
+ghost use Rattle.pattern.specs.Cycle.{Reads, Ready, repeatAt, repeatEnter, repeatShape};
+
+// A place in a pattern, and how many atoms stand before it.
+pub(crate) struct Cursor {
+    pub at: usize,
+    pub atoms: usize,
+}
+
+// The cursor behind an expression and the expression's shape, or a fault.
+pub(crate) enum Part {
+    Read(Cursor, Shape),
+    Fault,
+}
+
+impl Cursor {
+    // The mark of repetition behind an expression, if there is one.
+    fn repetition(self, s: &[u8], p: Shape, enter: &mut [u64; 32]) -> Part
+        requires { ⌜ (self .at ≤ length (now s)) × (p .last < 2 ^ 32) ⌝ }
+        ensures read { λ r. ⌜ r ≡ Part.Read (record { at = repeatAt (getD (now (s .entry)) (self .at) 0) (self .at); atoms = self .atoms }) (repeatShape (getD (now (s .entry)) (self .at) 0) p) ⌝ }
+        ensures table { λ _. ⌜ now (enter .exit) ≡ repeatEnter (getD (now (s .entry)) (self .at) 0) p (now (enter .entry)) ⌝ }
+    {
+        let at = self.at;
+        let atoms = self.atoms;
+        let first = p.first;
+        let last = p.last;
+        let mark = peek(s, at);
+        if mark == b'*' {
+            link(enter, last, first);
+            return Part::Read(
+                Cursor { at: at + 1, atoms },
+                Shape {
+                    nothing: true,
+                    first,
+                    last,
+                },
+            );
+        }
+        if mark == b'+' {
+            link(enter, last, first);
+            return Part::Read(Cursor { at: at + 1, atoms }, p);
+        }
+        if mark == b'?' {
+            return Part::Read(
+                Cursor { at: at + 1, atoms },
+                Shape {
+                    nothing: true,
+                    first,
+                    last,
+                },
+            );
+        }
+        Part::Read(self, p)
+    }
+
+    // An alternative list: branches parted by `|`.
+    fn alternatives(self, s: &[u8], keys: &mut [u64; 256], enter: &mut [u64; 32]) -> Part
+        requires { ⌜ Ready (now s) self ⌝ }
+        ensures { λ r. ⌜ Reads Mode.alts (now (s .entry)) self (now (keys .entry)) (now (enter .entry)) r (now (keys .exit)) (now (enter .exit)) ⌝ }
+    {
+        let part = self.branch(s, keys, enter);
+        let Part::Read(here, left) = part else {
+            return Part::Fault;
+        };
+        let at = here.at;
+        let atoms = here.atoms;
+        if peek(s, at) != b'|' {
+            return Part::Read(here, left);
+        }
+        let next = Cursor { at: at + 1, atoms };
+        let other = next.alternatives(s, keys, enter);
+        let Part::Read(end, right) = other else {
+            return Part::Fault;
+        };
+        Part::Read(end, either(left, right))
+    }
+
+    // A branch without its anchors: pieces up to the end, a `|`, a `)` or a `$`.
+    pub(crate) fn branch(self, s: &[u8], keys: &mut [u64; 256], enter: &mut [u64; 32]) -> Part
+        requires { ⌜ Ready (now s) self ⌝ }
+        ensures { λ r. ⌜ Reads Mode.branch (now (s .entry)) self (now (keys .entry)) (now (enter .entry)) r (now (keys .exit)) (now (enter .exit)) ⌝ }
+    {
+        let part = self.piece(s, keys, enter);
+        let Part::Read(here, left) = part else {
+            return Part::Fault;
+        };
+        let at = here.at;
+        if ends_pieces(peek(s, at)) {
+            return Part::Read(here, left);
+        }
+        let other = here.branch(s, keys, enter);
+        let Part::Read(end, right) = other else {
+            return Part::Fault;
+        };
+        let last = left.last;
+        let first = right.first;
+        link(enter, last, first);
+        Part::Read(end, in_sequence(left, right))
+    }
+
+    // A piece: an atom or a group, then at most one mark of repetition.
+    fn piece(self, s: &[u8], keys: &mut [u64; 256], enter: &mut [u64; 32]) -> Part
+        requires { ⌜ Ready (now s) self ⌝ }
+        ensures { λ r. ⌜ Reads Mode.piece (now (s .entry)) self (now (keys .entry)) (now (enter .entry)) r (now (keys .exit)) (now (enter .exit)) ⌝ }
+    {
+        let at = self.at;
+        let atoms = self.atoms;
+        if peek(s, at) == b'(' {
+            let inside = Cursor { at: at + 1, atoms };
+            let part = inside.group(s, keys, enter);
+            let Part::Read(here, shape) = part else {
+                return Part::Fault;
+            };
+            return here.repetition(s, shape, enter);
+        }
+        let part = self.atom(s, keys);
+        let Part::Read(here, shape) = part else {
+            return Part::Fault;
+        };
+        here.repetition(s, shape, enter)
+    }
+
+    // A group, whose `(` is passed.
+    fn group(self, s: &[u8], keys: &mut [u64; 256], enter: &mut [u64; 32]) -> Part
+        requires { ⌜ Ready (now s) self ⌝ }
+        ensures { λ r. ⌜ Reads Mode.inner (now (s .entry)) self (now (keys .entry)) (now (enter .entry)) r (now (keys .exit)) (now (enter .exit)) ⌝ }
+    {
+        let part = self.alternatives(s, keys, enter);
+        let Part::Read(here, shape) = part else {
+            return Part::Fault;
+        };
+        let at = here.at;
+        let atoms = here.atoms;
+        if peek(s, at) != b')' {
+            return Part::Fault;
+        }
+        Part::Read(Cursor { at: at + 1, atoms }, shape)
+    }
+}
+
+// Whether a byte ends the pieces of a branch: the end, `|`, `)` or `$`.
+pub(crate) fn ends_pieces(b: u8) -> bool
+    ensures { λ r. ⌜ r ≡ endsPieces b ⌝ }
+{
+    if b == 0 {
+        return true;
+    }
+    if b == b'|' {
+        return true;
+    }
+    if b == b')' {
+        return true;
+    }
+    b == b'$'
+}

@@ -1,0 +1,19 @@
+// The patterns of document 01: their form, their meaning and their reader.
+mod atom;
+mod automaton;
+mod bracket;
+mod branch;
+mod branch_list;
+mod class;
+mod cursor;
+mod element;
+mod peek;
+mod set;
+mod shape;
+mod state;
+mod summary;
+
+pub use automaton::Accepting;
+pub use automaton::Verdict;
+pub use automaton::read_pattern;
+pub use state::State;

@@ -1,0 +1,2 @@
+-- Laws of sets as numbers, over any width.
+pub mod Sets

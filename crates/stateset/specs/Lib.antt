@@ -1,0 +1,2 @@
+-- Sets of small numbers as the digits of one number.
+pub mod Set

@@ -1,0 +1,23 @@
+// Sets of numbers below 64 in one word: p is in the set exactly if bit p is 1.
+ghost use mathlib.Core.Path.{_≡_};
+ghost use Prim.Native.Nat.{_%_, _^_};
+ghost use lib.Bits.{bitAnd, bitOr};
+
+// The set of p alone; a p that no word holds gives the empty set.
+pub fn only(p: u32) -> u64
+    ensures { λ r. ⌜ r ≡ 2 ^ p % 2 ^ 64 ⌝ }
+{
+    if p < 64 { 1 << p } else { 0 }
+}
+
+pub fn union(a: u64, b: u64) -> u64
+    ensures { λ r. ⌜ r ≡ bitOr a b ⌝ }
+{
+    a | b
+}
+
+pub fn both(a: u64, b: u64) -> u64
+    ensures { λ r. ⌜ r ≡ bitAnd a b ⌝ }
+{
+    a & b
+}
