@@ -17,12 +17,12 @@ use Rattle.pattern.specs.declared.branch_list.PatternRead.{PatternRead}
 use Rattle.pattern.specs.declared.summary.Summary.{Summary}
 use Rattle.pattern.specs.Form.{Expr, Branch, Pattern, atomsIn, atomCount}
 use Rattle.pattern.specs.Reader.{Parsed, parsed, fault, readBranches, counted}
-use Rattle.pattern.specs.States.{nothingIn, inPieces, first, last, follow, holds, someBranch, firstInBranch, firstInFree, endsFree, endsAnchored, holdsKey, emptyBranch, emptyFree, atomWord}
+use Rattle.pattern.specs.States.{nothingIn, inPieces, first, last, follow, holds, someBranch, firstInBranch, firstInFree, endsFree, endsAnchored, holdsKey, emptyBranch, emptyFree, atomWord, tabled}
 use Rattle.pattern.specs.Tables.{isAtom}
 use Rattle.pattern.specs.Branches.{shapeIn, keysIn, enterIn}
 use Rattle.pattern.specs.Summaries.{branchSummary, summaryOf, through, PatternDone, ReadsBranches}
 use Rattle.pattern.specs.Automata.{enters, keyTable, enterTable, accepts, ReadAs, acceptingOf}
-use Rattle.pattern.specs.Steps.{mapWith, tabled}
+use Rattle.pattern.specs.Steps.{mapWith}
 use Rattle.pattern.proofs.Bytes.{clash}
 use Rattle.pattern.proofs.Entries.{with-same, with-with, with-none}
 use Rattle.pattern.proofs.Tables.{atoms-none, atoms-same, both-added, added-if}

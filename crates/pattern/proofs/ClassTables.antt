@@ -8,7 +8,8 @@ use mathlib.Core.Bool.{Bool, true, false, _&&_, cond, false≢true}
 use mathlib.Core.List.{List, [], _∷_}
 use lib.Dec.{eqb}
 use lib.ListN.{length, getD}
-use Rattle.pattern.specs.Steps.{tabled, classText, classRange}
+use Rattle.pattern.specs.States.{tabled}
+use Rattle.pattern.specs.Steps.{classText, classRange}
 
 -- both tests were passed
 pub and-both : (a b : Bool) → (a && b) ≡ true → (a ≡ true) × (b ≡ true)

@@ -8,8 +8,7 @@ use Rattle.pattern.specs.declared.automaton.Verdict.{Verdict}
 use Rattle.pattern.specs.declared.summary.Summary.{Summary}
 use Rattle.pattern.specs.Form.{Pattern, atomCount}
 use Rattle.pattern.specs.Reader.{Read, accepted, refused}
-use Rattle.pattern.specs.States.{firstInBranch, firstInFree, endsFree, endsAnchored, follows, holdsKey, emptyBranch, emptyFree, atomWord}
-use Rattle.pattern.specs.Steps.{tabled}
+use Rattle.pattern.specs.States.{firstInBranch, firstInFree, endsFree, endsAnchored, follows, holdsKey, emptyBranch, emptyFree, atomWord, tabled}
 
 -- atom j can be entered from a state: from line-start 0 what can come first, from mid-line 1 what can come first in a branch that
 -- has no `^`, from found 2 nothing, from atom k what can follow it

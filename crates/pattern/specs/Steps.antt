@@ -1,5 +1,5 @@
 -- What private functions promise each other; no public contract cites these.
-use Prim.Native.Nat.{ℕ, zero, suc, _+_, _-_, _<_}
+use Prim.Native.Nat.{ℕ, suc, _+_, _-_, _<_}
 use mathlib.Core.Path.{_≡_}
 use mathlib.Core.Bool.{Bool, true, false, _&&_, _||_, cond, xor}
 use mathlib.Core.List.{List, [], _∷_, _++_}
@@ -18,11 +18,6 @@ use Rattle.pattern.specs.Sets.{Range, to, classRanges, inElement, inElem
 unfoldable pub mapWith : {A : Type 0} → (ℕ → A → A) → ℕ → List A → List A
 mapWith f i [] = []
 mapWith f i (x ∷ xs) = f i x ∷ mapWith f (suc i) xs
-
--- n entries as a rule gives them, from i on
-unfoldable pub tabled : (ℕ → ℕ) → ℕ → ℕ → List ℕ
-tabled f zero i = []
-tabled f (suc n) i = f i ∷ tabled f n (suc i)
 
 -- the table that has for each key a word of atoms, with the states of `bit` put into the words of an atom's keys
 abbrev pub keysWith : Atom → ℕ → List ℕ → List ℕ

@@ -45,27 +45,16 @@ impl Cursor {
         let at = self.at;
         let next = peek(s, at);
         if ends_pieces(next) {
+            let none = Shape {
+                nothing: true,
+                first: 0,
+                last: 0,
+            };
             if start {
-                return self.branch_end(
-                    s,
-                    start,
-                    Shape {
-                        nothing: true,
-                        first: 0,
-                        last: 0,
-                    },
-                );
+                return self.branch_end(s, start, none);
             }
             if next == b'$' {
-                return self.branch_end(
-                    s,
-                    start,
-                    Shape {
-                        nothing: true,
-                        first: 0,
-                        last: 0,
-                    },
-                );
+                return self.branch_end(s, start, none);
             }
             return BranchRead::Fault;
         }

@@ -1,7 +1,7 @@
 -- `name_byte`: the rule of the table of names.
 use borrow.Author.Needs.{needs}
 use Rattle.pattern.specs.Form.{classNames}
-use Rattle.pattern.specs.Steps.{tabled}
+use Rattle.pattern.specs.States.{tabled}
 use Rattle.pattern.proofs.ClassTables.{nameEntry, name-entry}
 use Rattle.pattern.proofs.class.name_byte.Statement.{statement}
 use Rattle.pattern.proofs.class.name_byte.Tie as tie

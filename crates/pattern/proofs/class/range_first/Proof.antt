@@ -1,7 +1,7 @@
 -- `range_first`: the rule of the table of ranges.
 use borrow.Author.Needs.{needs}
 use Rattle.pattern.specs.Sets.{classRanges}
-use Rattle.pattern.specs.Steps.{tabled}
+use Rattle.pattern.specs.States.{tabled}
 use Rattle.pattern.proofs.ClassTables.{rangeEntry, first-entry}
 use Rattle.pattern.proofs.class.range_first.Statement.{statement}
 use Rattle.pattern.proofs.class.range_first.Tie as tie
