@@ -30,13 +30,13 @@ pub accepted-back : (t : Pattern) → formedPattern t ≡ true → 1 ≤ length 
 accepted-back t h low high few = rw (read-back t h low high, le-leb (atomCount t) 29 few)
 
 -- what can be the matter with some bytes
-data Verdict (p : List ℕ) : Type 0 where
+data Finding (p : List ℕ) : Type 0 where
   -- no tree of the form is written so
-  bad : ((t : Pattern) → formedPattern t ≡ true → writePattern t ≡ p → ⊥) → readPattern p ≡ refused PatternSyntax → Verdict p
+  bad : ((t : Pattern) → formedPattern t ≡ true → writePattern t ≡ p → ⊥) → readPattern p ≡ refused PatternSyntax → Finding p
   -- a tree is, but it has too many atoms
-  many : (t : Pattern) → formedPattern t ≡ true → writePattern t ≡ p → 29 < atomCount t → readPattern p ≡ refused TooManyAtoms → Verdict p
+  many : (t : Pattern) → formedPattern t ≡ true → writePattern t ≡ p → 29 < atomCount t → readPattern p ≡ refused TooManyAtoms → Finding p
   -- a tree is, and its atoms are few enough
-  fine : (t : Pattern) → formedPattern t ≡ true → writePattern t ≡ p → atomCount t ≤ 29 → readPattern p ≡ accepted t → Verdict p
+  fine : (t : Pattern) → formedPattern t ≡ true → writePattern t ≡ p → atomCount t ≤ 29 → readPattern p ≡ accepted t → Finding p
 
 -- the length is wrong, which is refused, or right
 lengths : (p : List ℕ) → (((length p ≡ 0) ⊎ (128 < length p)) × (readPattern p ≡ refused PatternLength)) ⊎ ((1 ≤ length p) × (length p ≤ 128))
@@ -61,26 +61,26 @@ not-bad p t low high h w e = go (leb (atomCount t) 29) (tree-read p t low high h
     go false f = clash (cc)
 
 -- bytes of a tree of the form have a verdict by its atoms
-tree-verdict : (p : List ℕ) (t : Pattern) → 1 ≤ length p → length p ≤ 128 → formedPattern t ≡ true → writePattern t ≡ p → Verdict p
+tree-verdict : (p : List ℕ) (t : Pattern) → 1 ≤ length p → length p ≤ 128 → formedPattern t ≡ true → writePattern t ≡ p → Finding p
 tree-verdict p t low high h w = go (leb (atomCount t) 29) refl
   where
-    go : (b : Bool) → leb (atomCount t) 29 ≡ b → Verdict p
+    go : (b : Bool) → leb (atomCount t) 29 ≡ b → Finding p
     go true e = fine t h w (leb-true (atomCount t) 29 e) (rw e at (tree-read p t low high h w))
     go false e = many t h w (leb-false (atomCount t) 29 e) (rw e at (tree-read p t low high h w))
 
 -- and so have all bytes of the right length
-verdict : (p : List ℕ) → Bytes p → 1 ≤ length p → length p ≤ 128 → Verdict p
+verdict : (p : List ℕ) → Bytes p → 1 ≤ length p → length p ≤ 128 → Finding p
 unfolding readPattern
 verdict p h low high = go (member 0 p || member 10 p) refl
   where
-    is-bad : readPattern p ≡ refused PatternSyntax → Verdict p
+    is-bad : readPattern p ≡ refused PatternSyntax → Finding p
     is-bad e = bad (λ t g w. not-bad p t low high g w e) e
 
-    of-parsed : Clean p → member 0 p || member 10 p ≡ false → (r : Parsed Pattern) → readBranches (length p) p ≡ r → Verdict p
+    of-parsed : Clean p → member 0 p || member 10 p ≡ false → (r : Parsed Pattern) → readBranches (length p) p ≡ r → Finding p
     of-parsed clean e (parsed t rest) q = let (w, g) = branches-from (length p) p rest t clean q in tree-verdict p t low high g w
     of-parsed clean e fault q = is-bad (rw (le-leb 1 (length p) low, le-leb (length p) 128 high, e, q))
 
-    go : (b : Bool) → member 0 p || member 10 p ≡ b → Verdict p
+    go : (b : Bool) → member 0 p || member 10 p ≡ b → Finding p
     go true e = is-bad (rw (le-leb 1 (length p) low, le-leb (length p) 128 high, e))
     go false e =
         let (z, ten) = neither (member 0 p) (member 10 p) e in
@@ -96,7 +96,7 @@ accepted-from p h t e =
     let (low, high) = right-length p (λ f. clash (cc)) in
     go low high (verdict p h low high)
   where
-    go : 1 ≤ length p → length p ≤ 128 → Verdict p → (formedPattern t ≡ true) × (writePattern t ≡ p) × (1 ≤ length p) × (length p ≤ 128) × (atomCount t ≤ 29)
+    go : 1 ≤ length p → length p ≤ 128 → Finding p → (formedPattern t ≡ true) × (writePattern t ≡ p) × (1 ≤ length p) × (length p ≤ 128) × (atomCount t ≤ 29)
     go low high (bad none-of f) = clash (cc)
     go low high (many u g w over f) = clash (cc)
     go low high (fine u g w few f) = let same : t ≡ u = cc in rw same (g, w, low, high, few)
@@ -135,7 +135,7 @@ refused-syntax p h = (from, back)
         let (low, high) = right-length p (λ f. clash (cc)) in
         (low, high, λ t g w. not-bad p t low high g w e)
 
-    of : ((t : Pattern) → formedPattern t ≡ true → writePattern t ≡ p → ⊥) → Verdict p → readPattern p ≡ refused PatternSyntax
+    of : ((t : Pattern) → formedPattern t ≡ true → writePattern t ≡ p → ⊥) → Finding p → readPattern p ≡ refused PatternSyntax
     of none-of (bad n f) = f
     of none-of (many t g w over f) = absurd (none-of t g w)
     of none-of (fine t g w few f) = absurd (none-of t g w)
@@ -147,7 +147,7 @@ refused-syntax p h = (from, back)
 pub refused-atoms : (p : List ℕ) → Bytes p → (readPattern p ≡ refused TooManyAtoms) ↔ ((1 ≤ length p) × (length p ≤ 128) × ((t : Pattern) × (formedPattern t ≡ true) × (writePattern t ≡ p) × (29 < atomCount t)))
 refused-atoms p h = (from, back)
   where
-    of : readPattern p ≡ refused TooManyAtoms → Verdict p → (t : Pattern) × (formedPattern t ≡ true) × (writePattern t ≡ p) × (29 < atomCount t)
+    of : readPattern p ≡ refused TooManyAtoms → Finding p → (t : Pattern) × (formedPattern t ≡ true) × (writePattern t ≡ p) × (29 < atomCount t)
     of e (bad n f) = clash (cc)
     of e (many t g w over f) = (t, g, w, over)
     of e (fine t g w few f) = clash (cc)

@@ -21,7 +21,7 @@ use Rattle.pattern.specs.States.{nothingIn, inPieces, first, last, follo
 use Rattle.pattern.specs.Tables.{isAtom}
 use Rattle.pattern.specs.Branches.{shapeIn, keysIn, enterIn}
 use Rattle.pattern.specs.Summaries.{branchSummary, summaryOf, through, PatternDone, ReadsBranches}
-use Rattle.pattern.specs.Automata.{enters, keyTable, enterTable, accepts, ReadAs, acceptingOf}
+use Rattle.pattern.specs.Automata.{enters, keyTable, enterTable, accepts, ReadAs, acceptingOf, acceptedWith, verdictFigures}
 use Rattle.pattern.specs.Steps.{mapWith}
 use Rattle.pattern.proofs.Bytes.{clash}
 use Rattle.pattern.proofs.Entries.{with-same, with-with, with-none}
@@ -181,7 +181,7 @@ module _ (t : Pattern) where
 -- a whole pattern that has no byte 0 or 10
 module _ (s keys enter k e : List ℕ) (x : PatternRead) (h : ReadsBranches s (record { at = 0; atoms = 0 }) blank (replicate 256 0) (replicate 32 0) x k e) where
   abbrev Answered : Verdict → List ℕ → List ℕ → Type 0
-  Answered v keys' enter' = ReadAs (counted (readBranches (length s) s)) keys enter v keys' enter'
+  Answered v keys' enter' = ReadAs (counted (readBranches (length s) s)) keys enter (verdictFigures v) keys' enter'
 
   read : PatternDone (record { at = 0; atoms = 0 }) blank (replicate 256 0) (replicate 32 0) x k e (readBranches (length s) s)
   read = h (length s) (omega arith)
@@ -190,7 +190,7 @@ module _ (s keys enter k e : List ℕ) (x : PatternRead) (h : ReadsBranches s (r
   unfolding ReadAs
   clean-fault f = go (readBranches (length s) s) read
     where
-      go : (p : Parsed Pattern) → PatternDone (record { at = 0; atoms = 0 }) blank (replicate 256 0) (replicate 32 0) x k e p → ReadAs (counted p) keys enter (Verdict.Refused PatternSyntax) keys enter
+      go : (p : Parsed Pattern) → PatternDone (record { at = 0; atoms = 0 }) blank (replicate 256 0) (replicate 32 0) x k e p → ReadAs (counted p) keys enter (verdictFigures (Verdict.Refused PatternSyntax)) keys enter
       go (parsed t rest) (i, j, l) = clash (cc)
       go fault i = (refl, refl, refl)
 
@@ -199,7 +199,7 @@ module _ (s keys enter k e : List ℕ) (x : PatternRead) (h : ReadsBranches s (r
     unfolding ReadAs
     clean-many g = go (readBranches (length s) s) read
       where
-        go : (p : Parsed Pattern) → PatternDone (record { at = 0; atoms = 0 }) blank (replicate 256 0) (replicate 32 0) x k e p → ReadAs (counted p) keys enter (Verdict.Refused TooManyAtoms) keys enter
+        go : (p : Parsed Pattern) → PatternDone (record { at = 0; atoms = 0 }) blank (replicate 256 0) (replicate 32 0) x k e p → ReadAs (counted p) keys enter (verdictFigures (Verdict.Refused TooManyAtoms)) keys enter
         go (parsed t rest) (i, j, l) = let many : n ≡ 0 + atomCount t = cc in rw (lt-leb (atomCount t) 29 (omega arith)) (refl, refl, refl)
         go fault i = clash (cc)
 
@@ -207,9 +207,9 @@ module _ (s keys enter k e : List ℕ) (x : PatternRead) (h : ReadsBranches s (r
     unfolding ReadAs
     clean-fine g v ev = go (readBranches (length s) s) read
       where
-        go : (p : Parsed Pattern) → PatternDone (record { at = 0; atoms = 0 }) blank (replicate 256 0) (replicate 32 0) x k e p → ReadAs (counted p) keys enter (Verdict.Accepted v) k (set (set e 0 (a .first)) 1 (a .free))
+        go : (p : Parsed Pattern) → PatternDone (record { at = 0; atoms = 0 }) blank (replicate 256 0) (replicate 32 0) x k e p → ReadAs (counted p) keys enter (verdictFigures (Verdict.Accepted v)) k (set (set e 0 (a .first)) 1 (a .free))
         go (parsed t rest) (i, j, l) =
             let many : n ≡ 0 + atomCount t = cc in
             let sum : a ≡ summaryOf 0 t blank = cc in
-            rw (le-leb (atomCount t) 29 (omega arith)) (ap (λ (w : Accepting). Verdict.Accepted w) (ev ∙ ap (λ (b : Summary). acceptingOf b n) sum ∙ accepts-all t n (many ∙ zero-add (atomCount t))), j ∙ keys-all t, rw (sum, l) (enter-all t))
+            rw (le-leb (atomCount t) 29 (omega arith)) (ap (λ (w : Accepting). acceptedWith w) (ev ∙ ap (λ (b : Summary). acceptingOf b n) sum ∙ accepts-all t n (many ∙ zero-add (atomCount t))), j ∙ keys-all t, rw (sum, l) (enter-all t))
         go fault i = clash (cc)

@@ -14,7 +14,7 @@ use Rattle.pattern.specs.declared.automaton.Verdict.{Verdict}
 use Rattle.pattern.specs.Form.{member}
 use Rattle.pattern.specs.Reader.{readBranches, counted, readPattern}
 use Rattle.pattern.specs.Cycle.{Clean, CleanDone, Ready}
-use Rattle.pattern.specs.Automata.{ReadAs}
+use Rattle.pattern.specs.Automata.{Figures, ReadAs, verdictFigures}
 use Rattle.pattern.proofs.Bytes.{clash}
 use Rattle.pattern.proofs.Parses.{byte-of, clean-append, clean-member}
 
@@ -49,11 +49,11 @@ module _ (s : List ℕ) (i : ℕ) where
   scan-end e h = rw (take-all i s e) at h
 
 module _ (s keys enter : List ℕ) where
-  pub pattern-none : length s ≡ 0 → ReadAs (readPattern s) keys enter (Verdict.Refused PatternLength) keys enter
+  pub pattern-none : length s ≡ 0 → ReadAs (readPattern s) keys enter (verdictFigures (Verdict.Refused PatternLength)) keys enter
   unfolding readPattern ReadAs
   pattern-none e = rw e (refl, refl, refl)
 
-  pub pattern-long : 128 < length s → ReadAs (readPattern s) keys enter (Verdict.Refused PatternLength) keys enter
+  pub pattern-long : 128 < length s → ReadAs (readPattern s) keys enter (verdictFigures (Verdict.Refused PatternLength)) keys enter
   unfolding readPattern ReadAs
   pattern-long e = rw (le-leb 1 (length s) (omega arith), lt-leb (length s) 128 e) (refl, refl, refl)
 
@@ -61,7 +61,7 @@ module _ (s keys enter : List ℕ) where
     fits : (leb 1 (length s) && leb (length s) 128) ≡ true
     fits = rw (le-leb 1 (length s) (omega (arith, some-byte)), le-leb (length s) 128 short)
 
-    pub pattern-unclean : t ≡ false → ReadAs (readPattern s) keys enter (Verdict.Refused PatternSyntax) keys enter
+    pub pattern-unclean : t ≡ false → ReadAs (readPattern s) keys enter (verdictFigures (Verdict.Refused PatternSyntax)) keys enter
     unfolding readPattern ReadAs CleanDone
     pattern-unclean e = rw (fits, rw e at d) (refl, refl, refl)
 
@@ -80,6 +80,6 @@ module _ (s keys enter : List ℕ) where
           go true h = absurd (h refl)
           go false h = refl
 
-      pub pattern-clean : (v : Verdict) (keys' enter' : List ℕ) → ReadAs (counted (readBranches (length s) s)) keys enter v keys' enter' → ReadAs (readPattern s) keys enter v keys' enter'
+      pub pattern-clean : (f : Figures) (keys' enter' : List ℕ) → ReadAs (counted (readBranches (length s) s)) keys enter f keys' enter' → ReadAs (readPattern s) keys enter f keys' enter'
       unfolding readPattern
-      pattern-clean v keys' enter' h = rw (fits, absent 0 (λ m. clash (cc (clean-member 0 s m clean))), absent 10 (λ m. clash (cc (clean-member 10 s m clean)))) h
+      pattern-clean f keys' enter' h = rw (fits, absent 0 (λ m. clash (cc (clean-member 0 s m clean))), absent 10 (λ m. clash (cc (clean-member 10 s m clean)))) h

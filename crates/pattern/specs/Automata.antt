@@ -6,6 +6,8 @@ use mathlib.Core.List.{List}
 use Rattle.pattern.specs.declared.automaton.Accepting.{Accepting}
 use Rattle.pattern.specs.declared.automaton.Verdict.{Verdict}
 use Rattle.pattern.specs.declared.summary.Summary.{Summary}
+use Rattle.refusal.specs.declared.Refusal.{Refusal}
+use Rattle.refusal.specs.Number as Number
 use Rattle.pattern.specs.Form.{Pattern, atomCount}
 use Rattle.pattern.specs.Reader.{Read, accepted, refused}
 use Rattle.pattern.specs.States.{firstInBranch, firstInFree, endsFree, endsAnchored, follows, holdsKey, emptyBranch, emptyFree, atomWord, tabled}
@@ -34,10 +36,25 @@ accepts t = record {
   atoms = atomCount t;
 }
 
--- what a reading answers, and what it makes of the tables
-unfoldable pub ReadAs : Read → List ℕ → List ℕ → Verdict → List ℕ → List ℕ → Type 0
-ReadAs (accepted t) keys enter v keys' enter' = (v ≡ Verdict.Accepted (accepts t)) × (keys' ≡ keyTable t) × (enter' ≡ enterTable t)
-ReadAs (refused r) keys enter v keys' enter' = (v ≡ Verdict.Refused r) × (keys' ≡ keys) × (enter' ≡ enter)
+-- The paper's figures for an answer: the refusal's number, 0 if accepted, and the values. "A refusal's other numbers are 0"
+pub record Figures : Type 0 where
+  pub refusal : ℕ
+  pub values : Accepting
+
+abbrev pub acceptedWith : Accepting → Figures
+acceptedWith a = record { refusal = 0; values = a }
+
+abbrev pub refusedFor : Refusal → Figures
+refusedFor r = record { refusal = Number.number r; values = record { ends = 0; anchored = 0; empty = false; jump = false; atoms = 0 } }
+
+abbrev pub verdictFigures : Verdict → Figures
+verdictFigures (Verdict.Accepted a) = acceptedWith a
+verdictFigures (Verdict.Refused r) = refusedFor r
+
+-- the figures of a reading, and what it makes of the tables
+unfoldable pub ReadAs : Read → List ℕ → List ℕ → Figures → List ℕ → List ℕ → Type 0
+ReadAs (accepted t) keys enter f keys' enter' = (f ≡ acceptedWith (accepts t)) × (keys' ≡ keyTable t) × (enter' ≡ enterTable t)
+ReadAs (refused r) keys enter f keys' enter' = (f ≡ refusedFor r) × (keys' ≡ keys) × (enter' ≡ enter)
 
 -- the same of what the branches come to
 abbrev pub acceptingOf : Summary → ℕ → Accepting

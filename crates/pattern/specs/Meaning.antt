@@ -49,7 +49,7 @@ pub data Matches : Pattern → List ℕ → Type 0 where
   here : {b : Branch} {bs : Pattern} {line : List ℕ} → MatchesBranch b line → Matches (b ∷ bs) line
   later : {b : Branch} {bs : Pattern} {line : List ℕ} → Matches bs line → Matches (b ∷ bs) line
 
--- The same as a test, which contracts cite. `rest` says whether what is left of a line will do.
+-- The same as a test, for contracts to cite. `rest` says whether what is left of a line will do.
 
 -- f takes once, and then again as long as what is left grows shorter; n bounds how often
 unfoldable pub repeated : ((List ℕ → Bool) → List ℕ → Bool) → (List ℕ → Bool) → ℕ → List ℕ → Bool

@@ -24,10 +24,6 @@ abbrev pub next : {A B : Type 0} → Parsed A → (A → Parser B) → Parsed B
 next (parsed a l) f = f a l
 next fault f = fault
 
--- one parser after the other
-abbrev pub _>>=_ : {A B : Type 0} → Parser A → (A → Parser B) → Parser B
-_>>=_ m f = λ l. next (m l) f
-
 -- the byte at the front, or at a place behind it
 abbrev pub at : ℕ → List ℕ → ℕ
 at i l = getD l i 0
@@ -44,7 +40,7 @@ sameBytes (a ∷ cs) (b ∷ bs) = eqb a b && sameBytes cs bs
 abbrev pub isClass : ℕ → List ℕ → Bool
 isClass c l = sameBytes (take (length (className c) + 2) l) (className c ++ (58 ∷ 93 ∷ []))
 
--- the first of the k last classes of the table whose name the bytes begin with
+-- of the k classes from c on, the first whose name and `:]` the bytes begin with
 unfoldable pub findClass : ℕ → ℕ → List ℕ → Option ℕ
 findClass zero c l = none
 findClass (suc k) c l = cond (isClass c l) (some c) (findClass k (suc c) l)

@@ -8,15 +8,17 @@ ghost use mathlib.Core.Path.{_≡_};
 ghost use lib.ListN.{length};
 ghost use Rattle.pattern.specs.Reader.{counted, readBranches, readPattern};
 ghost use Rattle.pattern.specs.Cycle.{Ready};
-ghost use Rattle.pattern.specs.Automata.{ReadAs, acceptingOf};
+ghost use Rattle.pattern.specs.Automata.{ReadAs, acceptingOf, verdictFigures};
 
-// What the automaton accepts with. A word is a set of states; atom k's is 3 + k.
+// What the moves into found and a line's end need. A word is a set of states; atom k's is 3 + k.
 pub struct Accepting {
-    // The atoms that can end a branch without `$`, and one with it.
+    // The atoms that can end a branch without `$`: entering one also enters found.
     pub ends: u64,
+    // Those that can end a branch with `$`: they accept at a line's end.
     pub anchored: u64,
-    // A branch can match nothing; and one that does not have both anchors can.
+    // A branch can match nothing: line-start accepts.
     pub empty: bool,
+    // Such a branch does not have both anchors: line-start goes to found on every key but LF.
     pub jump: bool,
     pub atoms: usize,
 }
@@ -26,8 +28,8 @@ pub enum Verdict {
     Refused(Refusal),
 }
 
-// What the branches come to at a line's end.
-fn at_end(a: Summary, atoms: usize) -> Accepting
+// What the branches come to, and the number of atoms.
+fn summed(a: Summary, atoms: usize) -> Accepting
     ensures { λ r. ⌜ r ≡ acceptingOf a atoms ⌝ }
 {
     Accepting {
@@ -42,7 +44,7 @@ fn at_end(a: Summary, atoms: usize) -> Accepting
 // A pattern of up to 128 bytes, none of which is 0 or 10.
 fn read_clean(s: &[u8], keys: &mut [u64; 256], enter: &mut [u64; 32]) -> Verdict
     requires { ⌜ Ready (now s) (record { at = 0; atoms = 0 }) ⌝ }
-    ensures { λ r. ⌜ ReadAs (counted (readBranches (length (now (s .entry))) (now (s .entry)))) (now (keys .entry)) (now (enter .entry)) r (now (keys .exit)) (now (enter .exit)) ⌝ }
+    ensures { λ r. ⌜ ReadAs (counted (readBranches (length (now (s .entry))) (now (s .entry)))) (now (keys .entry)) (now (enter .entry)) (verdictFigures r) (now (keys .exit)) (now (enter .exit)) ⌝ }
 {
     let mut keyed = [0; 256];
     let mut entered = [0; 32];
@@ -66,13 +68,13 @@ fn read_clean(s: &[u8], keys: &mut [u64; 256], enter: &mut [u64; 32]) -> Verdict
     entered[1] = sum.free;
     *keys = keyed;
     *enter = entered;
-    Verdict::Accepted(at_end(sum, atoms))
+    Verdict::Accepted(summed(sum, atoms))
 }
 
 // Reads a pattern. Refused with 7, 8 and 9 of document 01's table, in that order; the tables then stay as they were. Else they
 // have, for each key, the word of the atoms whose set has it, and for each state the word of the atoms that it may enter.
 pub fn read_pattern(s: &[u8], keys: &mut [u64; 256], enter: &mut [u64; 32]) -> Verdict
-    ensures { λ r. ⌜ ReadAs (readPattern (now (s .entry))) (now (keys .entry)) (now (enter .entry)) r (now (keys .exit)) (now (enter .exit)) ⌝ }
+    ensures { λ r. ⌜ ReadAs (readPattern (now (s .entry))) (now (keys .entry)) (now (enter .entry)) (verdictFigures r) (now (keys .exit)) (now (enter .exit)) ⌝ }
 {
     let n = s.len();
     if n == 0 {

@@ -6,11 +6,11 @@ ghost use Prim.Native.Nat.{_+_};
 pub struct State(pub u16);
 
 impl State {
-    pub const LINE_START: u16 = 0;
+    pub const LINE_START: State = State(0);
 
-    pub const MID_LINE: u16 = 1;
+    pub const MID_LINE: State = State(1);
 
-    pub const FOUND: u16 = 2;
+    pub const FOUND: State = State(2);
 
     // The state of atom k.
     pub fn atom(k: u8) -> State

@@ -24,8 +24,8 @@ array-write-entered c = search needs
 array-write-entered-2 : tie.Need-array-write-entered-2
 array-write-entered-2 c = search needs
 
-at-end-requires : tie.Need-at-end-requires
-at-end-requires c κs = search needs
+summed-requires : tie.Need-summed-requires
+summed-requires c κs = search needs
 
 returns-3 : tie.Need-returns-3
 returns-3 c = search (laws.clean-fine)
@@ -41,5 +41,5 @@ read-clean-spec =
     returns-2
     array-write-entered
     array-write-entered-2
-    at-end-requires
+    summed-requires
     returns-3)
