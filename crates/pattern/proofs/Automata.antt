@@ -23,7 +23,7 @@ use Rattle.pattern.specs.Branches.{shapeIn, keysIn, enterIn}
 use Rattle.pattern.specs.Summaries.{branchSummary, summaryOf, through, PatternDone, ReadsBranches}
 use Rattle.pattern.specs.Automata.{enters, keyTable, enterTable, accepts, ReadAs, acceptingOf, acceptedWith, verdictFigures}
 use Rattle.pattern.specs.Steps.{mapWith}
-use Rattle.pattern.proofs.Bytes.{clash}
+use Rattle.pattern.proofs.Parses.{clash}
 use Rattle.pattern.proofs.Entries.{with-same, with-with, with-none}
 use Rattle.pattern.proofs.Tables.{atoms-none, atoms-same, both-added, added-if}
 

@@ -17,7 +17,7 @@ use Rattle.pattern.specs.Form.{Element, bracket}
 use Rattle.pattern.specs.Sets.{inElement, inElements, named}
 use Rattle.pattern.specs.Reader.{Parsed, parsed, fault, next, done, readElement, readElements, readBracket}
 use Rattle.pattern.specs.Steps.{mapWith, withElement, withElements, withKey, elementOf, elementShown, elementsFrom, bracketFrom, ElementsDone, BracketDone}
-use Rattle.pattern.proofs.Bytes.{clash}
+use Rattle.pattern.proofs.Parses.{clash}
 use Rattle.pattern.proofs.Entries.{with-same, with-with, with-none}
 use Rattle.pattern.proofs.Stored.{set-stored, filled-set}
 use Rattle.pattern.proofs.Taken.{Shown, shown-fault, shown-found, none-read}

@@ -3,18 +3,14 @@
 use Prim.Native.Nat.{ℕ, zero, suc, _+_, _*_, _/_, _%_, _<_}
 use native.Mathlib.Omega.{arith}
 use native.Mathlib.Nat.{not-suc-le-zero, add-zero, zero-add}
-use mathlib.Core.Path.{_≡_, refl, _∙_}
-use mathlib.Core.Bool.{Bool, true, false, _&&_, cond, false≢true}
+use mathlib.Core.Path.{_≡_, _∙_}
+use mathlib.Core.Bool.{Bool, true, _&&_, cond}
 use mathlib.Core.List.{List, [], _∷_}
 use lib.Dec.{eqb}
 use lib.ListN.{length, getD}
 use Rattle.pattern.specs.States.{tabled}
+use Rattle.pattern.proofs.Parses.{both}
 use Rattle.pattern.specs.Steps.{classText, classRange}
-
--- both tests were passed
-pub and-both : (a b : Bool) → (a && b) ≡ true → (a ≡ true) × (b ≡ true)
-and-both true b e = (refl, e)
-and-both false b e = absurd (false≢true e)
 
 -- a test that every entry of a list passes
 unfoldable pub every : {A : Type 0} → (A → Bool) → List A → Bool
@@ -24,8 +20,8 @@ every f (x ∷ xs) = f x && every f xs
 pub every-at : {A : Type 0} (f : A → Bool) (d : A) (xs : List A) → every f xs ≡ true → (k : ℕ) → k < length xs → f (getD xs k d) ≡ true
 unfolding every
 every-at f d [] e k h = absurd (not-suc-le-zero h)
-every-at f d (x ∷ xs) e zero h = and-both (f x) (every f xs) e .0
-every-at f d (x ∷ xs) e (suc k) h = every-at f d xs (and-both (f x) (every f xs) e .1) k (omega arith)
+every-at f d (x ∷ xs) e zero h = both (f x) (every f xs) e .0
+every-at f d (x ∷ xs) e (suc k) h = every-at f d xs (both (f x) (every f xs) e .1) k (omega arith)
 
 tabled-from : (f : ℕ → ℕ) (n i k : ℕ) → k < n → getD (tabled f n i) k 0 ≡ f (i + k)
 unfolding tabled

@@ -15,8 +15,8 @@ use Rattle.pattern.specs.declared.class.ClassRead.the-variants.{Found, U
 use Rattle.pattern.specs.Form.{classNames, className, member}
 use Rattle.pattern.specs.Reader.{sameBytes, isClass, findClass}
 use Rattle.pattern.specs.Steps.{classText, classShown}
-use Rattle.pattern.proofs.Bytes.{clash}
-use Rattle.pattern.proofs.ClassTables.{and-both, every, every-at}
+use Rattle.pattern.proofs.Parses.{clash, both}
+use Rattle.pattern.proofs.ClassTables.{every, every-at}
 
 -- a name with its `:]` has seven bytes, or eight if there is an eighth, and none is 0
 fitting : List ℕ → Bool
@@ -33,7 +33,7 @@ twelve = refl
 module _ (c : ℕ) (low : c < 12) where
   class-fitting : (eqb (length (className c) + 2) (cond (eqb (getD (classText c) 7 0) 0) 7 8) ≡ true) × (not (member 0 (classText c)) ≡ true)
   unfolding fitting
-  class-fitting = and-both _ _ (every-at fitting [] classNames all-fitting c (rw twelve low))
+  class-fitting = both _ _ (every-at fitting [] classNames all-fitting c (rw twelve low))
 
   size : length (className c) + 2 ≡ cond (eqb (getD (classText c) 7 0) 0) 7 8
   size = eqb-true _ _ (class-fitting .0)

@@ -15,7 +15,7 @@ use Rattle.pattern.specs.declared.bracket.BracketRead.the-variants.{At, 
 use Rattle.pattern.specs.Form.{Atom}
 use Rattle.pattern.specs.Reader.{Parsed, parsed, fault, readBracket}
 use Rattle.pattern.specs.Steps.{BracketDone}
-use Rattle.pattern.proofs.Bytes.{clash}
+use Rattle.pattern.proofs.Parses.{clash}
 use Rattle.pattern.proofs.Entries.{partly, entry-none, entry-set, with-length, with-getD}
 use Rattle.pattern.proofs.Shorter.{bracket-shorter}
 

@@ -18,8 +18,7 @@ use Rattle.pattern.specs.declared.element.Element.the-variants.{Byte, Ra
 use Rattle.pattern.specs.Form.{byte, range, class, className, member, writeElement}
 use Rattle.pattern.specs.Reader.{parsed, fault, at, startsRange, findClass, classFound, readClass, readRange, readByte, readElement}
 use Rattle.pattern.specs.Steps.{classShown, elementShown}
-use Rattle.pattern.proofs.Bytes.{clash}
-use Rattle.pattern.proofs.ClassTables.{and-both}
+use Rattle.pattern.proofs.Parses.{clash, both}
 use Rattle.pattern.proofs.Classes.{found-below}
 
 -- what may begin an element
@@ -150,7 +149,7 @@ module _ (s : List ℕ) (p : ℕ) where
 
     module _ (t : o ≡ true) where
       opened : (eqb a 91 ≡ true) × (member b (46 ∷ 61 ∷ 58 ∷ []) ≡ true)
-      opened = and-both _ _ (sym n ∙ t)
+      opened = both _ _ (sym n ∙ t)
 
       pub element-class : (r : ElementRead) → b ≡ 58 → r ≡ elementShown p (readClass (drop (p + 2) s)) → r ≡ elementShown p (readElement first (drop p s))
       element-class r h g = rw (chosen, opened .0, eq-eqb b 58 h) g

@@ -15,8 +15,7 @@ use Rattle.pattern.specs.Form.{member}
 use Rattle.pattern.specs.Reader.{readBranches, counted, readPattern}
 use Rattle.pattern.specs.Cycle.{Clean, CleanDone, Ready}
 use Rattle.pattern.specs.Automata.{Figures, ReadAs, verdictFigures}
-use Rattle.pattern.proofs.Bytes.{clash}
-use Rattle.pattern.proofs.Parses.{byte-of, clean-append, clean-member}
+use Rattle.pattern.proofs.Parses.{byte-of, clean-append, clean-member, clash}
 
 member-at : (l : List ℕ) (i : ℕ) → i < length l → member (getD l i 0) l ≡ true
 unfolding member

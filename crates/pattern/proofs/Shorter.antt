@@ -8,7 +8,7 @@ use lib.Dec.{eqb}
 use lib.ListN.{length, drop, length-drop}
 use Rattle.pattern.specs.Form.{Element, Atom, writeElement}
 use Rattle.pattern.specs.Reader.{Parsed, Parser, parsed, fault, next, at, readElement, readElements, readBracket}
-use Rattle.pattern.proofs.Bytes.{clash}
+use Rattle.pattern.proofs.Parses.{clash}
 use Rattle.pattern.proofs.Taken.{element-taken}
 
 data Shorter {A : Type 0} (n : ℕ) : Parsed A → Type 0 where

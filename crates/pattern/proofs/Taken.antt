@@ -14,7 +14,7 @@ use Rattle.pattern.specs.declared.element.Element as declared
 use Rattle.pattern.specs.Form.{Element, byte, range, class, className, member, writeElement}
 use Rattle.pattern.specs.Reader.{Parsed, parsed, fault, at, findClass, classFound, startsRange, readElement}
 use Rattle.pattern.specs.Steps.{shownElement, elementOf, elementShown, Known}
-use Rattle.pattern.proofs.Bytes.{clash}
+use Rattle.pattern.proofs.Parses.{clash}
 use Rattle.pattern.proofs.Classes.{found-below}
 
 -- an element takes the bytes that it is written as, and a class is one of the twelve
