@@ -1,0 +1,66 @@
+-- Laws of tests, and of `some number below n`.
+use Prim.Native.Nat.{ℕ, zero, suc, _<_}
+use native.Mathlib.Omega.{arith}
+use mathlib.Core.Path.{_≡_, refl, sym}
+use mathlib.Core.Logic.{_⊎_, inl, inr, ⊎-elim}
+use mathlib.Core.Bool.{Bool, true, false, _&&_, _||_, or-true, and-eq-true-iff, false≢true}
+use lib.Dec.{ltb}
+use borrow.Author.Tests.{ltb-true, ltb-false}
+use Rattle.stateset.specs.Set.{anyBelow}
+
+-- a true `||` has a true side
+pub or-cases : (a b : Bool) → (a || b) ≡ true → (a ≡ true) ⊎ (b ≡ true)
+or-cases true b h = inl refl
+or-cases false b h = inr h
+
+-- a true side makes a true `||`
+pub or-left : (a b : Bool) → a ≡ true → (a || b) ≡ true
+or-left a b h = rw h
+
+pub or-right : (a b : Bool) → b ≡ true → (a || b) ≡ true
+or-right a b h = rw h (or-true a)
+
+-- both sides of a true `&&`
+pub and-both : (a b : Bool) → a ≡ true → b ≡ true → (a && b) ≡ true
+and-both a b g h = rw (g, h)
+
+pub and-fst : (a b : Bool) → (a && b) ≡ true → a ≡ true
+and-fst a b h = and-eq-true-iff a b .0 h .0
+
+pub and-snd : (a b : Bool) → (a && b) ≡ true → b ≡ true
+and-snd a b h = and-eq-true-iff a b .0 h .1
+
+-- two tests that are true together are one
+pub tests-ext : (a b : Bool) → (a ≡ true → b ≡ true) → (b ≡ true → a ≡ true) → a ≡ b
+tests-ext true b f g = sym (f refl)
+tests-ext false true f g = g refl
+tests-ext false false f g = refl
+
+-- a number below n that has X
+pub record Witness (n : ℕ) (X : ℕ → Bool) : Type 0 where
+  pub which : ℕ
+  pub below : which < n
+  pub has : X which ≡ true
+
+pub any-some : (n k : ℕ) (X : ℕ → Bool) → k < n → X k ≡ true → anyBelow n X ≡ true
+unfolding anyBelow
+any-some zero k X h e = absurd (omega arith)
+any-some (suc n) k X h e = go (λ l. any-some n k X l e) (ltb k n) refl
+  where
+    go : (k < n → anyBelow n X ≡ true) → (b : Bool) → ltb k n ≡ b → (anyBelow n X || X n) ≡ true
+    go f true i = or-left (anyBelow n X) (X n) (f (ltb-true k n i))
+    go f false i = let s : n ≡ k = omega (arith, ltb-false k n i) in or-right (anyBelow n X) (X n) (rw s e)
+
+pub any-witness : (n : ℕ) (X : ℕ → Bool) → anyBelow n X ≡ true → Witness n X
+unfolding anyBelow
+any-witness zero X h = absurd (false≢true h)
+any-witness (suc n) X h =
+    ⊎-elim
+    (λ i. let w = any-witness n X i in record { which = w .which; below = omega arith; has = w .has })
+    (λ i. record { which = n; below = omega arith; has = i })
+    (or-cases (anyBelow n X) (X n) h)
+
+pub any-ext : (n : ℕ) (X Y : ℕ → Bool) → ((k : ℕ) → k < n → X k ≡ Y k) → anyBelow n X ≡ anyBelow n Y
+unfolding anyBelow
+any-ext zero X Y e = refl
+any-ext (suc n) X Y e = rw (any-ext n X Y (λ k h. e k (omega arith)), e n (omega arith)) refl
