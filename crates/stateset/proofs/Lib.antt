@@ -1,3 +1,5 @@
 -- Laws of sets as numbers, over any width.
 pub mod Sets
 pub mod Some
+pub mod Lowest
+pub mod Images

@@ -2,6 +2,7 @@
 ghost use mathlib.Core.Path.{_≡_};
 ghost use Prim.Native.Nat.{_%_, _^_};
 ghost use lib.Bits.{bitAnd, bitOr};
+ghost use Rattle.stateset.specs.Set.{imageOf};
 
 // The set of p alone; a p that no word holds gives the empty set.
 pub fn only(p: u32) -> u64
@@ -20,4 +21,19 @@ pub fn both(a: u64, b: u64) -> u64
     ensures { λ r. ⌜ r ≡ bitAnd a b ⌝ }
 {
     a & b
+}
+
+// The union of the rows of the set's members; a member from 32 on has no row and adds nothing.
+pub fn image(rows: &[u64; 32], set: u64) -> u64
+    ensures { λ r. ⌜ r ≡ imageOf (now (rows .entry)) set ⌝ }
+{
+    let all: &[u64] = rows;
+    let mut acc: u64 = 0;
+    let mut y = set & 0xffff_ffff;
+    while y != 0 {
+        let p = u64::trailing_zeros(y) as usize;
+        acc |= all[p];
+        y &= y - 1;
+    }
+    acc
 }
