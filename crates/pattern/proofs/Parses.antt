@@ -10,20 +10,10 @@ use lib.ListN.{getD, drop}
 use borrow.Author.Tests.{eqb-true, eqb-false, leb-true, le-leb, ne-eqb, not-true}
 use Rattle.pattern.specs.Form.{member, patternByte}
 use Rattle.pattern.specs.Reader.{Parsed, Parser, parsed, fault, next, done, at}
+pub use Rattle.stateset.proofs.Some.{clash, torn}
 pub use Rattle.pattern.specs.Cycle.{Clean}
 
 -- Answers.
-
--- two constructors that are equal prove anything
-pub clash : {A : Type 0} → _≡_ {A = ℕ} 0 1 → A
-clash z = absurd (no-less z)
-  where
-    no-less : _≡_ {A = ℕ} 0 1 → ⊥
-    no-less z = omega arith
-
--- and so do a test that passed and failed
-pub torn : {A : Type 0} (t : Bool) → t ≡ true → t ≡ false → A
-torn t p q = clash (cc)
 
 -- two answers that are equal have equal parts
 pub same-parsed : {A : Type 0} {a b : A} {r s : List ℕ} → _≡_ {A = Parsed A} (parsed a r) (parsed b s) → (a ≡ b) × (r ≡ s)

@@ -8,6 +8,17 @@ use lib.Dec.{ltb}
 use borrow.Author.Tests.{ltb-true, ltb-false}
 use Rattle.stateset.specs.Set.{anyBelow}
 
+-- two constructors that are equal prove anything
+pub clash : {A : Type 0} → _≡_ {A = ℕ} 0 1 → A
+clash z = absurd (no-less z)
+  where
+    no-less : _≡_ {A = ℕ} 0 1 → ⊥
+    no-less z = omega arith
+
+-- and so does a test that passed and failed
+pub torn : {A : Type 0} (t : Bool) → t ≡ true → t ≡ false → A
+torn t p q = clash (cc)
+
 -- a true `||` has a true side
 pub or-cases : (a b : Bool) → (a || b) ≡ true → (a ≡ true) ⊎ (b ≡ true)
 or-cases true b h = inl refl
