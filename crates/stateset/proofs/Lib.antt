@@ -3,3 +3,5 @@ pub mod Sets
 pub mod Some
 pub mod Lowest
 pub mod Images
+pub mod Counts
+pub mod Common

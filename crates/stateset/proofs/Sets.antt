@@ -1,11 +1,12 @@
 -- Laws of sets as numbers, over any width s.
 use Prim.Native.Nat.{ℕ, zero, suc, _+_, _-_, _*_, _/_, _%_, _^_, _<_, _≤_, suc-le-suc, min, max}
 use native.Mathlib.Omega.{arith}
+use native.Mathlib.Numerals.{add-one}
 use native.Mathlib.Nat.{pow-suc, le-of-suc-le-suc, lt-of-lt-of-le, le-add-right, le-add-left, mul-mod-left}
 use mathlib.Core.Path.{_≡_, refl, sym, _∙_}
 use mathlib.Core.Bool.{Bool, true, false, cond, _&&_, _||_}
 use lib.Dec.{eqb, eqb·zero-suc, eqb·suc-zero, eqb·suc-suc}
-use lib.Pow.{pow-add, pow-lt, pow-pos, pow-mono}
+use lib.Pow.{pow-add, pow-lt, pow-pos, pow-mono, mod-pow-add}
 use lib.Bits.{bitAnd, bitOr, and-step, or-step, and-lt, or-lt}
 use borrow.Author.Tests.{eqb-true, eqb-false}
 use Rattle.stateset.specs.Set.{bit, word}
@@ -55,7 +56,7 @@ word-lt (suc s) X = rw (pow-suc 2 s) (go (X zero) (word-lt s (λ p. X (suc p))))
     go false h = omega arith
 
 -- a digit is told by whether it is 1
-digit : (d : ℕ) (b : Bool) → d < 2 → eqb d 1 ≡ b → d ≡ cond b 1 0
+pub digit : (d : ℕ) (b : Bool) → d < 2 → eqb d 1 ≡ b → d ≡ cond b 1 0
 digit d true h e = eqb-true d 1 e
 digit d false h e = omega (arith, eqb-false d 1 e)
 
@@ -172,3 +173,16 @@ pub pow-high : (s p : ℕ) → s ≤ p → 0 ≡ 2 ^ p % 2 ^ s
 pow-high s p h =
     let e : p ≡ p - s + s = omega arith in
     rw (e, pow-add 2 (p - s) s) (sym (mul-mod-left (2 ^ (p - s)) (2 ^ s)))
+
+-- the rest by a power, its lowest digit apart
+halves : (s w : ℕ) → w % 2 ^ suc s ≡ w / 2 % 2 ^ s * 2 + w % 2
+halves s w = rw (← add-one s) (mod-pow-add w s 1)
+
+-- the rest by a power has the number's members below the exponent
+pub bit-mod : (s w p : ℕ) → p < s → bit (w % 2 ^ s) p ≡ bit w p
+unfolding bit
+bit-mod zero w p h = absurd (omega arith)
+bit-mod (suc s) w zero h = let e : w % 2 ^ suc s % 2 ≡ w % 2 = omega (arith, halves s w) in rw e
+bit-mod (suc s) w (suc p) h =
+    let e : w % 2 ^ suc s / 2 ≡ w / 2 % 2 ^ s = omega (arith, halves s w) in
+    rw e (bit-mod s (w / 2) p (le-of-suc-le-suc h))

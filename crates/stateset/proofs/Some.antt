@@ -1,11 +1,12 @@
 -- Laws of tests, and of `some number below n`.
-use Prim.Native.Nat.{ℕ, zero, suc, _<_}
+use Prim.Native.Nat.{ℕ, zero, suc, _<_, _≤_}
 use native.Mathlib.Omega.{arith}
-use mathlib.Core.Path.{_≡_, refl, sym}
+use native.Mathlib.Decide.{le-ind}
+use mathlib.Core.Path.{_≡_, refl, sym, _∙_}
 use mathlib.Core.Logic.{_⊎_, inl, inr, ⊎-elim}
-use mathlib.Core.Bool.{Bool, true, false, _&&_, _||_, or-true, and-eq-true-iff, false≢true}
-use lib.Dec.{ltb}
-use borrow.Author.Tests.{ltb-true, ltb-false}
+use mathlib.Core.Bool.{Bool, true, false, _&&_, _||_, or-true, or-false, and-eq-true-iff, false≢true}
+use lib.Dec.{ltb, eqb}
+use borrow.Author.Tests.{ltb-true, ltb-false, eqb-true, eq-eqb}
 use Rattle.stateset.specs.Set.{anyBelow}
 
 -- two constructors that are equal prove anything
@@ -75,3 +76,56 @@ pub any-ext : (n : ℕ) (X Y : ℕ → Bool) → ((k : ℕ) → k < n → X k �
 unfolding anyBelow
 any-ext zero X Y e = refl
 any-ext (suc n) X Y e = rw (any-ext n X Y (λ k h. e k (omega arith)), e n (omega arith)) refl
+
+-- what no number has, none below n has
+pub any-none : (n : ℕ) (X : ℕ → Bool) → ((k : ℕ) → X k ≡ false) → anyBelow n X ≡ false
+unfolding anyBelow
+any-none zero X e = refl
+any-none (suc n) X e = rw (any-none n X e, e n)
+
+-- where none below n has X, each below n lacks it
+pub any-lacks : (n k : ℕ) (X : ℕ → Bool) → anyBelow n X ≡ false → k < n → X k ≡ false
+any-lacks n k X e h = go (X k) refl
+  where
+    go : (b : Bool) → X k ≡ b → X k ≡ false
+    go true g = torn (anyBelow n X) (any-some n k X h g) e
+    go false g = g
+
+-- where X is Y and t besides, some number of X has R exactly if t has it or some number of Y has
+pub any-insert : (n t : ℕ) (X Y R : ℕ → Bool) → t < n → ((k : ℕ) → X k ≡ (eqb t k || Y k))
+    → anyBelow n (λ k. X k && R k) ≡ (R t || anyBelow n (λ k. Y k && R k))
+any-insert n t X Y R h e = tests-ext inX (R t || inY) out into
+  where
+    inX : Bool
+    inX = anyBelow n (λ k. X k && R k)
+
+    inY : Bool
+    inY = anyBelow n (λ k. Y k && R k)
+
+    some : (k : ℕ) → k < n → (eqb t k || Y k) ≡ true → R k ≡ true → inX ≡ true
+    some k l i r = any-some n k (λ k. X k && R k) l (and-both (X k) (R k) (e k ∙ i) r)
+
+    into : (R t || inY) ≡ true → inX ≡ true
+    into a =
+        ⊎-elim
+        (λ r. some t h (or-left (eqb t t) (Y t) (eq-eqb t t refl)) r)
+        (λ i.
+        let w = any-witness n (λ k. Y k && R k) i in
+        let k = w .which in
+        some k (w .below) (or-right (eqb t k) (Y k) (and-fst (Y k) (R k) (w .has))) (and-snd (Y k) (R k) (w .has)))
+        (or-cases (R t) inY a)
+
+    out : inX ≡ true → (R t || inY) ≡ true
+    out a =
+        let w = any-witness n (λ k. X k && R k) a in
+        let k = w .which in
+        let r : R k ≡ true = and-snd (X k) (R k) (w .has) in
+        ⊎-elim
+        (λ i. or-left (R t) inY (rw (eqb-true t k i) r))
+        (λ i. or-right (R t) inY (any-some n k (λ k. Y k && R k) (w .below) (and-both (Y k) (R k) i r)))
+        (or-cases (eqb t k) (Y k) (sym (e k) ∙ and-fst (X k) (R k) (w .has)))
+
+-- numbers from n on that do not have X do not matter
+pub any-widen : (n m : ℕ) (X : ℕ → Bool) → n ≤ m → ((k : ℕ) → n ≤ k → X k ≡ false) → anyBelow m X ≡ anyBelow n X
+unfolding anyBelow
+any-widen n m X h e = le-ind (λ (m : ℕ). anyBelow m X ≡ anyBelow n X) refl (λ m l i. rw (i, e m l) (or-false (anyBelow n X))) m h

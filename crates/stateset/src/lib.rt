@@ -1,8 +1,9 @@
 // Sets of numbers below 64 in one word: p is in the set exactly if bit p is 1.
 ghost use mathlib.Core.Path.{_≡_};
+ghost use mathlib.Core.Bool.{cond, _&&_};
 ghost use Prim.Native.Nat.{_%_, _^_};
 ghost use lib.Bits.{bitAnd, bitOr};
-ghost use Rattle.stateset.specs.Set.{imageOf};
+ghost use Rattle.stateset.specs.Set.{bit, anyBelow, countBelow, imageOf};
 
 // The set of p alone; a p that no word holds gives the empty set.
 pub fn only(p: u32) -> u64
@@ -21,6 +22,27 @@ pub fn both(a: u64, b: u64) -> u64
     ensures { λ r. ⌜ r ≡ bitAnd a b ⌝ }
 {
     a & b
+}
+
+// Whether two sets have a member in common.
+pub fn meets(a: u64, b: u64) -> bool
+    ensures { λ r. ⌜ r ≡ anyBelow 64 (λ p. bit a p && bit b p) ⌝ }
+{
+    (a & b) != 0
+}
+
+// How many members a set has.
+pub fn size(a: u64) -> u64
+    ensures { λ r. ⌜ r ≡ countBelow 64 (bit a) ⌝ }
+{
+    u64::count_ones(a) as u64
+}
+
+// The set if t holds, or else the empty one.
+pub fn chosen(t: bool, a: u64) -> u64
+    ensures { λ r. ⌜ r ≡ cond t a 0 ⌝ }
+{
+    if t { a } else { 0 }
 }
 
 // The union of the rows of the set's members; a member from 32 on has no row and adds nothing.
