@@ -15,7 +15,7 @@ use Rattle.pattern.specs.Meaning.{MatchesBranch, Matches, matches}
 use Rattle.pattern.specs.States.{someBranch, nothingIn, firstInBranch, firstInFree, endsFree, endsAnchored, follows, holdsKey, emptyBranch, emptyFree}
 use Rattle.pattern.specs.Moves.{states, enters, into, intoEnd, jumps, target, move, accepting, leads, acceptedFrom}
 use Rattle.pattern.proofs.Meaning.{matches-iff}
-use Rattle.pattern.proofs.Continuations.{Within, Step, lifted}
+use Rattle.pattern.proofs.Continuations.{Step, lifted}
 use Rattle.pattern.proofs.SomeBranch.{Some, some-true, true-some, some-map, Tells, some-within, some-step, step-some}
 use Rattle.pattern.proofs.BranchStates.{no-key, firstOf, lastOf, followOf, holdsOf, first-tells, follow-tells, holds-tells, cont-tells, At, After, at-begins, begins-at, Live, live-after, free-after, after-cases, live-step, step-live, live-end, end-live, Place, matches-place, place-matches, nothing-in}
 

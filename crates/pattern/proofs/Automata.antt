@@ -21,7 +21,9 @@ use Rattle.pattern.specs.States.{nothingIn, inPieces, first, last, follo
 use Rattle.pattern.specs.Tables.{isAtom}
 use Rattle.pattern.specs.Branches.{shapeIn, keysIn, enterIn}
 use Rattle.pattern.specs.Summaries.{branchSummary, summaryOf, through, PatternDone, ReadsBranches}
-use Rattle.pattern.specs.Automata.{enters, keyTable, enterTable, accepts, ReadAs, acceptingOf, acceptedWith, verdictFigures}
+use Rattle.pattern.specs.Moves.{enters}
+use Rattle.pattern.proofs.Tabled.{tabled-same}
+use Rattle.pattern.specs.Automata.{keyTable, enterTable, accepts, ReadAs, acceptingOf, acceptedWith, verdictFigures}
 use Rattle.pattern.specs.Steps.{mapWith}
 use Rattle.pattern.proofs.Parses.{clash}
 use Rattle.pattern.proofs.Entries.{with-same, with-with, with-none}
@@ -124,11 +126,6 @@ filled : (F : ℕ → ℕ) (n i : ℕ) → mapWith (λ q x. bitOr x (F q)) i (re
 unfolding mapWith tabled
 filled F zero i = refl
 filled F (suc n) i = ap (λ l. F i ∷ l) (filled F n (suc i))
-
-tabled-same : (F G : ℕ → ℕ) (n i : ℕ) → ((q : ℕ) → i ≤ q → q < i + n → F q ≡ G q) → tabled F n i ≡ tabled G n i
-unfolding tabled
-tabled-same F G zero i e = refl
-tabled-same F G (suc n) i e = rw (e i (omega arith) (omega arith), tabled-same F G n (suc i) (λ q g h. e q (omega arith) (omega arith))) refl
 
 module _ (t : Pattern) where
   pub keys-all : through keysIn 0 t (replicate 256 0) ≡ keyTable t

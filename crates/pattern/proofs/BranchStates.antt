@@ -11,7 +11,8 @@ use Rattle.pattern.specs.Form.{Expr, Branch, atomsIn}
 use Rattle.pattern.specs.Meaning.{TakesPieces, MatchesBranch}
 use Rattle.pattern.specs.States.{first, last, follow, holds, nothingIn, inPieces}
 use Rattle.pattern.proofs.Leaves.{Leaves, takes-leaves, leaves-takes}
-use Rattle.pattern.proofs.Continuations.{Within, Cont, Step, lifted, starts, goes-on, nothing-leaves, last-cont, first-leaves, follow-cont, first-within, last-within, follow-within, holds-within, cont-within}
+use Rattle.pattern.proofs.Numbering.{Within, first-within, follow-within, holds-within}
+use Rattle.pattern.proofs.Continuations.{Cont, Step, lifted, starts, goes-on, nothing-leaves, last-cont, first-leaves, follow-cont, cont-within}
 use Rattle.pattern.proofs.SomeBranch.{Tells}
 
 -- a line with a key is not empty

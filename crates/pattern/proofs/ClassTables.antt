@@ -2,7 +2,7 @@
 -- compares it with the code's.
 use Prim.Native.Nat.{ℕ, zero, suc, _+_, _*_, _/_, _%_, _<_}
 use native.Mathlib.Omega.{arith}
-use native.Mathlib.Nat.{not-suc-le-zero, add-zero, zero-add}
+use native.Mathlib.Nat.{not-suc-le-zero, add-zero}
 use mathlib.Core.Path.{_≡_, _∙_}
 use mathlib.Core.Bool.{Bool, true, _&&_, cond}
 use mathlib.Core.List.{List, [], _∷_}
@@ -10,6 +10,7 @@ use lib.Dec.{eqb}
 use lib.ListN.{length, getD}
 use Rattle.pattern.specs.States.{tabled}
 use Rattle.pattern.proofs.Parses.{both}
+use Rattle.pattern.proofs.Tabled.{tabled-at}
 use Rattle.pattern.specs.Steps.{classText, classRange}
 
 -- a test that every entry of a list passes
@@ -22,17 +23,6 @@ unfolding every
 every-at f d [] e k h = absurd (not-suc-le-zero h)
 every-at f d (x ∷ xs) e zero h = both (f x) (every f xs) e .0
 every-at f d (x ∷ xs) e (suc k) h = every-at f d xs (both (f x) (every f xs) e .1) k (omega arith)
-
-tabled-from : (f : ℕ → ℕ) (n i k : ℕ) → k < n → getD (tabled f n i) k 0 ≡ f (i + k)
-unfolding tabled
-tabled-from f zero i k h = absurd (not-suc-le-zero h)
-tabled-from f (suc n) i zero h = rw add-zero
-tabled-from f (suc n) i (suc k) h =
-    let e : i + suc k ≡ suc i + k = omega arith in
-    rw e (tabled-from f n (suc i) k (omega arith))
-
-tabled-at : (f : ℕ → ℕ) (n k : ℕ) → k < n → getD (tabled f n 0) k 0 ≡ f k
-tabled-at f n k h = rw zero-add at (tabled-from f n 0 k h)
 
 -- eight entries to a class: its name and `:]`
 unfoldable pub nameEntry : ℕ → ℕ

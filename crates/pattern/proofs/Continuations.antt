@@ -1,10 +1,9 @@
 -- What may still be taken after an atom was: the link between what an expression leaves and what can come first, follow and end.
-use Prim.Native.Nat.{ℕ, _+_, _≤_, _<_}
-use native.Mathlib.Omega.{arith}
-use mathlib.Core.Path.{_≡_, refl, sym, _∙_}
+use Prim.Native.Nat.{ℕ, _+_}
+use mathlib.Core.Path.{_≡_, refl, _∙_}
 use mathlib.Core.Logic.{_⊎_, inl, inr, ⊎-elim}
-use mathlib.Core.Bool.{Bool, true, false, _&&_, _||_, false≢true}
-use mathlib.Core.List.{List, [], _∷_}
+use mathlib.Core.Bool.{Bool, true, _&&_, _||_, false≢true}
+use mathlib.Core.List.{List, _∷_}
 use lib.Dec.{eqb}
 use borrow.Author.Tests.{eqb-true, eq-eqb}
 use Rattle.stateset.proofs.Some.{or-cases, or-left, or-right, and-both, and-fst, and-snd}
@@ -13,11 +12,7 @@ use Rattle.pattern.specs.Sets.{setOf}
 use Rattle.pattern.specs.States.{nothing, first, last, follow, holds}
 use Rattle.pattern.proofs.Leaves.{Leaves, plus-star, star-cases}
 use Rattle.pattern.proofs.Leaves.Leaves.{key, after, inside, left, right, never, again, once, more, absent, present}
-
--- one of the n numbers from b on
-pub record Within (b n k : ℕ) : Type 0 where
-  pub low : b ≤ k
-  pub high : k < b + n
+use Rattle.pattern.proofs.Numbering.{Within, apart, of-either, one-within, first-within, holds-within, follow-within}
 
 -- A and then B
 pub record Then (A B : List ℕ → Type 0) : Type 0 where
@@ -35,86 +30,7 @@ Cont b (opt e) k w v = Cont b e k w v
 Cont b (seq p q) k w v = Then (λ x. Cont b p k w x) (λ x. Leaves q x v) ⊎ Cont (b + atoms p) q k w v
 Cont b (alt p q) k w v = Cont b p k w v ⊎ Cont (b + atoms p) q k w v
 
--- no number is in both of two parts
-pub apart : (b n m k : ℕ) → Within b n k → Within (b + n) m k → ⊥
-apart b n m k g h = omega arith
-
--- a number of either of two parts is one of the whole
-of-either : {b k : ℕ} (n m : ℕ) → Within b n k ⊎ Within (b + n) m k → Within b (n + m) k
-of-either n m (inl h) = record { low = h .low; high = omega arith }
-of-either n m (inr h) = record { low = omega arith; high = omega arith }
-
--- so is one of which a test of either part is true
-of-tests : {b k : ℕ} (n m : ℕ) (x y : Bool) → (x || y) ≡ true → (x ≡ true → Within b n k) → (y ≡ true → Within (b + n) m k) → Within b (n + m) k
-of-tests n m x y h f g = of-either n m (⊎-elim (λ i. inl (f i)) (λ i. inr (g i)) (or-cases x y h))
-
--- the numbers of which each test can be true
-one-within : {b k : ℕ} → b ≡ k → Within b 1 k
-one-within s = record { low = omega arith; high = omega arith }
-
-pub first-within : (b : ℕ) (e : Expr) (k : ℕ) → first b e k ≡ true → Within b (atoms e) k
-unfolding first atoms
-first-within b (atom a) k h = one-within (eqb-true b k h)
-first-within b (group e) k h = first-within b e k h
-first-within b (star e) k h = first-within b e k h
-first-within b (plus e) k h = first-within b e k h
-first-within b (opt e) k h = first-within b e k h
-first-within b (seq p q) k h =
-    of-tests (atoms p) (atoms q) (first b p k) (nothing p && first (b + atoms p) q k) h
-    (λ i. first-within b p k i)
-    (λ i. first-within (b + atoms p) q k (and-snd (nothing p) (first (b + atoms p) q k) i))
-first-within b (alt p q) k h =
-    of-tests (atoms p) (atoms q) (first b p k) (first (b + atoms p) q k) h (λ i. first-within b p k i) (λ i. first-within (b + atoms p) q k i)
-
-pub last-within : (b : ℕ) (e : Expr) (k : ℕ) → last b e k ≡ true → Within b (atoms e) k
-unfolding last atoms
-last-within b (atom a) k h = one-within (eqb-true b k h)
-last-within b (group e) k h = last-within b e k h
-last-within b (star e) k h = last-within b e k h
-last-within b (plus e) k h = last-within b e k h
-last-within b (opt e) k h = last-within b e k h
-last-within b (seq p q) k h =
-    of-tests (atoms p) (atoms q) (nothing q && last b p k) (last (b + atoms p) q k) h
-    (λ i. last-within b p k (and-snd (nothing q) (last b p k) i))
-    (λ i. last-within (b + atoms p) q k i)
-last-within b (alt p q) k h =
-    of-tests (atoms p) (atoms q) (last b p k) (last (b + atoms p) q k) h (λ i. last-within b p k i) (λ i. last-within (b + atoms p) q k i)
-
-pub holds-within : (b : ℕ) (e : Expr) (k c : ℕ) → holds b e k c ≡ true → Within b (atoms e) k
-unfolding holds atoms
-holds-within b (atom a) k c h = one-within (eqb-true b k (and-fst (eqb b k) (setOf a c) h))
-holds-within b (group e) k c h = holds-within b e k c h
-holds-within b (star e) k c h = holds-within b e k c h
-holds-within b (plus e) k c h = holds-within b e k c h
-holds-within b (opt e) k c h = holds-within b e k c h
-holds-within b (seq p q) k c h =
-    of-tests (atoms p) (atoms q) (holds b p k c) (holds (b + atoms p) q k c) h (λ i. holds-within b p k c i) (λ i. holds-within (b + atoms p) q k c i)
-holds-within b (alt p q) k c h =
-    of-tests (atoms p) (atoms q) (holds b p k c) (holds (b + atoms p) q k c) h (λ i. holds-within b p k c i) (λ i. holds-within (b + atoms p) q k c i)
-
--- of a repeated expression
-again-within : (b : ℕ) (e : Expr) (k j : ℕ) → (follow b e k j ≡ true → Within b (atoms e) j) → (follow b e k j || (last b e k && first b e j)) ≡ true → Within b (atoms e) j
-again-within b e k j f h =
-    ⊎-elim f (λ i. first-within b e j (and-snd (last b e k) (first b e j) i)) (or-cases (follow b e k j) (last b e k && first b e j) h)
-
-pub follow-within : (b : ℕ) (e : Expr) (k j : ℕ) → follow b e k j ≡ true → Within b (atoms e) j
-unfolding follow atoms
-follow-within b (atom a) k j h = absurd (false≢true h)
-follow-within b (group e) k j h = follow-within b e k j h
-follow-within b (star e) k j h = again-within b e k j (λ i. follow-within b e k j i) h
-follow-within b (plus e) k j h = again-within b e k j (λ i. follow-within b e k j i) h
-follow-within b (opt e) k j h = follow-within b e k j h
-follow-within b (seq p q) k j h =
-    of-tests (atoms p) (atoms q) (follow b p k j) (follow (b + atoms p) q k j || (last b p k && first (b + atoms p) q j)) h
-    (λ i. follow-within b p k j i)
-    (λ i.
-    ⊎-elim
-    (λ i. follow-within (b + atoms p) q k j i)
-    (λ i. first-within (b + atoms p) q j (and-snd (last b p k) (first (b + atoms p) q j) i))
-    (or-cases (follow (b + atoms p) q k j) (last b p k && first (b + atoms p) q j) i))
-follow-within b (alt p q) k j h =
-    of-tests (atoms p) (atoms q) (follow b p k j) (follow (b + atoms p) q k j) h (λ i. follow-within b p k j i) (λ i. follow-within (b + atoms p) q k j i)
-
+-- an atom after which something is to come is one of the expression
 pub cont-within : (b : ℕ) (e : Expr) (k : ℕ) (w v : List ℕ) → Cont b e k w v → Within b (atoms e) k
 unfolding atoms
 cont-within b (atom a) k w v (s, t) = one-within s

@@ -2,6 +2,14 @@
 pub mod Examples
 pub mod Leaves
 pub mod Meaning
+pub mod Numbering
+pub mod Continuations
+pub mod SomeBranch
+pub mod BranchStates
+pub mod AcceptedLines
+pub mod Leading
+pub mod Tabled
+pub mod Lookups
 pub mod Tables
 pub mod Entries
 pub mod Parses

@@ -3,31 +3,19 @@ use Prim.Native.Nat.{ℕ, zero, suc, _<_}
 use native.Mathlib.Omega.{arith}
 use mathlib.Core.Path.{_≡_, refl, sym, ap, _∙_}
 use mathlib.Core.Logic.{_⊎_, inl, inr, ⊎-elim, _↔_}
-use mathlib.Core.Bool.{Bool, true, false, _&&_, _||_, cond, or-true, and-eq-true-iff, false≢true}
+use mathlib.Core.Bool.{Bool, true, false, _&&_, _||_, cond, and-eq-true-iff, false≢true}
 use mathlib.Core.List.{List, [], _∷_, _++_}
 use mathlib.Core.Option.{Option, none, some}
 use lib.Dec.{ltb}
 use lib.ListN.{length}
 use borrow.Author.Tests.{ltb-true, ltb-false}
+use Rattle.stateset.proofs.Some.{or-cases, or-left, or-right}
 use Rattle.pattern.specs.Form.{Expr, atom, group, star, plus, opt, seq, alt, Branch, Pattern}
 use Rattle.pattern.specs.Sets.{setOf}
 use Rattle.pattern.specs.Meaning.{TakesPieces, MatchesBranch, Matches, repeated, takes, takesPieces, allowed, matchesFrom, matchesBranch, matches}
 use Rattle.pattern.specs.Meaning.Matches.{here, later}
 use Rattle.pattern.proofs.Leaves.{Leaves, leaves-takes, takes-leaves, leaves-same, plus-star, star-cases}
 use Rattle.pattern.proofs.Leaves.Leaves.{key, after, inside, left, right, never, once, more, absent, present}
-
--- a true `||` has a true side
-or-cases : (a b : Bool) → (a || b) ≡ true → (a ≡ true) ⊎ (b ≡ true)
-or-cases true b h = inl refl
-or-cases false b h = inr h
-
--- a true side makes a true `||`
-or-left : (a b : Bool) → a ≡ true → (a || b) ≡ true
-or-left a b h = rw h
-
--- on either side
-or-right : (a b : Bool) → b ≡ true → (a || b) ≡ true
-or-right a b h = rw h (or-true a)
 
 -- e takes a first part of w, and what is left will do
 pub record Does (e : Expr) (rest : List ℕ → Bool) (w : List ℕ) : Type 0 where

@@ -8,7 +8,8 @@ use mathlib.Core.List.{List, [], _∷_}
 use Rattle.stateset.proofs.Some.{or-cases, or-left, or-right}
 use Rattle.pattern.specs.Form.{Branch, Pattern, atomsIn, atomCount}
 use Rattle.pattern.specs.States.{someBranch}
-use Rattle.pattern.proofs.Continuations.{Within, apart, Step, lifted}
+use Rattle.pattern.proofs.Numbering.{Within, apart}
+use Rattle.pattern.proofs.Continuations.{Step, lifted}
 
 -- some branch, whose atoms have the numbers from b on, has P
 abbrev pub Some : (ℕ → Branch → Type 0) → ℕ → Pattern → Type 0

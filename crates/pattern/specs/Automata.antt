@@ -1,5 +1,5 @@
 -- What reading a pattern yields, by the definitions on its tree: the tables of its automaton, or a refusal.
-use Prim.Native.Nat.{ℕ, zero, suc}
+use Prim.Native.Nat.{ℕ}
 use mathlib.Core.Path.{_≡_}
 use mathlib.Core.Bool.{Bool, false}
 use mathlib.Core.List.{List}
@@ -10,15 +10,8 @@ use Rattle.pattern.specs.declared.automaton.Verdict.{Verdict}
 use Rattle.pattern.specs.declared.summary.Summary.{Summary}
 use Rattle.pattern.specs.Form.{Pattern, atomCount}
 use Rattle.pattern.specs.Reader.{Read, accepted, refused}
-use Rattle.pattern.specs.States.{firstInBranch, firstInFree, endsFree, endsAnchored, follows, holdsKey, emptyBranch, emptyFree, atomWord, tabled}
-
--- atom j can be entered from a state: from line-start 0 what can come first, from mid-line 1 what can come first in a branch that
--- has no `^`, from found 2 nothing, from atom k what can follow it
-unfoldable pub enters : Pattern → ℕ → ℕ → Bool
-enters t zero j = firstInBranch t j
-enters t (suc zero) j = firstInFree t j
-enters t (suc (suc zero)) j = false
-enters t (suc (suc (suc k))) j = follows t k j
+use Rattle.pattern.specs.States.{endsFree, endsAnchored, holdsKey, emptyBranch, emptyFree, atomWord, tabled}
+use Rattle.pattern.specs.Moves.{enters}
 
 -- for each key, the atoms whose set has it; for each state, the atoms that it may enter
 unfoldable pub keyTable : Pattern → List ℕ

@@ -1,9 +1,10 @@
--- The patterns of document 01: form, sets, meaning, reader, states and tables; and what private functions promise each other.
+-- The patterns of document 01: form, sets, meaning, reader, states, moves and tables; and what private functions promise each other.
 pub mod Form
 pub mod Sets
 pub mod Meaning
 pub mod Reader
 pub mod States
+pub mod Moves
 pub mod Tables
 pub mod Cycle
 pub mod Branches

@@ -1,0 +1,91 @@
+-- Laws of what leads where: one run of keys after another.
+use Prim.Native.Nat.{ℕ, _<_}
+use native.Mathlib.Omega.{arith}
+use mathlib.Core.Path.{_≡_, refl, sym, ap, _∙_}
+use mathlib.Core.Bool.{Bool, true, _&&_}
+use mathlib.Core.List.{List, [], _∷_, _++_}
+use lib.Dec.{eqb}
+use borrow.Author.Tests.{eqb-true, eq-eqb}
+use Rattle.stateset.specs.Set.{anyBelow}
+use Rattle.stateset.proofs.Some.{and-both, and-fst, and-snd, tests-ext, any-some, any-witness, any-ext}
+use Rattle.pattern.specs.Form.{Pattern}
+use Rattle.pattern.specs.Moves.{states, move, accepting, leads, acceptedFrom}
+use Rattle.pattern.proofs.AcceptedLines.{move-below}
+
+module _ (n : ℕ) (X : ℕ → Bool) (Y : ℕ → ℕ → Bool) (Z : ℕ → Bool) where
+  -- one may go through some state to another and on from there, or to some state from which one may go on
+  pub any-through : anyBelow n (λ r. X r && anyBelow n (λ p. Y r p && Z p)) ≡ anyBelow n (λ p. anyBelow n (λ r. X r && Y r p) && Z p)
+  any-through = tests-ext _ _ forth back
+    where
+      forth : anyBelow n (λ r. X r && anyBelow n (λ p. Y r p && Z p)) ≡ true → anyBelow n (λ p. anyBelow n (λ r. X r && Y r p) && Z p) ≡ true
+      forth h =
+          let u = any-witness n (λ r. X r && anyBelow n (λ p. Y r p && Z p)) h in
+          let r = u .which in
+          let v = any-witness n (λ p. Y r p && Z p) (and-snd (X r) (anyBelow n (λ p. Y r p && Z p)) (u .has)) in
+          let p = v .which in
+          any-some n p (λ p. anyBelow n (λ r. X r && Y r p) && Z p) (v .below)
+          (and-both (anyBelow n (λ r. X r && Y r p)) (Z p)
+          (any-some n r (λ r. X r && Y r p) (u .below) (and-both (X r) (Y r p) (and-fst (X r) (anyBelow n (λ p. Y r p && Z p)) (u .has)) (and-fst (Y r p) (Z p) (v .has))))
+          (and-snd (Y r p) (Z p) (v .has)))
+
+      back : anyBelow n (λ p. anyBelow n (λ r. X r && Y r p) && Z p) ≡ true → anyBelow n (λ r. X r && anyBelow n (λ p. Y r p && Z p)) ≡ true
+      back h =
+          let u = any-witness n (λ p. anyBelow n (λ r. X r && Y r p) && Z p) h in
+          let p = u .which in
+          let v = any-witness n (λ r. X r && Y r p) (and-fst (anyBelow n (λ r. X r && Y r p)) (Z p) (u .has)) in
+          let r = v .which in
+          any-some n r (λ r. X r && anyBelow n (λ p. Y r p && Z p)) (v .below)
+          (and-both (X r) (anyBelow n (λ p. Y r p && Z p)) (and-fst (X r) (Y r p) (v .has))
+          (any-some n p (λ p. Y r p && Z p) (u .below) (and-both (Y r p) (Z p) (and-snd (X r) (Y r p) (v .has)) (and-snd (anyBelow n (λ r. X r && Y r p)) (Z p) (u .has)))))
+
+-- a test of one state
+pub any-at : (n q : ℕ) (Z : ℕ → Bool) → q < n → anyBelow n (λ p. eqb q p && Z p) ≡ Z q
+any-at n q Z h = tests-ext _ _ forth (λ z. any-some n q (λ p. eqb q p && Z p) h (and-both (eqb q q) (Z q) (eq-eqb q q refl) z))
+  where
+    forth : anyBelow n (λ p. eqb q p && Z p) ≡ true → Z q ≡ true
+    forth h =
+        let w = any-witness n (λ p. eqb q p && Z p) h in
+        let p = w .which in
+        rw (eqb-true q p (and-fst (eqb q p) (Z p) (w .has))) (and-snd (eqb q p) (Z p) (w .has))
+
+module _ (t : Pattern) where
+  -- keys lead through a state between
+  pub leads-append : (u v : List ℕ) (q p : ℕ) → q < states t → leads t q (u ++ v) p ≡ anyBelow (states t) (λ r. leads t q u r && leads t r v p)
+  unfolding leads
+  leads-append [] v q p h = sym (any-at (states t) q (λ r. leads t r v p) h)
+  leads-append (c ∷ u) v q p h =
+      any-ext (states t) (λ r. move t q c r && leads t r (u ++ v) p) (λ r. move t q c r && anyBelow (states t) (λ x. leads t r u x && leads t x v p))
+      (λ r l. ap (λ (b : Bool). move t q c r && b) (leads-append u v r p l))
+      ∙ any-through (states t) (move t q c) (λ r x. leads t r u x) (λ x. leads t x v p)
+
+  -- and to an accepting state
+  pub accepted-append : (u v : List ℕ) (q : ℕ) → q < states t → acceptedFrom t q (u ++ v) ≡ anyBelow (states t) (λ r. leads t q u r && acceptedFrom t r v)
+  unfolding acceptedFrom
+  accepted-append u v q h =
+      any-ext (states t) (λ p. leads t q (u ++ v) p && accepting t p) (λ p. anyBelow (states t) (λ r. leads t q u r && leads t r v p) && accepting t p)
+      (λ p l. ap (λ (b : Bool). b && accepting t p) (leads-append u v q p h))
+      ∙ sym (any-through (states t) (leads t q u) (λ r p. leads t r v p) (accepting t))
+
+  -- one key leads as it moves
+  pub leads-one : (c q p : ℕ) → leads t q (c ∷ []) p ≡ move t q c p
+  unfolding leads
+  leads-one c q p = tests-ext _ _ forth back
+    where
+      forth : anyBelow (states t) (λ r. move t q c r && eqb r p) ≡ true → move t q c p ≡ true
+      forth h =
+          let w = any-witness (states t) (λ r. move t q c r && eqb r p) h in
+          let r = w .which in
+          let e : r ≡ p = eqb-true r p (and-snd (move t q c r) (eqb r p) (w .has)) in
+          rw e at (and-fst (move t q c r) (eqb r p) (w .has))
+
+      back : move t q c p ≡ true → anyBelow (states t) (λ r. move t q c r && eqb r p) ≡ true
+      back h = any-some (states t) p (λ r. move t q c r && eqb r p) (move-below t q c p h) (and-both (move t q c p) (eqb p p) h (eq-eqb p p refl))
+
+  -- a state of the pattern leads to one
+  pub leads-below : (w : List ℕ) (q p : ℕ) → q < states t → leads t q w p ≡ true → p < states t
+  unfolding leads
+  leads-below [] q p h l = let e : q ≡ p = eqb-true q p l in omega arith
+  leads-below (c ∷ w) q p h l =
+      let n = any-witness (states t) (λ r. move t q c r && leads t r w p) l in
+      let r = n .which in
+      leads-below w r p (n .below) (and-snd (move t q c r) (leads t r w p) (n .has))
