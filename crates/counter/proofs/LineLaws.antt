@@ -1,0 +1,40 @@
+-- Laws of the lines of a run.
+use Prim.Native.Nat.{ℕ, _+_}
+use native.Mathlib.Nat.{add-zero}
+use mathlib.Core.Path.{_≡_, refl, sym, ap, _∙_}
+use mathlib.Core.Bool.{Bool, true, false, not, cond, _&&_, _||_, false≢true}
+use mathlib.Core.List.{List, [], _∷_, _++_}
+use lib.Dec.{eqb}
+use Rattle.stateset.proofs.Some.{torn, or-left, or-right}
+use Rattle.pattern.specs.Form.{Pattern, member}
+use Rattle.pattern.specs.Meaning.{matches}
+use Rattle.counter.specs.Lines.{lineEnd, onto, lines, countIn, matching}
+
+-- a list with a byte in front
+pub member-first : (k b : ℕ) (l : List ℕ) → member k (b ∷ l) ≡ false → eqb k b ≡ false
+unfolding member
+member-first k b l h = go (eqb k b) h
+  where
+    go : (x : Bool) → (x || member k l) ≡ false → x ≡ false
+    go true e = e
+    go false e = refl
+
+pub member-rest : (k b : ℕ) (l : List ℕ) → member k (b ∷ l) ≡ false → member k l ≡ false
+unfolding member
+member-rest k b l h = go (eqb k b) h
+  where
+    go : (x : Bool) → (x || member k l) ≡ false → member k l ≡ false
+    go true e = absurd (false≢true (sym e))
+    go false e = e
+
+-- a line end closes the keys before it
+pub lines-closed : (l w : List ℕ) → member lineEnd l ≡ false → lines (l ++ (lineEnd ∷ w)) ≡ l ∷ lines w
+unfolding lines
+lines-closed [] w h = refl
+lines-closed (c ∷ l) w h = ?
+
+-- keys with no line end are one line
+pub lines-open : (c : ℕ) (l : List ℕ) → member lineEnd (c ∷ l) ≡ false → lines (c ∷ l) ≡ (c ∷ l) ∷ []
+unfolding lines
+lines-open c [] h = ?
+lines-open c (d ∷ l) h = ?

@@ -1,0 +1,45 @@
+-- What each operation of the counter answers.
+use Prim.Native.Nat.{ℕ}
+use mathlib.Core.Bool.{cond, _||_}
+use mathlib.Core.List.{List}
+use Rattle.refusal.specs.declared.Refusal.{Refusal}
+use Rattle.refusal.specs.declared.Refusal.the-variants.{InvalidKey}
+use Rattle.refusal.specs.Number.{number}
+use Rattle.pattern.specs.Form.{member}
+use Rattle.pattern.specs.Meaning.{matches}
+use Rattle.pattern.specs.Reader.{Read, accepted, refused}
+use Rattle.counter.specs.declared.line.LineTest.{LineTest}
+use Rattle.counter.specs.declared.run.RunCount.{RunCount}
+use Rattle.counter.specs.Lines.{lineEnd, matching}
+
+-- The paper's figures for an answer: the refusal's number, 0 if there is none, and the one value. "A refusal's other numbers are 0"
+pub record Figures : Type 0 where
+  pub refusal : ℕ
+  pub value : ℕ
+
+abbrev pub answered : ℕ → Figures
+answered n = record { refusal = 0; value = n }
+
+abbrev pub refusedFor : Refusal → Figures
+refusedFor r = record { refusal = number r; value = 0 }
+
+-- the one-line test: 1 if the line matches, or 0
+abbrev pub lineFigures : LineTest → Figures
+lineFigures LineTest.Matches = answered 1
+lineFigures LineTest.NoMatch = answered 0
+lineFigures (LineTest.Refused r) = refusedFor r
+
+-- the count over a plain run: how many lines match
+abbrev pub runFigures : RunCount → Figures
+runFigures (RunCount.Lines n) = answered n
+runFigures (RunCount.Refused r) = refusedFor r
+
+-- "Plain runs and single lines are tested after the pattern": then 5 for a "byte 0 or 10 in the one-line test"
+unfoldable pub lineResult : Read → List ℕ → Figures
+lineResult (refused r) w = refusedFor r
+lineResult (accepted t) w = cond (member 0 w || member lineEnd w) (refusedFor InvalidKey) (answered (cond (matches t w) 1 0))
+
+-- and for a "byte 0 in a plain run"
+unfoldable pub runResult : Read → List ℕ → Figures
+runResult (refused r) w = refusedFor r
+runResult (accepted t) w = cond (member 0 w) (refusedFor InvalidKey) (answered (matching t w))

@@ -1,0 +1,4 @@
+-- The counter: lines, answers, and what private functions promise each other.
+pub mod Lines
+pub mod Answers
+pub mod Steps

@@ -1,0 +1,8 @@
+// The one-line test.
+use refusal::Refusal;
+
+pub enum LineTest {
+    Matches,
+    NoMatch,
+    Refused(Refusal),
+}

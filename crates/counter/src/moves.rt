@@ -1,0 +1,51 @@
+// The moves of a set of states, by look-up (document 01, "States and steps").
+use pattern::Accepting;
+use pattern::State;
+use stateset::both;
+use stateset::chosen;
+use stateset::image;
+use stateset::meets;
+use stateset::union;
+ghost use mathlib.Core.Path.{_≡_};
+ghost use mathlib.Core.Bool.{true};
+ghost use Rattle.pattern.specs.Form.{Pattern};
+ghost use Rattle.pattern.specs.Sets.{lineKey};
+ghost use Rattle.pattern.specs.Automata.{accepts};
+ghost use Rattle.counter.specs.Steps.{Automaton, closingOf, moved};
+
+// The sets of the fixed states.
+pub(crate) const LINE_START: u64 = 1 << State::LINE_START.0;
+
+const MID_LINE: u64 = 1 << State::MID_LINE.0;
+
+const FOUND: u64 = 1 << State::FOUND.0;
+
+// What says that a line is found to match.
+pub(crate) struct Closing {
+    // The states that every key leads to found.
+    always: u64,
+    // The atoms whose entering also enters found.
+    ends: u64,
+    // The states that accept at a line's end.
+    pub(crate) accepting: u64,
+}
+
+pub(crate) fn closing(a: Accepting) -> Closing
+    ensures { λ r. ⌜ (t : Pattern) → a ≡ accepts t → r ≡ closingOf t ⌝ }
+{
+    Closing {
+        always: union(FOUND, chosen(a.jump, LINE_START)),
+        ends: a.ends,
+        accepting: union(union(FOUND, chosen(a.empty, LINE_START)), a.anchored),
+    }
+}
+
+// The states that a key which is no line end leads to.
+pub(crate) fn advance(set: u64, key: u8, keys: &[u64; 256], enter: &[u64; 32], c: Closing) -> u64
+    ensures { λ r. ⌜ (t : Pattern) → Automaton t (now (keys .entry)) (now (enter .entry)) c → lineKey key ≡ true → r ≡ moved t set key ⌝ }
+{
+    let atoms = both(image(enter, set), keys[key as usize]);
+    let mid = chosen(meets(set, LINE_START | MID_LINE), MID_LINE);
+    let found = union(chosen(meets(set, c.always), FOUND), chosen(meets(atoms, c.ends), FOUND));
+    union(union(atoms, mid), found)
+}
