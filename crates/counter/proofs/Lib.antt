@@ -1,3 +1,3 @@
 -- Laws of the counter's definitions, which the proofs of functions cite.
 pub mod LineLaws
-pub mod Moving
+pub mod Reaching

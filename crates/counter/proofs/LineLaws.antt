@@ -8,7 +8,8 @@ use lib.Dec.{eqb}
 use Rattle.stateset.proofs.Some.{torn, or-left, or-right}
 use Rattle.pattern.specs.Form.{Pattern, member}
 use Rattle.pattern.specs.Meaning.{matches}
-use Rattle.counter.specs.Lines.{lineEnd, onto, lines, countIn, matching}
+use Rattle.counter.specs.Lines.{lineEnd, lines, countIn, matching}
+use Rattle.counter.specs.Steps.{isOpen}
 
 -- a list with a byte in front
 pub member-first : (k b : ℕ) (l : List ℕ) → member k (b ∷ l) ≡ false → eqb k b ≡ false
@@ -31,10 +32,20 @@ member-rest k b l h = go (eqb k b) h
 pub lines-closed : (l w : List ℕ) → member lineEnd l ≡ false → lines (l ++ (lineEnd ∷ w)) ≡ l ∷ lines w
 unfolding lines
 lines-closed [] w h = refl
-lines-closed (c ∷ l) w h = ?
+lines-closed (c ∷ l) w h = rw (member-first lineEnd c l h, lines-closed l w (member-rest lineEnd c l h)) refl
 
 -- keys with no line end are one line
 pub lines-open : (c : ℕ) (l : List ℕ) → member lineEnd (c ∷ l) ≡ false → lines (c ∷ l) ≡ (c ∷ l) ∷ []
 unfolding lines
-lines-open c [] h = ?
-lines-open c (d ∷ l) h = ?
+lines-open c [] h = rw (member-first lineEnd c [] h) refl
+lines-open c (d ∷ l) h = rw (member-first lineEnd c (d ∷ l) h, lines-open d l (member-rest lineEnd c (d ∷ l) h)) refl
+
+-- so the matching lines are that of the first line, and those behind its end
+pub matching-closed : (t : Pattern) (l w : List ℕ) → member lineEnd l ≡ false → matching t (l ++ (lineEnd ∷ w)) ≡ cond (matches t l) 1 0 + matching t w
+unfolding matching countIn
+matching-closed t l w h = rw (lines-closed l w h) refl
+
+pub matching-open : (t : Pattern) (l : List ℕ) → member lineEnd l ≡ false → matching t l ≡ cond (isOpen l && matches t l) 1 0
+unfolding matching countIn lines
+matching-open t [] h = refl
+matching-open t (c ∷ l) h = rw (lines-open c l h) (add-zero (cond (matches t (c ∷ l)) 1 0))

@@ -18,7 +18,7 @@ onto c (l ∷ ls) = (c ∷ l) ∷ ls
 -- "Every LF closes a line, empty or not; keys after the last LF form one more line if there is at least one."
 unfoldable pub lines : List ℕ → List (List ℕ)
 lines [] = []
-lines (c ∷ w) = cond (eqb c lineEnd) ([] ∷ lines w) (onto c (lines w))
+lines (c ∷ w) = cond (eqb lineEnd c) ([] ∷ lines w) (onto c (lines w))
 
 -- how many of some lines have X
 unfoldable pub countIn : (List ℕ → Bool) → List (List ℕ) → ℕ

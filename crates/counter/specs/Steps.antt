@@ -1,14 +1,23 @@
 -- What private functions promise each other; no public contract cites these.
-use Prim.Native.Nat.{ℕ, _≤_}
+use Prim.Native.Nat.{ℕ, _+_, _≤_}
 use mathlib.Core.Path.{_≡_}
-use mathlib.Core.Bool.{Bool, _&&_, _||_}
-use mathlib.Core.List.{List}
+use mathlib.Core.Bool.{Bool, true, false, cond, _&&_, _||_}
+use mathlib.Core.List.{List, [], _∷_, _++_}
 use lib.Dec.{eqb}
 use Rattle.stateset.specs.Set.{bit, word, anyBelow}
 use Rattle.pattern.specs.Form.{Pattern, atomCount}
+use Rattle.pattern.specs.Sets.{lineKey, isLine}
+use Rattle.pattern.specs.Meaning.{matches}
+use Rattle.pattern.specs.Reader.{accepted}
+use Rattle.pattern.specs.declared.automaton.Accepting.{Accepting}
 use Rattle.pattern.specs.States.{endsFree, atomWord}
 use Rattle.pattern.specs.Moves.{jumps, move, accepting, leads}
-use Rattle.pattern.specs.Automata.{keyTable, enterTable}
+use Rattle.pattern.specs.Automata.{keyTable, enterTable, accepts}
+use Rattle.counter.specs.declared.line.LineTest.{LineTest}
+use Rattle.counter.specs.declared.run.RunCount.{RunCount}
+use Rattle.counter.specs.declared.run.Tally.{Tally}
+use Rattle.counter.specs.Lines.{lineEnd}
+use Rattle.counter.specs.Answers.{lineFigures, runFigures, lineResult, runResult}
 use Rattle.counter.specs.declared.moves.Closing.{Closing}
 
 -- the words of a pattern that say when a line is found to match
@@ -26,6 +35,37 @@ pub record Automaton (t : Pattern) (keys enter : List ℕ) (c : Closing) : Type 
 unfoldable pub moved : Pattern → ℕ → ℕ → ℕ
 moved t x c = word 32 (λ p. anyBelow 32 (λ q. bit x q && move t q c p))
 
+-- the words that a pattern's summary comes to
+abbrev pub Closes : Accepting → Closing → Type 0
+Closes a c = (t : Pattern) → a ≡ accepts t → c ≡ closingOf t
+
+-- a set of states moves on a key of a line
+abbrev pub Advances : List ℕ → List ℕ → Closing → ℕ → ℕ → ℕ → Type 0
+Advances keys enter c x k y = (t : Pattern) → Automaton t keys enter c → lineKey k ≡ true → y ≡ moved t x k
+
 -- the states that the keys of w lead to from line-start
 unfoldable pub reached : Pattern → List ℕ → ℕ
 reached t w = word 32 (leads t 0 w)
+
+-- whether a line has a key
+abbrev pub isOpen : List ℕ → Bool
+isOpen [] = false
+isOpen (c ∷ w) = true
+
+-- a line's test
+abbrev pub TestsLine : List ℕ → List ℕ → Closing → List ℕ → LineTest → Type 0
+TestsLine keys enter c w r = (t : Pattern) → Automaton t keys enter c → lineFigures r ≡ lineResult (accepted t) w
+
+-- a run's count
+abbrev pub CountsRun : List ℕ → List ℕ → Closing → List ℕ → RunCount → Type 0
+CountsRun keys enter c w r = (t : Pattern) → Automaton t keys enter c → runFigures r ≡ runResult (accepted t) w
+
+-- the tally of a run, where w are the keys of its last line so far, after one more key
+unfoldable pub tallyAfter : Pattern → List ℕ → Tally → ℕ → Tally
+tallyAfter t w a k =
+    cond (eqb k lineEnd)
+    (record { set = reached t []; open = false; lines = a .lines + cond (matches t w) 1 0 })
+    (record { set = reached t (w ++ (k ∷ [])); open = true; lines = a .lines })
+
+abbrev pub Tallies : List ℕ → List ℕ → Closing → Tally → ℕ → Tally → Type 0
+Tallies keys enter c a k b = (t : Pattern) → Automaton t keys enter c → (w : List ℕ) → isLine w ≡ true → a .set ≡ reached t w → eqb k 0 ≡ false → b ≡ tallyAfter t w a k

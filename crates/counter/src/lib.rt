@@ -4,4 +4,6 @@ mod moves;
 mod run;
 
 pub use line::LineTest;
+pub use line::test_line;
 pub use run::RunCount;
+pub use run::count_run;

@@ -6,12 +6,7 @@ use stateset::chosen;
 use stateset::image;
 use stateset::meets;
 use stateset::union;
-ghost use mathlib.Core.Path.{_≡_};
-ghost use mathlib.Core.Bool.{true};
-ghost use Rattle.pattern.specs.Form.{Pattern};
-ghost use Rattle.pattern.specs.Sets.{lineKey};
-ghost use Rattle.pattern.specs.Automata.{accepts};
-ghost use Rattle.counter.specs.Steps.{Automaton, closingOf, moved};
+ghost use Rattle.counter.specs.Steps.{Advances, Closes};
 
 // The sets of the fixed states.
 pub(crate) const LINE_START: u64 = 1 << State::LINE_START.0;
@@ -30,8 +25,8 @@ pub(crate) struct Closing {
     pub(crate) accepting: u64,
 }
 
-pub(crate) fn closing(a: Accepting) -> Closing
-    ensures { λ r. ⌜ (t : Pattern) → a ≡ accepts t → r ≡ closingOf t ⌝ }
+pub(crate) fn closing_of(a: Accepting) -> Closing
+    ensures { λ r. ⌜ Closes a r ⌝ }
 {
     Closing {
         always: union(FOUND, chosen(a.jump, LINE_START)),
@@ -42,7 +37,7 @@ pub(crate) fn closing(a: Accepting) -> Closing
 
 // The states that a key which is no line end leads to.
 pub(crate) fn advance(set: u64, key: u8, keys: &[u64; 256], enter: &[u64; 32], c: Closing) -> u64
-    ensures { λ r. ⌜ (t : Pattern) → Automaton t (now (keys .entry)) (now (enter .entry)) c → lineKey key ≡ true → r ≡ moved t set key ⌝ }
+    ensures { λ r. ⌜ Advances (now (keys .entry)) (now (enter .entry)) c set key r ⌝ }
 {
     let atoms = both(image(enter, set), keys[key as usize]);
     let mid = chosen(meets(set, LINE_START | MID_LINE), MID_LINE);

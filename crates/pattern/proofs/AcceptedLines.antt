@@ -272,7 +272,7 @@ module _ (t : Pattern) where
   end-accepts (suc (suc (suc k))) h = end-lives t k h
 
   -- an atom of the pattern
-  holds-below : (k c : ℕ) → holdsKey t k c ≡ true → k < atomCount t
+  pub holds-below : (k c : ℕ) → holdsKey t k c ≡ true → k < atomCount t
   holds-below k c h =
       let w = some-within k (λ b r. holdsOf b r k c ≡ true) (holds-tells k c) 0 t (some-true (λ b r. holdsOf b r k c) 0 t h) in
       omega arith

@@ -7,46 +7,10 @@ use mathlib.Core.List.{List, [], _∷_, _++_}
 use lib.Dec.{eqb}
 use borrow.Author.Tests.{eqb-true, eq-eqb}
 use Rattle.stateset.specs.Set.{anyBelow}
-use Rattle.stateset.proofs.Some.{and-both, and-fst, and-snd, tests-ext, any-some, any-witness, any-ext}
+use Rattle.stateset.proofs.Some.{and-both, and-fst, and-snd, tests-ext, any-some, any-witness, any-ext, any-through, any-at}
 use Rattle.pattern.specs.Form.{Pattern}
 use Rattle.pattern.specs.Moves.{states, move, accepting, leads, acceptedFrom}
 use Rattle.pattern.proofs.AcceptedLines.{move-below}
-
-module _ (n : ℕ) (X : ℕ → Bool) (Y : ℕ → ℕ → Bool) (Z : ℕ → Bool) where
-  -- one may go through some state to another and on from there, or to some state from which one may go on
-  pub any-through : anyBelow n (λ r. X r && anyBelow n (λ p. Y r p && Z p)) ≡ anyBelow n (λ p. anyBelow n (λ r. X r && Y r p) && Z p)
-  any-through = tests-ext _ _ forth back
-    where
-      forth : anyBelow n (λ r. X r && anyBelow n (λ p. Y r p && Z p)) ≡ true → anyBelow n (λ p. anyBelow n (λ r. X r && Y r p) && Z p) ≡ true
-      forth h =
-          let u = any-witness n (λ r. X r && anyBelow n (λ p. Y r p && Z p)) h in
-          let r = u .which in
-          let v = any-witness n (λ p. Y r p && Z p) (and-snd (X r) (anyBelow n (λ p. Y r p && Z p)) (u .has)) in
-          let p = v .which in
-          any-some n p (λ p. anyBelow n (λ r. X r && Y r p) && Z p) (v .below)
-          (and-both (anyBelow n (λ r. X r && Y r p)) (Z p)
-          (any-some n r (λ r. X r && Y r p) (u .below) (and-both (X r) (Y r p) (and-fst (X r) (anyBelow n (λ p. Y r p && Z p)) (u .has)) (and-fst (Y r p) (Z p) (v .has))))
-          (and-snd (Y r p) (Z p) (v .has)))
-
-      back : anyBelow n (λ p. anyBelow n (λ r. X r && Y r p) && Z p) ≡ true → anyBelow n (λ r. X r && anyBelow n (λ p. Y r p && Z p)) ≡ true
-      back h =
-          let u = any-witness n (λ p. anyBelow n (λ r. X r && Y r p) && Z p) h in
-          let p = u .which in
-          let v = any-witness n (λ r. X r && Y r p) (and-fst (anyBelow n (λ r. X r && Y r p)) (Z p) (u .has)) in
-          let r = v .which in
-          any-some n r (λ r. X r && anyBelow n (λ p. Y r p && Z p)) (v .below)
-          (and-both (X r) (anyBelow n (λ p. Y r p && Z p)) (and-fst (X r) (Y r p) (v .has))
-          (any-some n p (λ p. Y r p && Z p) (u .below) (and-both (Y r p) (Z p) (and-snd (X r) (Y r p) (v .has)) (and-snd (anyBelow n (λ r. X r && Y r p)) (Z p) (u .has)))))
-
--- a test of one state
-pub any-at : (n q : ℕ) (Z : ℕ → Bool) → q < n → anyBelow n (λ p. eqb q p && Z p) ≡ Z q
-any-at n q Z h = tests-ext _ _ forth (λ z. any-some n q (λ p. eqb q p && Z p) h (and-both (eqb q q) (Z q) (eq-eqb q q refl) z))
-  where
-    forth : anyBelow n (λ p. eqb q p && Z p) ≡ true → Z q ≡ true
-    forth h =
-        let w = any-witness n (λ p. eqb q p && Z p) h in
-        let p = w .which in
-        rw (eqb-true q p (and-fst (eqb q p) (Z p) (w .has))) (and-snd (eqb q p) (Z p) (w .has))
 
 module _ (t : Pattern) where
   -- keys lead through a state between

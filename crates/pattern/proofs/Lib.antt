@@ -10,6 +10,7 @@ pub mod AcceptedLines
 pub mod Leading
 pub mod Tabled
 pub mod Lookups
+pub mod Moving
 pub mod Tables
 pub mod Entries
 pub mod Parses

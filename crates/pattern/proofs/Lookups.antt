@@ -1,33 +1,21 @@
 -- What the tables of a pattern say of its moves.
-use Prim.Native.Nat.{ℕ, zero, suc, _-_, _^_, _<_}
+use Prim.Native.Nat.{ℕ, _-_, _^_, _<_}
 use native.Mathlib.Omega.{arith}
 use native.Mathlib.Nat.{lt-of-le-of-lt}
 use mathlib.Core.Path.{_≡_, refl, ap, _∙_}
-use mathlib.Core.Bool.{Bool, true, false, _&&_, _||_}
+use mathlib.Core.Bool.{Bool, true, false, _&&_}
 use lib.Dec.{leb}
 use lib.ListN.{length, getD}
 use lib.Bits.{bitAnd, and-le-r}
 use Rattle.stateset.specs.Set.{bit, anyBelow, imageOf}
 use Rattle.stateset.proofs.Sets.{word-lt, bit-word, bit-and}
 use Rattle.stateset.proofs.Images.{bit-image}
-use Rattle.stateset.proofs.Some.{any-ext}
+use Rattle.stateset.proofs.Some.{any-ext, any-and}
 use Rattle.pattern.specs.Form.{Pattern}
 use Rattle.pattern.specs.States.{holdsKey, atomState, atomWord}
 use Rattle.pattern.specs.Moves.{enters, into}
 use Rattle.pattern.specs.Automata.{keyTable, enterTable}
 use Rattle.pattern.proofs.Tabled.{tabled-length, tabled-at}
-
--- a test that does not speak of the number
-any-and : (n : ℕ) (X : ℕ → Bool) (y : Bool) → (anyBelow n X && y) ≡ anyBelow n (λ k. X k && y)
-unfolding anyBelow
-any-and zero X y = refl
-any-and (suc n) X y = spread (anyBelow n X) (X n) y ∙ ap (λ (b : Bool). b || (X n && y)) (any-and n X y)
-  where
-    spread : (a b y : Bool) → ((a || b) && y) ≡ ((a && y) || (b && y))
-    spread true b true = refl
-    spread true true false = refl
-    spread true false false = refl
-    spread false b y = refl
 
 -- the parts of two tests, in another order
 and-order : (a b c d : Bool) → ((a && (b && c)) && (b && d)) ≡ (a && (b && (c && d)))

@@ -186,3 +186,8 @@ bit-mod (suc s) w zero h = let e : w % 2 ^ suc s % 2 ≡ w % 2 = omega (arith, h
 bit-mod (suc s) w (suc p) h =
     let e : w % 2 ^ suc s / 2 ≡ w / 2 % 2 ^ s = omega (arith, halves s w) in
     rw e (bit-mod s (w / 2) p (le-of-suc-le-suc h))
+
+-- one member, if it is chosen
+pub bit-chosen : (b : Bool) (k p : ℕ) → bit (cond b (2 ^ k) 0) p ≡ (b && eqb k p)
+bit-chosen true k p = bit-one k p
+bit-chosen false k p = bit-zero p

@@ -2,7 +2,7 @@
 use Prim.Native.Nat.{ℕ, zero, suc, _<_, _≤_}
 use native.Mathlib.Omega.{arith}
 use native.Mathlib.Decide.{le-ind}
-use mathlib.Core.Path.{_≡_, refl, sym, _∙_}
+use mathlib.Core.Path.{_≡_, refl, sym, ap, _∙_}
 use mathlib.Core.Logic.{_⊎_, inl, inr, ⊎-elim}
 use mathlib.Core.Bool.{Bool, true, false, _&&_, _||_, or-true, or-false, and-eq-true-iff, false≢true}
 use lib.Dec.{ltb, eqb}
@@ -129,3 +129,63 @@ any-insert n t X Y R h e = tests-ext inX (R t || inY) out into
 pub any-widen : (n m : ℕ) (X : ℕ → Bool) → n ≤ m → ((k : ℕ) → n ≤ k → X k ≡ false) → anyBelow m X ≡ anyBelow n X
 unfolding anyBelow
 any-widen n m X h e = le-ind (λ (m : ℕ). anyBelow m X ≡ anyBelow n X) refl (λ m l i. rw (i, e m l) (or-false (anyBelow n X))) m h
+
+module _ (n : ℕ) (X : ℕ → Bool) (Y : ℕ → ℕ → Bool) (Z : ℕ → Bool) where
+  -- one may go through some state to another and on from there, or to some state from which one may go on
+  pub any-through : anyBelow n (λ r. X r && anyBelow n (λ p. Y r p && Z p)) ≡ anyBelow n (λ p. anyBelow n (λ r. X r && Y r p) && Z p)
+  any-through = tests-ext _ _ forth back
+    where
+      forth : anyBelow n (λ r. X r && anyBelow n (λ p. Y r p && Z p)) ≡ true → anyBelow n (λ p. anyBelow n (λ r. X r && Y r p) && Z p) ≡ true
+      forth h =
+          let u = any-witness n (λ r. X r && anyBelow n (λ p. Y r p && Z p)) h in
+          let r = u .which in
+          let v = any-witness n (λ p. Y r p && Z p) (and-snd (X r) (anyBelow n (λ p. Y r p && Z p)) (u .has)) in
+          let p = v .which in
+          any-some n p (λ p. anyBelow n (λ r. X r && Y r p) && Z p) (v .below)
+          (and-both (anyBelow n (λ r. X r && Y r p)) (Z p)
+          (any-some n r (λ r. X r && Y r p) (u .below) (and-both (X r) (Y r p) (and-fst (X r) (anyBelow n (λ p. Y r p && Z p)) (u .has)) (and-fst (Y r p) (Z p) (v .has))))
+          (and-snd (Y r p) (Z p) (v .has)))
+
+      back : anyBelow n (λ p. anyBelow n (λ r. X r && Y r p) && Z p) ≡ true → anyBelow n (λ r. X r && anyBelow n (λ p. Y r p && Z p)) ≡ true
+      back h =
+          let u = any-witness n (λ p. anyBelow n (λ r. X r && Y r p) && Z p) h in
+          let p = u .which in
+          let v = any-witness n (λ r. X r && Y r p) (and-fst (anyBelow n (λ r. X r && Y r p)) (Z p) (u .has)) in
+          let r = v .which in
+          any-some n r (λ r. X r && anyBelow n (λ p. Y r p && Z p)) (v .below)
+          (and-both (X r) (anyBelow n (λ p. Y r p && Z p)) (and-fst (X r) (Y r p) (v .has))
+          (any-some n p (λ p. Y r p && Z p) (u .below) (and-both (Y r p) (Z p) (and-snd (X r) (Y r p) (v .has)) (and-snd (anyBelow n (λ r. X r && Y r p)) (Z p) (u .has)))))
+
+-- a test of one state
+pub any-at : (n q : ℕ) (Z : ℕ → Bool) → q < n → anyBelow n (λ p. eqb q p && Z p) ≡ Z q
+any-at n q Z h = tests-ext _ _ forth (λ z. any-some n q (λ p. eqb q p && Z p) h (and-both (eqb q q) (Z q) (eq-eqb q q refl) z))
+  where
+    forth : anyBelow n (λ p. eqb q p && Z p) ≡ true → Z q ≡ true
+    forth h =
+        let w = any-witness n (λ p. eqb q p && Z p) h in
+        let p = w .which in
+        rw (eqb-true q p (and-fst (eqb q p) (Z p) (w .has))) (and-snd (eqb q p) (Z p) (w .has))
+
+-- a test that does not speak of the number
+pub any-and : (n : ℕ) (X : ℕ → Bool) (y : Bool) → (anyBelow n X && y) ≡ anyBelow n (λ k. X k && y)
+unfolding anyBelow
+any-and zero X y = refl
+any-and (suc n) X y = spread (anyBelow n X) (X n) y ∙ ap (λ (b : Bool). b || (X n && y)) (any-and n X y)
+  where
+    spread : (a b y : Bool) → ((a || b) && y) ≡ ((a && y) || (b && y))
+    spread true b true = refl
+    spread true true false = refl
+    spread true false false = refl
+    spread false b y = refl
+
+-- one of two tests
+pub any-or : (n : ℕ) (X Y : ℕ → Bool) → anyBelow n (λ k. X k || Y k) ≡ (anyBelow n X || anyBelow n Y)
+unfolding anyBelow
+any-or zero X Y = refl
+any-or (suc n) X Y = ap (λ (b : Bool). b || (X n || Y n)) (any-or n X Y) ∙ four (anyBelow n X) (anyBelow n Y) (X n) (Y n)
+  where
+    four : (a b c d : Bool) → ((a || b) || (c || d)) ≡ ((a || c) || (b || d))
+    four true b c d = refl
+    four false true true d = refl
+    four false true false d = refl
+    four false false c d = refl

@@ -1,0 +1,65 @@
+-- Laws of the sets of states that keys lead to.
+use Prim.Native.Nat.{ℕ, _<_, _≤_}
+use native.Mathlib.Omega.{arith}
+use mathlib.Core.Path.{_≡_, refl, sym, ap, _∙_}
+use mathlib.Core.Bool.{Bool, true, false, cond, _&&_}
+use mathlib.Core.List.{List, [], _∷_, _++_}
+use lib.ListN.{getD}
+use lib.Bits.{bitAnd, bitOr}
+use Rattle.stateset.specs.Set.{bit, word, anyBelow, imageOf}
+use Rattle.stateset.proofs.Sets.{word-ext, word-one, bit-word}
+use Rattle.stateset.proofs.Some.{any-ext, any-widen}
+use Rattle.stateset.proofs.Common.{common-words}
+use Rattle.pattern.specs.Form.{Pattern, atomCount}
+use Rattle.pattern.specs.Sets.{lineKey}
+use Rattle.pattern.specs.Moves.{states, move, accepting, leads, acceptedFrom}
+use Rattle.pattern.specs.Automata.{accepts}
+use Rattle.pattern.specs.declared.automaton.Accepting.{Accepting}
+use Rattle.pattern.proofs.Moving.{common, advanced, always-word, ends-word, accepting-word}
+use Rattle.pattern.proofs.Leading.{leads-append, leads-one, leads-below}
+use Rattle.counter.specs.declared.moves.Closing.{Closing}
+use Rattle.counter.specs.Steps.{Automaton, closingOf, moved, reached}
+
+-- a move, from what each word of it is
+pub made : {t : Pattern} {keys enter : List ℕ} {c : Closing} (x k : ℕ) {i e mid a b found near r : ℕ} {m n o : Bool} →
+    Automaton t keys enter c → lineKey k ≡ true → i ≡ imageOf enter x → e ≡ bitAnd i (getD keys k 0) → m ≡ common x 3 → mid ≡ cond m 2 0 → n ≡ common x (c .always) → a ≡ cond n 4 0 → o ≡ common e (c .ends) → b ≡ cond o 4 0 → found ≡ bitOr a b → near ≡ bitOr e mid → r ≡ bitOr near found → r ≡ moved t x k
+unfolding moved
+made {t} x k h l i e m mid n a o b found near r =
+    rw (r, near, found, b, a, mid, o, n, m, e, i, h .keyed, h .entered, h .closing) (advanced t (h .few) x k l)
+
+-- the words that a pattern's summary comes to
+pub closed : (t : Pattern) {a : Accepting} {u v w y z : ℕ} → a ≡ accepts t → u ≡ cond (a .jump) 1 0 → v ≡ bitOr 4 u → w ≡ cond (a .empty) 1 0 → y ≡ bitOr 4 w → z ≡ bitOr y (a .anchored) → _≡_ {A = Closing} (record { always = v; ends = a .ends; accepting = z }) (closingOf t)
+closed t e u v w y z = rw (z, y, w, v, u, e, always-word t, ends-word t, accepting-word t) refl
+
+-- line-start alone
+pub reached-none : (t : Pattern) → 1 ≡ reached t []
+unfolding reached leads
+reached-none t = word-one 32 0 (omega arith)
+
+module _ (t : Pattern) (few : atomCount t ≤ 29) (w : List ℕ) where
+  -- no key leads to a state that the pattern does not have
+  leads-high : (q : ℕ) → states t ≤ q → leads t 0 w q ≡ false
+  leads-high q h = go (leads t 0 w q) refl
+    where
+      go : (b : Bool) → leads t 0 w q ≡ b → b ≡ false
+      go true e = absurd (omega (arith, leads-below t w 0 q (omega arith) e))
+      go false e = refl
+
+  wide : (X : ℕ → Bool) → anyBelow 32 (λ q. leads t 0 w q && X q) ≡ anyBelow (states t) (λ q. leads t 0 w q && X q)
+  wide X = any-widen (states t) 32 (λ q. leads t 0 w q && X q) (omega arith) (λ q h. rw (leads-high q h) refl)
+
+  -- one key more
+  pub reached-more : (c : ℕ) → moved t (reached t w) c ≡ reached t (w ++ (c ∷ []))
+  unfolding moved reached
+  reached-more c =
+      word-ext 32 (λ p. anyBelow 32 (λ q. bit (word 32 (leads t 0 w)) q && move t q c p)) (leads t 0 (w ++ (c ∷ [])))
+      (λ p h.
+      any-ext 32 (λ q. bit (word 32 (leads t 0 w)) q && move t q c p) (λ q. leads t 0 w q && move t q c p) (λ q i. ap (λ (b : Bool). b && move t q c p) (bit-word 32 (leads t 0 w) q i))
+      ∙ wide (λ q. move t q c p)
+      ∙ any-ext (states t) (λ q. leads t 0 w q && move t q c p) (λ q. leads t 0 w q && leads t q (c ∷ []) p) (λ q i. ap (λ (b : Bool). leads t 0 w q && b) (sym (leads-one t c q p)))
+      ∙ sym (leads-append t w (c ∷ []) 0 p (omega arith)))
+
+  -- the line is accepted
+  pub reached-accepts : common (reached t w) (closingOf t .accepting) ≡ acceptedFrom t 0 w
+  unfolding reached acceptedFrom
+  reached-accepts = common-words 32 (leads t 0 w) (accepting t) (omega arith) ∙ wide (accepting t)
