@@ -1,3 +1,6 @@
 -- Laws of the counter's definitions, which the proofs of functions cite.
 pub mod LineLaws
 pub mod Reaching
+pub mod Testing
+pub mod Tallying
+pub mod Answering

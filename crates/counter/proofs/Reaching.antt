@@ -11,25 +11,28 @@ use Rattle.stateset.proofs.Sets.{word-ext, word-one, bit-word}
 use Rattle.stateset.proofs.Some.{any-ext, any-widen}
 use Rattle.stateset.proofs.Common.{common-words}
 use Rattle.pattern.specs.Form.{Pattern, atomCount}
-use Rattle.pattern.specs.Sets.{lineKey}
+use Rattle.pattern.specs.Sets.{lineKey, isLine}
+use Rattle.pattern.specs.Meaning.{matches}
 use Rattle.pattern.specs.Moves.{states, move, accepting, leads, acceptedFrom}
 use Rattle.pattern.specs.Automata.{accepts}
 use Rattle.pattern.specs.declared.automaton.Accepting.{Accepting}
 use Rattle.pattern.proofs.Moving.{common, advanced, always-word, ends-word, accepting-word}
+use Rattle.pattern.proofs.AcceptedLines.{states-match}
 use Rattle.pattern.proofs.Leading.{leads-append, leads-one, leads-below}
 use Rattle.counter.specs.declared.moves.Closing.{Closing}
-use Rattle.counter.specs.Steps.{Automaton, closingOf, moved, reached}
+use Rattle.counter.specs.Steps.{Automaton, Closes, Advances, closingOf, moved, reached}
 
 -- a move, from what each word of it is
-pub made : {t : Pattern} {keys enter : List ℕ} {c : Closing} (x k : ℕ) {i e mid a b found near r : ℕ} {m n o : Bool} →
-    Automaton t keys enter c → lineKey k ≡ true → i ≡ imageOf enter x → e ≡ bitAnd i (getD keys k 0) → m ≡ common x 3 → mid ≡ cond m 2 0 → n ≡ common x (c .always) → a ≡ cond n 4 0 → o ≡ common e (c .ends) → b ≡ cond o 4 0 → found ≡ bitOr a b → near ≡ bitOr e mid → r ≡ bitOr near found → r ≡ moved t x k
-unfolding moved
-made {t} x k h l i e m mid n a o b found near r =
+pub made : (keys enter : List ℕ) (c : Closing) (x k : ℕ) {i e mid a b found near r : ℕ} {m n o : Bool} →
+    i ≡ imageOf enter x → e ≡ bitAnd i (getD keys k 0) → m ≡ common x 3 → mid ≡ cond m 2 0 → n ≡ common x (c .always) → a ≡ cond n 4 0 → o ≡ common e (c .ends) → b ≡ cond o 4 0 → found ≡ bitOr a b → near ≡ bitOr e mid → r ≡ bitOr near found → Advances keys enter c x k r
+unfolding Advances moved
+made keys enter c x k i e m mid n a o b found near r t h l =
     rw (r, near, found, b, a, mid, o, n, m, e, i, h .keyed, h .entered, h .closing) (advanced t (h .few) x k l)
 
 -- the words that a pattern's summary comes to
-pub closed : (t : Pattern) {a : Accepting} {u v w y z : ℕ} → a ≡ accepts t → u ≡ cond (a .jump) 1 0 → v ≡ bitOr 4 u → w ≡ cond (a .empty) 1 0 → y ≡ bitOr 4 w → z ≡ bitOr y (a .anchored) → _≡_ {A = Closing} (record { always = v; ends = a .ends; accepting = z }) (closingOf t)
-closed t e u v w y z = rw (z, y, w, v, u, e, always-word t, ends-word t, accepting-word t) refl
+pub closed : (a : Accepting) {u v w y z : ℕ} → u ≡ cond (a .jump) 1 0 → v ≡ bitOr 4 u → w ≡ cond (a .empty) 1 0 → y ≡ bitOr 4 w → z ≡ bitOr y (a .anchored) → Closes a (record { always = v; ends = a .ends; accepting = z })
+unfolding Closes
+closed a u v w y z t e = rw (z, y, w, v, u, e, always-word t, ends-word t, accepting-word t) refl
 
 -- line-start alone
 pub reached-none : (t : Pattern) → 1 ≡ reached t []
@@ -63,3 +66,7 @@ module _ (t : Pattern) (few : atomCount t ≤ 29) (w : List ℕ) where
   pub reached-accepts : common (reached t w) (closingOf t .accepting) ≡ acceptedFrom t 0 w
   unfolding reached acceptedFrom
   reached-accepts = common-words 32 (leads t 0 w) (accepting t) (omega arith) ∙ wide (accepting t)
+
+-- a set of states accepts exactly if the keys that lead to it match
+pub reached-matches : {t : Pattern} {keys enter : List ℕ} {c : Closing} → Automaton t keys enter c → (x : ℕ) (w : List ℕ) → x ≡ reached t w → isLine w ≡ true → common x (c .accepting) ≡ matches t w
+reached-matches {t} a x w e l = rw (e, a .closing) (reached-accepts t (a .few) w ∙ states-match t w l)

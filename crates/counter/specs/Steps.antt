@@ -36,11 +36,11 @@ unfoldable pub moved : Pattern → ℕ → ℕ → ℕ
 moved t x c = word 32 (λ p. anyBelow 32 (λ q. bit x q && move t q c p))
 
 -- the words that a pattern's summary comes to
-abbrev pub Closes : Accepting → Closing → Type 0
+unfoldable pub Closes : Accepting → Closing → Type 0
 Closes a c = (t : Pattern) → a ≡ accepts t → c ≡ closingOf t
 
 -- a set of states moves on a key of a line
-abbrev pub Advances : List ℕ → List ℕ → Closing → ℕ → ℕ → ℕ → Type 0
+unfoldable pub Advances : List ℕ → List ℕ → Closing → ℕ → ℕ → ℕ → Type 0
 Advances keys enter c x k y = (t : Pattern) → Automaton t keys enter c → lineKey k ≡ true → y ≡ moved t x k
 
 -- the states that the keys of w lead to from line-start
@@ -53,19 +53,21 @@ isOpen [] = false
 isOpen (c ∷ w) = true
 
 -- a line's test
-abbrev pub TestsLine : List ℕ → List ℕ → Closing → List ℕ → LineTest → Type 0
+unfoldable pub TestsLine : List ℕ → List ℕ → Closing → List ℕ → LineTest → Type 0
 TestsLine keys enter c w r = (t : Pattern) → Automaton t keys enter c → lineFigures r ≡ lineResult (accepted t) w
 
 -- a run's count
-abbrev pub CountsRun : List ℕ → List ℕ → Closing → List ℕ → RunCount → Type 0
+unfoldable pub CountsRun : List ℕ → List ℕ → Closing → List ℕ → RunCount → Type 0
 CountsRun keys enter c w r = (t : Pattern) → Automaton t keys enter c → runFigures r ≡ runResult (accepted t) w
 
 -- the tally of a run, where w are the keys of its last line so far, after one more key
 unfoldable pub tallyAfter : Pattern → List ℕ → Tally → ℕ → Tally
 tallyAfter t w a k =
     cond (eqb k lineEnd)
-    (record { set = reached t []; open = false; lines = a .lines + cond (matches t w) 1 0 })
-    (record { set = reached t (w ++ (k ∷ [])); open = true; lines = a .lines })
+    (record { set = reached t []; pending = false; lines = a .lines + cond (matches t w) 1 0 })
+    (record { set = reached t (w ++ (k ∷ [])); pending = true; lines = a .lines })
 
-abbrev pub Tallies : List ℕ → List ℕ → Closing → Tally → ℕ → Tally → Type 0
-Tallies keys enter c a k b = (t : Pattern) → Automaton t keys enter c → (w : List ℕ) → isLine w ≡ true → a .set ≡ reached t w → eqb k 0 ≡ false → b ≡ tallyAfter t w a k
+-- one more key of a run; a count grows with each line that has a key or is closed, so it is no more than the keys
+pub record AfterKey (keys enter : List ℕ) (c : Closing) (a : Tally) (k : ℕ) (b : Tally) : Type 0 where
+  pub small : b .lines + cond (b .pending) 1 0 ≤ a .lines + 1
+  pub tallies : (t : Pattern) → Automaton t keys enter c → (w : List ℕ) → isLine w ≡ true → a .set ≡ reached t w → eqb k 0 ≡ false → b ≡ tallyAfter t w a k

@@ -41,6 +41,9 @@ pub(crate) fn advance(set: u64, key: u8, keys: &[u64; 256], enter: &[u64; 32], c
 {
     let atoms = both(image(enter, set), keys[key as usize]);
     let mid = chosen(meets(set, LINE_START | MID_LINE), MID_LINE);
-    let found = union(chosen(meets(set, c.always), FOUND), chosen(meets(atoms, c.ends), FOUND));
+    let found = union(
+        chosen(meets(set, c.always), FOUND),
+        chosen(meets(atoms, c.ends), FOUND),
+    );
     union(union(atoms, mid), found)
 }

@@ -12,7 +12,7 @@ ghost use Prim.Native.Nat.{_<_, _+_};
 ghost use mathlib.Core.Path.{_≡_};
 ghost use Rattle.pattern.specs.Reader.{readPattern};
 ghost use Rattle.counter.specs.Answers.{runFigures, runResult};
-ghost use Rattle.counter.specs.Steps.{CountsRun, Tallies};
+ghost use Rattle.counter.specs.Steps.{AfterKey, CountsRun};
 
 pub enum RunCount {
     Lines(u64),
@@ -24,25 +24,25 @@ pub(crate) struct Tally {
     // The states that the keys of the last line lead to.
     set: u64,
     // Whether the last line has a key.
-    open: bool,
+    pending: bool,
     // How many of the lines before it match.
     lines: u64,
 }
 
 fn after_key(a: Tally, key: u8, keys: &[u64; 256], enter: &[u64; 32], c: Closing) -> Tally
     requires { ⌜ a .lines + 1 < 18446744073709551616 ⌝ }
-    ensures { λ r. ⌜ Tallies (now (keys .entry)) (now (enter .entry)) c a key r ⌝ }
+    ensures { λ r. ⌜ AfterKey (now (keys .entry)) (now (enter .entry)) c a key r ⌝ }
 {
     if key == 10 {
         return Tally {
             set: LINE_START,
-            open: false,
+            pending: false,
             lines: a.lines + chosen(meets(a.set, c.accepting), 1),
         };
     }
     Tally {
         set: advance(a.set, key, keys, enter, c),
-        open: true,
+        pending: true,
         lines: a.lines,
     }
 }
@@ -52,7 +52,7 @@ fn counted(run: &[u8], keys: &[u64; 256], enter: &[u64; 32], c: Closing) -> RunC
 {
     let mut a = Tally {
         set: LINE_START,
-        open: false,
+        pending: false,
         lines: 0,
     };
     let mut at = 0;
@@ -64,7 +64,7 @@ fn counted(run: &[u8], keys: &[u64; 256], enter: &[u64; 32], c: Closing) -> RunC
         a = after_key(a, key, keys, enter, c);
         at += 1;
     }
-    RunCount::Lines(a.lines + chosen(a.open, chosen(meets(a.set, c.accepting), 1)))
+    RunCount::Lines(a.lines + chosen(a.pending, chosen(meets(a.set, c.accepting), 1)))
 }
 
 // How many lines of a run match a pattern. Refused with 7, 8, 9 for the pattern, then with 5 for a byte 0 in the run.

@@ -407,22 +407,23 @@ module _ (t : Pattern) where
         which = p;
         below = e .below;
         has =
-          and-both (leads t q (c ∷ w) p) (accepting t p)
-          (any-some (states t) r (λ r. move t q c r && leads t r w p) d (and-both (move t q c r) (leads t r w p) (n .moves) (and-fst (leads t r w p) (accepting t p) (e .has))))
-          (and-snd (leads t r w p) (accepting t p) (e .has));
+            and-both (leads t q (c ∷ w) p) (accepting t p)
+            (any-some (states t) r (λ r. move t q c r && leads t r w p) d (and-both (move t q c r) (leads t r w p) (n .moves) (and-fst (leads t r w p) (accepting t p) (e .has))))
+            (and-snd (leads t r w p) (accepting t p) (e .has));
       }
 
   -- The states lead from line-start to an accepting state exactly if the line matches.
   pub states-iff : (w : List ℕ) → isLine w ≡ true → (acceptedFrom t 0 w ≡ true) ↔ Matches t w
   unfolding acceptedFrom
-  states-iff w l =
-      (λ h.
-      let n = any-witness (states t) (λ p. leads t 0 w p && accepting t p) h in
-      let p = n .which in
-      leads-sees w 0 p (and-fst (leads t 0 w p) (accepting t p) (n .has)) (end-accepts p (and-snd (leads t 0 w p) (accepting t p) (n .has))),
-      λ m.
-      let n = sees-accepted w 0 (omega arith) l m in
-      any-some (states t) (n .which) (λ p. leads t 0 w p && accepting t p) (n .below) (n .has))
+  states-iff w l = (
+    λ h.
+        let n = any-witness (states t) (λ p. leads t 0 w p && accepting t p) h in
+        let p = n .which in
+        leads-sees w 0 p (and-fst (leads t 0 w p) (accepting t p) (n .has)) (end-accepts p (and-snd (leads t 0 w p) (accepting t p) (n .has))),
+    λ m.
+        let n = sees-accepted w 0 (omega arith) l m in
+        any-some (states t) (n .which) (λ p. leads t 0 w p && accepting t p) (n .below) (n .has),
+  )
 
   -- and so the test by states is the test by meaning
   pub states-match : (w : List ℕ) → isLine w ≡ true → acceptedFrom t 0 w ≡ matches t w

@@ -9,6 +9,7 @@ pub mod BranchStates
 pub mod AcceptedLines
 pub mod Leading
 pub mod Tabled
+pub mod Readings
 pub mod Lookups
 pub mod Moving
 pub mod Tables

@@ -172,7 +172,6 @@ module _ (t : Pattern) (few : atomCount t ≤ 29) (x c : ℕ) (l : lineKey c ≡
           (bit-chosen always 2 p)
           (bit-chosen ending 2 p)
 
-
 -- found, and line-start if it is chosen
 module _ (b : Bool) where
   fixed-lt : bitOr 4 (cond b 1 0) < 2 ^ 32

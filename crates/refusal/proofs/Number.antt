@@ -1,5 +1,6 @@
--- No two refusals have the same number.
-use Prim.Native.Nat.{ℕ, _-_}
+-- No two refusals have the same number, and none has 0.
+use Prim.Native.Nat.{ℕ, _-_, _≤_}
+use native.Mathlib.Omega.{arith}
 use mathlib.Core.List.{List, [], _∷_}
 use mathlib.Core.Path.{_≡_, refl, ap, sym, _∙_}
 use lib.ListN.{getD}
@@ -35,3 +36,20 @@ named-number InputTooLong = refl
 -- no two refusals have the same number
 pub number-injective : (r s : Refusal) → number r ≡ number s → r ≡ s
 number-injective r s e = sym (named-number r) ∙ ap named e ∙ named-number s
+
+-- and none has 0, which stands for an answer that is no refusal
+pub number-positive : (r : Refusal) → 1 ≤ number r
+number-positive BadMagic = omega arith
+number-positive UnsupportedVersion = omega arith
+number-positive BadMacroCount = omega arith
+number-positive MalformedBody = omega arith
+number-positive InvalidKey = omega arith
+number-positive ForwardReference = omega arith
+number-positive PatternLength = omega arith
+number-positive PatternSyntax = omega arith
+number-positive TooManyAtoms = omega arith
+number-positive NoSuchMacro = omega arith
+number-positive InsufficientSpace = omega arith
+number-positive CountOverflow = omega arith
+number-positive ReportMismatch = omega arith
+number-positive InputTooLong = omega arith

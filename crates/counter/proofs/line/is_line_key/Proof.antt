@@ -1,0 +1,16 @@
+use borrow.Author.Needs.{needs}
+use borrow.Author.Tests.{ne-eqb}
+use Rattle.counter.proofs.Testing.{no-zero, key-test}
+use Rattle.counter.proofs.line.is_line_key.Statement.{statement}
+use Rattle.counter.proofs.line.is_line_key.Tie as tie
+use Rattle.counter.proofs.line.is_line_key.Reads as reads
+use Rattle.counter.proofs.line.is_line_key.Lts as lts
+
+returns : tie.Need-returns
+returns c = search (no-zero)
+
+returns-2 : tie.Need-returns-2
+returns-2 c = search (key-test, ne-eqb, needs)
+
+pub is-line-key-spec : {M : Type 1} → statement M
+is-line-key-spec = tie.close (tie.spec returns returns-2)
