@@ -3,14 +3,17 @@ use Prim.Native.Nat.{ℕ}
 use mathlib.Core.Bool.{cond, _||_}
 use mathlib.Core.List.{List}
 use Rattle.refusal.specs.declared.Refusal.{Refusal}
-use Rattle.refusal.specs.declared.Refusal.the-variants.{InvalidKey}
+use Rattle.refusal.specs.declared.Refusal.the-variants.{InvalidKey, ReportMismatch}
 use Rattle.refusal.specs.Number.{number}
 use Rattle.pattern.specs.Form.{member}
 use Rattle.pattern.specs.Meaning.{matches}
 use Rattle.pattern.specs.Reader.{Read, accepted, refused}
 use Rattle.counter.specs.declared.line.LineTest.{LineTest}
 use Rattle.counter.specs.declared.run.RunCount.{RunCount}
+use Rattle.counter.specs.declared.report.Joined.{Joined}
+use Rattle.counter.specs.declared.report.Report.{Report}
 use Rattle.counter.specs.Lines.{lineEnd, matching}
+use Rattle.counter.specs.Reports.{alike, joinedReports, noReport}
 
 -- The paper's figures for an answer: the refusal's number, 0 if there is none, and the one value. "A refusal's other numbers are 0"
 pub record Figures : Type 0 where
@@ -43,3 +46,7 @@ lineResult (accepted t) w = cond (member 0 w || member lineEnd w) (refusedFor In
 unfoldable pub runResult : Read → List ℕ → Figures
 runResult (refused r) w = refusedFor r
 runResult (accepted t) w = cond (member 0 w) (refusedFor InvalidKey) (answered (matching t w))
+
+-- the joining of two reports: 13 where they are "unlike reports", and then a report of zeros
+abbrev pub joinResult : Report → Report → Joined
+joinResult a b = cond (alike a b) (record { refused = 0; report = joinedReports a b }) (record { refused = number ReportMismatch; report = noReport })

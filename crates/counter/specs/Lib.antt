@@ -1,4 +1,5 @@
 -- The counter: lines, answers, and what private functions promise each other.
 pub mod Lines
+pub mod Reports
 pub mod Answers
 pub mod Steps
