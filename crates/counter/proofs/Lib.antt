@@ -4,3 +4,4 @@ pub mod Reaching
 pub mod Testing
 pub mod Tallying
 pub mod Answering
+pub mod Joins

@@ -3,3 +3,4 @@ pub mod Lines
 pub mod Reports
 pub mod Answers
 pub mod Steps
+pub mod Joins

@@ -1,9 +1,11 @@
-// The counter of document 01: the one-line test and the count over a plain run.
+// The counter of document 01: the one-line test, the count over a plain run, and the joining of reports.
+mod joining;
 mod line;
 mod moves;
 mod report;
 mod run;
 
+pub use joining::join;
 pub use line::LineTest;
 pub use line::test_line;
 pub use report::Joined;

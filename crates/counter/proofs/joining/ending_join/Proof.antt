@@ -1,0 +1,30 @@
+use Rattle.counter.proofs.Joins.{ending-made}
+use borrow.Author.Needs.{needs}
+use Rattle.counter.proofs.joining.ending_join.Statement.{statement}
+use Rattle.counter.proofs.joining.ending_join.Tie as tie
+use Rattle.counter.proofs.joining.ending_join.Reads as reads
+use Rattle.counter.proofs.joining.ending_join.Lts as lts
+use Rattle.counter.proofs.joining.closed_by.Reads as closed-by-reads
+use Rattle.counter.proofs.joining.onward_from.Reads as onward-from-reads
+use Rattle.counter.proofs.joining.with_lines.Reads as with-lines-reads
+use Rattle.counter.proofs.joining.within.Reads as within-reads
+
+onward-from-requires : tie.Need-onward-from-requires
+onward-from-requires c κs = search needs
+
+within-requires : tie.Need-within-requires
+within-requires c κs = search needs
+
+closed-by-requires : tie.Need-closed-by-requires
+closed-by-requires c κs = search needs
+
+with-lines-requires : tie.Need-with-lines-requires
+with-lines-requires c κs = search needs
+
+returns : tie.Need-returns
+returns c = search (ending-made)
+
+pub ending-join-spec : {M : Type 1} → statement M
+ending-join-spec =
+    tie.close
+    (tie.spec onward-from-requires within-requires closed-by-requires with-lines-requires returns)

@@ -1,0 +1,47 @@
+use Rattle.counter.proofs.Joins.{joined-whole, joined-opening, joined-ending, joined-across}
+use borrow.Author.Needs.{needs}
+use Rattle.counter.proofs.joining.joined.Statement.{statement}
+use Rattle.counter.proofs.joining.joined.Tie as tie
+use Rattle.counter.proofs.joining.joined.Reads as reads
+use Rattle.counter.proofs.joining.joined.Lts as lts
+use Rattle.counter.proofs.joining.across_join.Reads as across-join-reads
+use Rattle.counter.proofs.joining.ending_join.Reads as ending-join-reads
+use Rattle.counter.proofs.joining.opening_join.Reads as opening-join-reads
+use Rattle.counter.proofs.joining.whole_join.Reads as whole-join-reads
+
+whole-join-requires : tie.Need-whole-join-requires
+whole-join-requires c κs = search needs
+
+returns : tie.Need-returns
+returns c = search (joined-whole)
+
+opening-join-requires : tie.Need-opening-join-requires
+opening-join-requires c κs = search needs
+
+returns-2 : tie.Need-returns-2
+returns-2 c = search (joined-opening)
+
+ending-join-requires : tie.Need-ending-join-requires
+ending-join-requires c κs = search needs
+
+returns-3 : tie.Need-returns-3
+returns-3 c = search (joined-ending)
+
+across-join-requires : tie.Need-across-join-requires
+across-join-requires c κs = search needs
+
+returns-4 : tie.Need-returns-4
+returns-4 c = search (joined-across)
+
+pub joined-spec : {M : Type 1} → statement M
+joined-spec =
+    tie.close
+    (tie.spec
+    whole-join-requires
+    returns
+    opening-join-requires
+    returns-2
+    ending-join-requires
+    returns-3
+    across-join-requires
+    returns-4)

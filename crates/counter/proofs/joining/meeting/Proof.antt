@@ -1,0 +1,20 @@
+use Rattle.counter.proofs.Joins.{meeting-made}
+use borrow.Author.Needs.{needs}
+use Rattle.counter.proofs.joining.meeting.Statement.{statement}
+use Rattle.counter.proofs.joining.meeting.Tie as tie
+use Rattle.counter.proofs.joining.meeting.Reads as reads
+use Rattle.counter.proofs.joining.meeting.Lts as lts
+use Rattle.counter.proofs.joining.within.Reads as within-reads
+use Rattle.stateset.proofs.meets.Reads as meets-reads
+
+within-requires : tie.Need-within-requires
+within-requires c κs = search needs
+
+meets-requires : tie.Need-meets-requires
+meets-requires c κs = search needs
+
+returns : tie.Need-returns
+returns c = search (meeting-made)
+
+pub meeting-spec : {M : Type 1} → statement M
+meeting-spec = tie.close (tie.spec within-requires meets-requires returns)

@@ -1,0 +1,35 @@
+use Rattle.counter.proofs.Joins.{opening-made}
+use borrow.Author.Needs.{needs}
+use Rattle.counter.proofs.joining.opening_join.Statement.{statement}
+use Rattle.counter.proofs.joining.opening_join.Tie as tie
+use Rattle.counter.proofs.joining.opening_join.Reads as reads
+use Rattle.counter.proofs.joining.opening_join.Lts as lts
+use Rattle.counter.proofs.joining.closed_by.Reads as closed-by-reads
+use Rattle.counter.proofs.joining.heads_through.Reads as heads-through-reads
+use Rattle.counter.proofs.joining.with_lines.Reads as with-lines-reads
+use Rattle.counter.proofs.joining.within.Reads as within-reads
+
+heads-through-requires : tie.Need-heads-through-requires
+heads-through-requires c κs = search needs
+
+closed-by-requires : tie.Need-closed-by-requires
+closed-by-requires c κs = search needs
+
+within-requires : tie.Need-within-requires
+within-requires c κs = search needs
+
+with-lines-requires : tie.Need-with-lines-requires
+with-lines-requires c κs = search needs
+
+returns : tie.Need-returns
+returns c = search (opening-made)
+
+pub opening-join-spec : {M : Type 1} → statement M
+opening-join-spec =
+    tie.close
+    (tie.spec
+    heads-through-requires
+    closed-by-requires
+    within-requires
+    with-lines-requires
+    returns)

@@ -1,0 +1,17 @@
+use Rattle.counter.proofs.Joins.{sizes-differ, sizes-low, sizes-high}
+use Rattle.counter.proofs.joining.sizes_alike.Statement.{statement}
+use Rattle.counter.proofs.joining.sizes_alike.Tie as tie
+use Rattle.counter.proofs.joining.sizes_alike.Reads as reads
+use Rattle.counter.proofs.joining.sizes_alike.Lts as lts
+
+returns : tie.Need-returns
+returns c = search (sizes-differ)
+
+returns-2 : tie.Need-returns-2
+returns-2 c = search (sizes-low)
+
+returns-3 : tie.Need-returns-3
+returns-3 c = search (sizes-high)
+
+pub sizes-alike-spec : {M : Type 1} → statement M
+sizes-alike-spec = tie.close (tie.spec returns returns-2 returns-3)
