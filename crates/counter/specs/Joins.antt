@@ -5,7 +5,7 @@ use mathlib.Core.Bool.{Bool, cond, _&&_}
 use mathlib.Core.List.{List}
 use lib.Dec.{leb}
 use lib.ListN.{getD}
-use Rattle.stateset.specs.Set.{bit, word, anyBelow}
+use Rattle.stateset.specs.Set.{bit, anyBelow}
 use Rattle.counter.specs.declared.joining.Closed.{Closed}
 use Rattle.counter.specs.declared.report.Report.{Report}
 use Rattle.counter.specs.Reports.{most, noRows, unbroken, broken, onward, common, closedIn}

@@ -1,15 +1,8 @@
+-- `joining::across_join`: closed lines of both and the line across.
 use Rattle.counter.proofs.Joins.{across-made}
 use borrow.Author.Needs.{needs}
 use Rattle.counter.proofs.joining.across_join.Statement.{statement}
 use Rattle.counter.proofs.joining.across_join.Tie as tie
-use Rattle.counter.proofs.joining.across_join.Reads as reads
-use Rattle.counter.proofs.joining.across_join.Lts as lts
-use Rattle.counter.proofs.joining.closed_by.Reads as closed-by-reads
-use Rattle.counter.proofs.joining.meeting.Reads as meeting-reads
-use Rattle.counter.proofs.joining.sum.Reads as sum-reads
-use Rattle.counter.proofs.joining.with_lines.Reads as with-lines-reads
-use Rattle.counter.proofs.joining.within.Reads as within-reads
-use Rattle.stateset.proofs.chosen.Reads as chosen-reads
 
 meeting-requires : tie.Need-meeting-requires
 meeting-requires c κs = search needs

@@ -1,9 +1,8 @@
+-- `joining::closed_by`: a flag over 1 says that the closed lines are beyond the largest count.
 use native.Mathlib.Omega.{arith}
 use Rattle.counter.proofs.Joins.{closed-few, closed-many}
 use Rattle.counter.proofs.joining.closed_by.Statement.{statement}
 use Rattle.counter.proofs.joining.closed_by.Tie as tie
-use Rattle.counter.proofs.joining.closed_by.Reads as reads
-use Rattle.counter.proofs.joining.closed_by.Lts as lts
 
 returns : tie.Need-returns
 returns c = closed-few (c .before .args .flag) (c .before .args .lines) (omega arith) (omega arith)

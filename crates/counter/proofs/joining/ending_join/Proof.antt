@@ -1,13 +1,8 @@
+-- `joining::ending_join`: tail by the right rows, all else of the left report.
 use Rattle.counter.proofs.Joins.{ending-made}
 use borrow.Author.Needs.{needs}
 use Rattle.counter.proofs.joining.ending_join.Statement.{statement}
 use Rattle.counter.proofs.joining.ending_join.Tie as tie
-use Rattle.counter.proofs.joining.ending_join.Reads as reads
-use Rattle.counter.proofs.joining.ending_join.Lts as lts
-use Rattle.counter.proofs.joining.closed_by.Reads as closed-by-reads
-use Rattle.counter.proofs.joining.onward_from.Reads as onward-from-reads
-use Rattle.counter.proofs.joining.with_lines.Reads as with-lines-reads
-use Rattle.counter.proofs.joining.within.Reads as within-reads
 
 onward-from-requires : tie.Need-onward-from-requires
 onward-from-requires c κs = search needs

@@ -1,4 +1,5 @@
-use Prim.Native.Nat.{ℕ, _≤_, _-_}
+-- `joining::heads_through`: the heads below q are gathered.
+use Prim.Native.Nat.{_≤_, _-_}
 use native.Mathlib.Omega.{arith}
 use mathlib.Core.Path.{_≡_}
 use lib.ListN.{getD}
@@ -8,11 +9,6 @@ use borrow.Author.Needs.{needs}
 use Rattle.counter.proofs.Joins.{gathered-none, gathered-next}
 use Rattle.counter.proofs.joining.heads_through.Statement.{statement}
 use Rattle.counter.proofs.joining.heads_through.Tie as tie
-use Rattle.counter.proofs.joining.heads_through.Reads as reads
-use Rattle.counter.proofs.joining.heads_through.Lts as lts
-use Rattle.counter.proofs.joining.meeting.Reads as meeting-reads
-use Rattle.stateset.proofs.chosen.Reads as chosen-reads
-use Rattle.stateset.proofs.union.Reads as union-reads
 
 abbrev Inv-loop : tie.InvT-loop
 Inv-loop s a y n heads₀ q₀ heads q = (q ≤ n) × (heads ≡ word q (λ k. common s (getD a k 0) y))

@@ -1,12 +1,8 @@
+-- `joining::join`: reports of one size are joined, others refused.
 use Rattle.counter.proofs.Joins.{join-made, join-refused, sizes-fit}
 use borrow.Author.Needs.{needs}
 use Rattle.counter.proofs.joining.join.Statement.{statement}
 use Rattle.counter.proofs.joining.join.Tie as tie
-use Rattle.counter.proofs.joining.join.Reads as reads
-use Rattle.counter.proofs.joining.join.Lts as lts
-use Rattle.counter.proofs.joining.joined.Reads as joined-reads
-use Rattle.counter.proofs.joining.sizes_alike.Reads as sizes-alike-reads
-use Rattle.refusal.proofs.code.Reads as code-reads
 
 sizes-alike-requires : tie.Need-sizes-alike-requires
 sizes-alike-requires c κs = search needs

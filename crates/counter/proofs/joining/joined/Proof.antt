@@ -1,13 +1,8 @@
+-- `joining::joined`: the case that the two flags say.
 use Rattle.counter.proofs.Joins.{joined-whole, joined-opening, joined-ending, joined-across}
 use borrow.Author.Needs.{needs}
 use Rattle.counter.proofs.joining.joined.Statement.{statement}
 use Rattle.counter.proofs.joining.joined.Tie as tie
-use Rattle.counter.proofs.joining.joined.Reads as reads
-use Rattle.counter.proofs.joining.joined.Lts as lts
-use Rattle.counter.proofs.joining.across_join.Reads as across-join-reads
-use Rattle.counter.proofs.joining.ending_join.Reads as ending-join-reads
-use Rattle.counter.proofs.joining.opening_join.Reads as opening-join-reads
-use Rattle.counter.proofs.joining.whole_join.Reads as whole-join-reads
 
 whole-join-requires : tie.Need-whole-join-requires
 whole-join-requires c κs = search needs

@@ -1,11 +1,8 @@
+-- `joining::onward_from`: the image, cut to the states of the pattern.
 use Rattle.counter.proofs.Joins.{onward-made}
 use borrow.Author.Needs.{needs}
 use Rattle.counter.proofs.joining.onward_from.Statement.{statement}
 use Rattle.counter.proofs.joining.onward_from.Tie as tie
-use Rattle.counter.proofs.joining.onward_from.Reads as reads
-use Rattle.counter.proofs.joining.onward_from.Lts as lts
-use Rattle.counter.proofs.joining.within.Reads as within-reads
-use Rattle.stateset.proofs.image.Reads as image-reads
 
 within-requires : tie.Need-within-requires
 within-requires c κs = search needs

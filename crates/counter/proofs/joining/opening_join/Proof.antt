@@ -1,13 +1,8 @@
+-- `joining::opening_join`: heads by the left rows, all else of the right report.
 use Rattle.counter.proofs.Joins.{opening-made}
 use borrow.Author.Needs.{needs}
 use Rattle.counter.proofs.joining.opening_join.Statement.{statement}
 use Rattle.counter.proofs.joining.opening_join.Tie as tie
-use Rattle.counter.proofs.joining.opening_join.Reads as reads
-use Rattle.counter.proofs.joining.opening_join.Lts as lts
-use Rattle.counter.proofs.joining.closed_by.Reads as closed-by-reads
-use Rattle.counter.proofs.joining.heads_through.Reads as heads-through-reads
-use Rattle.counter.proofs.joining.with_lines.Reads as with-lines-reads
-use Rattle.counter.proofs.joining.within.Reads as within-reads
 
 heads-through-requires : tie.Need-heads-through-requires
 heads-through-requires c κs = search needs

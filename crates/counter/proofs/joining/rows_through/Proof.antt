@@ -1,16 +1,13 @@
-use Prim.Native.Nat.{ℕ, _≤_, _-_}
+-- `joining::rows_through`: the first q rows are those of the joined report, the others 0.
+use Prim.Native.Nat.{_≤_, _-_}
 use native.Mathlib.Omega.{arith}
 use mathlib.Core.Path.{_≡_}
 use lib.ListN.{getD}
 use Rattle.stateset.specs.Set.{word}
 use Rattle.counter.specs.Joins.{onwardBy}
-use borrow.Author.Needs.{needs}
 use Rattle.counter.proofs.Joins.{filled, filled-none, filled-more}
 use Rattle.counter.proofs.joining.rows_through.Statement.{statement}
 use Rattle.counter.proofs.joining.rows_through.Tie as tie
-use Rattle.counter.proofs.joining.rows_through.Reads as reads
-use Rattle.counter.proofs.joining.rows_through.Lts as lts
-use Rattle.counter.proofs.joining.onward_from.Reads as onward-from-reads
 
 abbrev Inv-loop : tie.InvT-loop
 Inv-loop s a b n rows₀ q₀ rows q = (q ≤ n) × (rows ≡ filled (λ k. word s (onwardBy s (getD a k 0) b)) q)

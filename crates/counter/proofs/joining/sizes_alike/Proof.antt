@@ -1,8 +1,7 @@
+-- `joining::sizes_alike`: the three tests, one after the other.
 use Rattle.counter.proofs.Joins.{sizes-differ, sizes-low, sizes-high}
 use Rattle.counter.proofs.joining.sizes_alike.Statement.{statement}
 use Rattle.counter.proofs.joining.sizes_alike.Tie as tie
-use Rattle.counter.proofs.joining.sizes_alike.Reads as reads
-use Rattle.counter.proofs.joining.sizes_alike.Lts as lts
 
 returns : tie.Need-returns
 returns c = search (sizes-differ)

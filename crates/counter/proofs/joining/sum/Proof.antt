@@ -1,9 +1,8 @@
+-- `joining::sum`: what is beyond the largest count stays so, and a sum that fits is counted.
 use Rattle.counter.proofs.Joins.{adds-left, adds-right, adds-over, adds-fits}
 use borrow.Author.Needs.{needs}
 use Rattle.counter.proofs.joining.sum.Statement.{statement}
 use Rattle.counter.proofs.joining.sum.Tie as tie
-use Rattle.counter.proofs.joining.sum.Reads as reads
-use Rattle.counter.proofs.joining.sum.Lts as lts
 
 returns : tie.Need-returns
 returns c = search (adds-left)

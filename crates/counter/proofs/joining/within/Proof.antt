@@ -1,9 +1,8 @@
+-- `joining::within`: a mask of s ones.
 use Rattle.counter.proofs.Joins.{shifted-some, masked}
 use borrow.Author.Needs.{needs}
 use Rattle.counter.proofs.joining.within.Statement.{statement}
 use Rattle.counter.proofs.joining.within.Tie as tie
-use Rattle.counter.proofs.joining.within.Reads as reads
-use Rattle.counter.proofs.joining.within.Lts as lts
 
 shl-result : tie.Need-shl-result
 shl-result c = search needs
