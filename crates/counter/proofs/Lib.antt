@@ -5,3 +5,5 @@ pub mod Testing
 pub mod Tallying
 pub mod Answering
 pub mod Joins
+pub mod PartLaws
+pub mod JoinLaw

@@ -1,6 +1,7 @@
 -- The counter: lines, answers, and what private functions promise each other.
 pub mod Lines
 pub mod Reports
+pub mod Counting
 pub mod Answers
 pub mod Steps
 pub mod Joins

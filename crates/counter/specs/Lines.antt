@@ -1,14 +1,19 @@
 -- Document 01, "Lines": the lines of a run, and how many of them match.
 use Prim.Native.Nat.{ℕ, _+_}
-use mathlib.Core.Bool.{Bool, cond}
+use mathlib.Core.Bool.{Bool, true, cond, _&&_}
 use mathlib.Core.List.{List, [], _∷_}
-use lib.Dec.{eqb}
+use lib.Dec.{leb, eqb}
 use Rattle.pattern.specs.Form.{Pattern}
 use Rattle.pattern.specs.Meaning.{matches}
 
 -- the line end, LF
 abbrev pub lineEnd : ℕ
 lineEnd = 10
+
+-- a run: "A key is a byte from 1 to 255"
+unfoldable pub isRun : List ℕ → Bool
+isRun [] = true
+isRun (c ∷ w) = (leb 1 c && leb c 255) && isRun w
 
 -- a key in front of the first line, or as a line of its own
 abbrev pub onto : ℕ → List (List ℕ) → List (List ℕ)

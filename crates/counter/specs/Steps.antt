@@ -1,10 +1,11 @@
 -- What private functions promise each other; no public contract cites these.
-use Prim.Native.Nat.{ℕ, _+_, _≤_}
+use Prim.Native.Nat.{ℕ, _+_, _-_, _≤_}
 use mathlib.Core.Path.{_≡_}
 use mathlib.Core.Bool.{Bool, true, false, cond, _&&_, _||_}
 use mathlib.Core.List.{List, [], _∷_, _++_}
-use lib.Dec.{eqb}
-use Rattle.stateset.specs.Set.{bit, word, anyBelow}
+use lib.Dec.{leb, eqb}
+use lib.ListN.{getD, take, replicate}
+use Rattle.stateset.specs.Set.{bit, word, anyBelow, countBelow}
 use Rattle.pattern.specs.Form.{Pattern, atomCount}
 use Rattle.pattern.specs.Sets.{lineKey, isLine}
 use Rattle.pattern.specs.Meaning.{matches}
@@ -16,7 +17,10 @@ use Rattle.pattern.specs.Automata.{keyTable, enterTable, accepts}
 use Rattle.counter.specs.declared.line.LineTest.{LineTest}
 use Rattle.counter.specs.declared.run.RunCount.{RunCount}
 use Rattle.counter.specs.declared.run.Tally.{Tally}
-use Rattle.counter.specs.Lines.{lineEnd}
+use Rattle.counter.specs.Lines.{lineEnd, isRun}
+use Rattle.counter.specs.Reports.{report}
+use Rattle.counter.specs.Counting.{sumBelow}
+use Rattle.counter.specs.declared.report.Report.{Report}
 use Rattle.counter.specs.Answers.{lineFigures, runFigures, lineResult, runResult}
 use Rattle.counter.specs.declared.moves.Closing.{Closing}
 
@@ -71,3 +75,16 @@ tallyAfter t w a k =
 pub record AfterKey (keys enter : List ℕ) (c : Closing) (a : Tally) (k : ℕ) (b : Tally) : Type 0 where
   pub small : b .lines + cond (b .pending) 1 0 ≤ a .lines + 1
   pub tallies : (t : Pattern) → Automaton t keys enter c → (w : List ℕ) → isLine w ≡ true → a .set ≡ reached t w → eqb k 0 ≡ false → b ≡ tallyAfter t w a k
+
+-- a report read back from its words
+abbrev pub loaded : ℕ → List ℕ → Report
+loaded s w = record { s = s; rows = take s w ++ replicate (32 - s) 0; flag = getD w s 0; heads = getD w (s + 1) 0; closed = getD w (s + 2) 0; tail = getD w (s + 3) 0 }
+
+-- the pairs of states that a report shows
+abbrev pub pairsIn : Report → ℕ
+pairsIn r = cond (eqb (r .flag) 0) (sumBelow (r .s) (λ q. countBelow 64 (bit (getD (r .rows) q 0)))) (countBelow 64 (bit (r .tail)))
+
+-- the report of a run with one key more
+pub record Extended (keys enter : List ℕ) (c : Closing) (a : Report) (k : ℕ) (b : Report) : Type 0 where
+  pub size : b .s ≡ a .s
+  pub extends : (t : Pattern) → Automaton t keys enter c → (w : List ℕ) → isRun w ≡ true → (leb 1 k && leb k 255) ≡ true → a ≡ report t w → b ≡ report t (w ++ (k ∷ []))

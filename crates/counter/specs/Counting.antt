@@ -1,0 +1,103 @@
+-- Document 01, "States and steps", "Reports" and "Refused": the count over a book, its steps and its work words.
+use Prim.Native.Nat.{ℕ, zero, suc, _+_, _*_}
+use mathlib.Core.Bool.{Bool, cond}
+use mathlib.Core.List.{List, [], _∷_, _++_}
+use lib.Dec.{leb, ltb}
+use lib.ListN.{length, getD, take, drop}
+use Rattle.refusal.specs.declared.Refusal.{Refusal}
+use Rattle.refusal.specs.declared.Refusal.the-variants.{NoSuchMacro, InsufficientSpace, CountOverflow}
+use Rattle.refusal.specs.Number.{number}
+use Rattle.stateset.specs.Set.{countBelow}
+use Rattle.book.specs.Format.{Macro}
+use Rattle.book.specs.Expansion.{expand, expansion}
+use Rattle.book.specs.Reading.{Reading, got, refused}
+use Rattle.pattern.specs.Form.{Pattern}
+use Rattle.pattern.specs.Moves.{states, leads}
+use Rattle.pattern.specs.Reader as Pattern
+use Rattle.counter.specs.declared.report.Report.{Report}
+use Rattle.counter.specs.Lines.{matching}
+use Rattle.counter.specs.Reports.{laterParts, lastPart, most, report}
+
+-- Steps.
+
+-- the sum of f over the numbers below n
+unfoldable pub sumBelow : ℕ → (ℕ → ℕ) → ℕ
+sumBelow zero f = 0
+sumBelow (suc n) f = sumBelow n f + f n
+
+-- "the pairs of states (q, p) such that the items before it in that macro lead from q to p", where w is the run of those items:
+-- "Before any LF in them q is every state; after one, q is line-start alone, moving since the last LF."
+abbrev pub pairsWith : Pattern → List ℕ → List (List ℕ) → ℕ
+pairsWith t w [] = sumBelow (states t) (λ q. countBelow (states t) (leads t q w))
+pairsWith t w (l ∷ ls) = countBelow (states t) (leads t 0 (lastPart l ls))
+
+unfoldable pub pairs : Pattern → List ℕ → ℕ
+pairs t w = pairsWith t w (laterParts w)
+
+-- the run of the first k items of a macro
+abbrev pub runOfFirst : List Macro → Macro → ℕ → List ℕ
+runOfFirst ms items k = expand (λ j. expansion ms j) (take k items)
+
+-- "Steps of macro m: over macros 0 to m, over each item, the pairs"
+unfoldable pub macroSteps : Pattern → List Macro → ℕ → ℕ
+macroSteps t ms i = sumBelow (length (getD ms i [])) (λ k. pairs t (runOfFirst ms (getD ms i []) k))
+
+unfoldable pub steps : Pattern → List Macro → ℕ → ℕ
+steps t ms m = sumBelow (suc m) (macroSteps t ms)
+
+-- "items is how many items macros 0 to m hold together"
+unfoldable pub itemsTo : List Macro → ℕ → ℕ
+itemsTo ms m = sumBelow (suc m) (λ i. length (getD ms i []))
+
+-- Work words.
+
+-- "A count needs (m + 1) × (s + 4) words (64 bits) of work space."
+abbrev pub needed : Pattern → ℕ → ℕ
+needed t m = suc m * (states t + 4)
+
+-- "rows, flag, heads, closed, tail"
+abbrev pub reportWords : Report → List ℕ
+reportWords r = take (r .s) (r .rows) ++ (r .flag ∷ r .heads ∷ r .closed ∷ r .tail ∷ [])
+
+-- the words of the reports of the first n macros
+unfoldable pub firstReports : Pattern → List Macro → ℕ → List ℕ
+firstReports t ms zero = []
+firstReports t ms (suc n) = firstReports t ms n ++ reportWords (report t (expansion ms n))
+
+-- "After it these first words hold the reports of macros 0 to m .. Later words are not touched."
+abbrev pub filled : Pattern → List Macro → ℕ → List ℕ → List ℕ
+filled t ms m work = firstReports t ms (suc m) ++ drop (needed t m) work
+
+-- The answer: the refusal's number, or 0 with the lines and the steps; and the work words.
+pub record Outcome : Type 0 where
+  pub refusal : ℕ
+  pub lines : ℕ
+  pub steps : ℕ
+  pub work : List ℕ
+
+-- "other lent memory is unchanged"
+abbrev pub stopped : Refusal → List ℕ → Outcome
+stopped r work = record { refusal = number r; lines = 0; steps = 0; work = work }
+
+abbrev pub finished : ℕ → ℕ → List ℕ → Outcome
+finished n k work = record { refusal = 0; lines = n; steps = k; work = work }
+
+-- 12: "over 2^64 − 1", which "leaves the reports written"
+abbrev pub countOf : Pattern → List Macro → ℕ → List ℕ → Outcome
+countOf t ms m work =
+    cond (leb (matching t (expansion ms m)) most)
+    (finished (matching t (expansion ms m)) (steps t ms m) (filled t ms m work))
+    (stopped CountOverflow (filled t ms m work))
+
+-- 10: "m not below M"; 11: "fewer words .. than stated"
+abbrev pub countWith : List Macro → Pattern → ℕ → List ℕ → Outcome
+countWith ms t m work =
+    cond (ltb m (length ms))
+    (cond (ltb (length work) (needed t m)) (stopped InsufficientSpace work) (countOf t ms m work))
+    (stopped NoSuchMacro work)
+
+-- "1 to 6 come in reading order, item by item; then 7; then 8 over the whole pattern; 9; 10; 11; 12."
+unfoldable pub countResult : Reading (List Macro) → Pattern.Read → ℕ → List ℕ → Outcome
+countResult (refused r) p m work = stopped r work
+countResult (got ms rest) (Pattern.refused r) m work = stopped r work
+countResult (got ms rest) (Pattern.accepted t) m work = countWith ms t m work
