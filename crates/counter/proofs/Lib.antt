@@ -7,3 +7,4 @@ pub mod Answering
 pub mod Joins
 pub mod PartLaws
 pub mod JoinLaw
+pub mod WordLaws

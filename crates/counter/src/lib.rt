@@ -4,6 +4,7 @@ mod line;
 mod moves;
 mod report;
 mod run;
+mod words;
 
 pub use joining::join;
 pub use line::LineTest;
