@@ -66,7 +66,7 @@ sum-shown m n x =
     (capped-cases m)
 
 -- a report with a line end has another flag than 0
-flag-set : (n : ℕ) → eqb (cond (leb n most) 1 2) 0 ≡ false
+pub flag-set : (n : ℕ) → eqb (cond (leb n most) 1 2) 0 ≡ false
 flag-set n = go (leb n most)
   where
     go : (b : Bool) → eqb (cond b 1 2) 0 ≡ false

@@ -8,3 +8,4 @@ pub mod Joins
 pub mod PartLaws
 pub mod JoinLaw
 pub mod WordLaws
+pub mod TotalLaws

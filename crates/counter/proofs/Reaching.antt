@@ -41,7 +41,7 @@ reached-none t = word-one 32 0 (omega arith)
 
 module _ (t : Pattern) (few : atomCount t ≤ 29) (w : List ℕ) where
   -- no key leads to a state that the pattern does not have
-  leads-high : (q : ℕ) → states t ≤ q → leads t 0 w q ≡ false
+  pub leads-high : (q : ℕ) → states t ≤ q → leads t 0 w q ≡ false
   leads-high q h = go (leads t 0 w q) refl
     where
       go : (b : Bool) → leads t 0 w q ≡ b → b ≡ false

@@ -12,15 +12,16 @@ use Rattle.pattern.specs.Meaning.{matches}
 use Rattle.pattern.specs.Reader.{accepted}
 use Rattle.pattern.specs.declared.automaton.Accepting.{Accepting}
 use Rattle.pattern.specs.States.{endsFree, atomWord}
-use Rattle.pattern.specs.Moves.{jumps, move, accepting, leads}
+use Rattle.pattern.specs.Moves.{states, jumps, move, accepting, leads}
 use Rattle.pattern.specs.Automata.{keyTable, enterTable, accepts}
 use Rattle.counter.specs.declared.line.LineTest.{LineTest}
 use Rattle.counter.specs.declared.run.RunCount.{RunCount}
 use Rattle.counter.specs.declared.run.Tally.{Tally}
-use Rattle.counter.specs.Lines.{lineEnd, isRun}
-use Rattle.counter.specs.Reports.{report}
+use Rattle.counter.specs.Lines.{lineEnd, isRun, matching}
+use Rattle.counter.specs.Reports.{most, report}
 use Rattle.counter.specs.Counting.{sumBelow}
 use Rattle.counter.specs.declared.report.Report.{Report}
+use Rattle.counter.specs.declared.total.Total.{Total}
 use Rattle.counter.specs.Answers.{lineFigures, runFigures, lineResult, runResult}
 use Rattle.counter.specs.declared.moves.Closing.{Closing}
 
@@ -88,3 +89,16 @@ pairsIn r = cond (eqb (r .flag) 0) (sumBelow (r .s) (λ q. countBelow 64 (bit (g
 pub record Extended (keys enter : List ℕ) (c : Closing) (a : Report) (k : ℕ) (b : Report) : Type 0 where
   pub size : b .s ≡ a .s
   pub extends : (t : Pattern) → Automaton t keys enter c → (w : List ℕ) → isRun w ≡ true → (leb 1 k && leb k 255) ≡ true → a ≡ report t w → b ≡ report t (w ++ (k ∷ []))
+
+-- a run's last part counts if it has a key and matches
+pub record LastLine (c : Closing) (tail n : ℕ) : Type 0 where
+  pub small : n ≤ 1
+  pub counts : (t : Pattern) → atomCount t ≤ 29 → c ≡ closingOf t → (l : List ℕ) → isLine l ≡ true → tail ≡ word (states t) (leads t 0 l) → n ≡ cond (isOpen l && matches t l) 1 0
+
+-- a count, or that there are more
+abbrev pub totalOf : ℕ → Total
+totalOf n = cond (leb n most) (Total.Lines n) Total.TooMany
+
+-- the count of a run that has a key, from its report
+unfoldable pub Totals : Closing → Report → Total → Type 0
+Totals c r x = (t : Pattern) → atomCount t ≤ 29 → c ≡ closingOf t → (w : List ℕ) → isRun w ≡ true → isOpen w ≡ true → r ≡ report t w → x ≡ totalOf (matching t w)

@@ -5,6 +5,7 @@ mod moves;
 mod report;
 mod run;
 mod words;
+mod total;
 
 pub use joining::join;
 pub use line::LineTest;

@@ -2,14 +2,15 @@
 use Prim.Native.Nat.{ℕ, _<_}
 use native.Mathlib.Omega.{arith}
 use mathlib.Core.Path.{_≡_, refl, sym, ap, _∙_}
-use mathlib.Core.Bool.{Bool, true, _&&_}
+use mathlib.Core.Bool.{Bool, true, false, _&&_, and-false}
 use mathlib.Core.List.{List, [], _∷_, _++_}
 use lib.Dec.{eqb}
 use borrow.Author.Tests.{eqb-true, eq-eqb}
 use Rattle.stateset.specs.Set.{anyBelow}
-use Rattle.stateset.proofs.Some.{and-both, and-fst, and-snd, tests-ext, any-some, any-witness, any-ext, any-through, any-at}
+use Rattle.stateset.proofs.Some.{and-both, and-fst, and-snd, tests-ext, any-some, any-witness, any-ext, any-none, any-through, any-at}
 use Rattle.pattern.specs.Form.{Pattern}
-use Rattle.pattern.specs.Moves.{states, move, accepting, leads, acceptedFrom}
+use Rattle.pattern.specs.Sets.{lineKey}
+use Rattle.pattern.specs.Moves.{states, target, move, accepting, leads, acceptedFrom}
 use Rattle.pattern.proofs.AcceptedLines.{move-below}
 
 module _ (t : Pattern) where
@@ -53,3 +54,10 @@ module _ (t : Pattern) where
       let n = any-witness (states t) (λ r. move t q c r && leads t r w p) l in
       let r = n .which in
       leads-below w r p (n .below) (and-snd (move t q c r) (leads t r w p) (n .has))
+
+  -- no key leads to line-start
+  pub leads-start : (w : List ℕ) (c q : ℕ) → leads t q (c ∷ w) 0 ≡ false
+  unfolding leads move target
+  leads-start [] c q = leads-one c q 0 ∙ and-false (lineKey c)
+  leads-start (d ∷ w) c q =
+      any-none (states t) (λ r. move t q c r && leads t r (d ∷ w) 0) (λ r. ap (λ (b : Bool). move t q c r && b) (leads-start w d r) ∙ and-false (move t q c r))

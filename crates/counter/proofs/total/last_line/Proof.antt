@@ -1,0 +1,27 @@
+use Rattle.counter.proofs.TotalLaws.{last-none, last-some}
+use borrow.Author.Needs.{needs}
+use Rattle.counter.proofs.total.last_line.Statement.{statement}
+use Rattle.counter.proofs.total.last_line.Tie as tie
+use Rattle.counter.proofs.total.last_line.Reads as reads
+use Rattle.counter.proofs.total.last_line.Lts as lts
+use Rattle.stateset.proofs.chosen.Reads as chosen-reads
+use Rattle.stateset.proofs.meets.Reads as meets-reads
+
+meets-requires : tie.Need-meets-requires
+meets-requires c κs = search needs
+
+returns : tie.Need-returns
+returns c = search (last-none)
+
+meets-requires-2 : tie.Need-meets-requires-2
+meets-requires-2 c κs = search needs
+
+chosen-requires : tie.Need-chosen-requires
+chosen-requires c κs = search needs
+
+returns-2 : tie.Need-returns-2
+returns-2 c = search (last-some)
+
+pub last-line-spec : {M : Type 1} → statement M
+last-line-spec =
+    tie.close (tie.spec meets-requires returns meets-requires-2 chosen-requires returns-2)
