@@ -34,13 +34,13 @@ pairsWith t w (l ∷ ls) = countBelow (states t) (leads t 0 (lastPart l ls))
 unfoldable pub pairs : Pattern → List ℕ → ℕ
 pairs t w = pairsWith t w (laterParts w)
 
--- the run of the first k items of a macro
-abbrev pub runOfFirst : List Macro → Macro → ℕ → List ℕ
-runOfFirst ms items k = expand (λ j. expansion ms j) (take k items)
+-- "over each item, the pairs", where `called` gives the runs of called macros
+unfoldable pub itemSteps : Pattern → (ℕ → List ℕ) → Macro → ℕ
+itemSteps t called items = sumBelow (length items) (λ k. pairs t (expand called (take k items)))
 
--- "Steps of macro m: over macros 0 to m, over each item, the pairs"
-unfoldable pub macroSteps : Pattern → List Macro → ℕ → ℕ
-macroSteps t ms i = sumBelow (length (getD ms i [])) (λ k. pairs t (runOfFirst ms (getD ms i []) k))
+-- "Steps of macro m: over macros 0 to m"
+abbrev pub macroSteps : Pattern → List Macro → ℕ → ℕ
+macroSteps t ms i = itemSteps t (λ j. expansion ms j) (getD ms i [])
 
 unfoldable pub steps : Pattern → List Macro → ℕ → ℕ
 steps t ms m = sumBelow (suc m) (macroSteps t ms)

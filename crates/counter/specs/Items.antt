@@ -1,0 +1,55 @@
+-- What the private functions of the count over a book promise each other; no public contract cites these.
+use Prim.Native.Nat.{ℕ, suc, _+_, _*_, _≤_}
+use mathlib.Core.Path.{_≡_}
+use mathlib.Core.Bool.{true, _&&_}
+use mathlib.Core.List.{List, [], _∷_, _++_, List·Memᴰ}
+use lib.Dec.{leb, eqb}
+use lib.ListN.{length, drop}
+use Rattle.book.specs.declared.item.Item.{Item}
+use Rattle.book.specs.declared.item.Item.the-variants.{Key, Call}
+use Rattle.book.specs.Expansion.{keysOf, expand}
+use Rattle.book.specs.Reading.{itemsOf}
+use Rattle.pattern.specs.Form.{Pattern}
+use Rattle.pattern.specs.Moves.{states}
+use Rattle.counter.specs.declared.items.MacroCount.{MacroCount}
+use Rattle.counter.specs.declared.moves.Closing.{Closing}
+use Rattle.counter.specs.declared.report.Report.{Report}
+use Rattle.counter.specs.Lines.{isRun}
+use Rattle.counter.specs.Reports.{unbroken, report}
+use Rattle.counter.specs.Counting.{itemSteps}
+use Rattle.counter.specs.Steps.{Automaton, loaded}
+
+-- the report of the empty run of a pattern with s states
+abbrev pub emptyReport : ℕ → Report
+emptyReport s = unbroken s (λ q p. eqb q p)
+
+-- the words of a called macro's report are there
+abbrev pub CallRoom : ℕ → Item → List ℕ → Type 0
+CallRoom s (Key k) work = Unit
+CallRoom s (Call j) work = suc j * (s + 4) ≤ length work
+
+pub record CallFits (s : ℕ) (item : Item) (work : List ℕ) : Type 0 where
+  pub small : s ≤ 32
+  pub room : CallRoom s item work
+
+-- and so for each call of a body, which has at most 64 items
+pub record CallsFit (s : ℕ) (body work : List ℕ) : Type 0 where
+  pub small : s ≤ 32
+  pub short : length body ≤ 128
+  pub room : (item : Item) → List·Memᴰ item (itemsOf body) → CallRoom s item work
+
+-- an item is a key, or a call whose run's report stands in the work words
+abbrev pub Served : Pattern → (ℕ → List ℕ) → List ℕ → Item → Type 0
+Served t called work (Key k) = (leb 1 k && leb k 255) ≡ true
+Served t called work (Call j) = (loaded (states t) (drop (j * (states t + 4)) work) ≡ report t (called j)) × (isRun (called j) ≡ true)
+
+-- the report of a run with the run of one item more
+pub record AfterItem (keys enter : List ℕ) (c : Closing) (work : List ℕ) (a : Report) (item : Item) (b : Report) : Type 0 where
+  pub size : b .s ≡ a .s
+  pub extends : (t : Pattern) → Automaton t keys enter c → (called : ℕ → List ℕ) (w : List ℕ) → isRun w ≡ true → Served t called work item → a ≡ report t w → b ≡ report t (w ++ keysOf called item)
+
+-- the report of the run of some items, and their steps; each item has at most 32 × 64 pairs
+pub record ItemsCounted (keys enter : List ℕ) (c : Closing) (work : List ℕ) (s : ℕ) (items : List Item) (r : MacroCount) : Type 0 where
+  pub size : r .report .s ≡ s
+  pub few : r .steps ≤ 131072
+  pub counts : (t : Pattern) → Automaton t keys enter c → s ≡ states t → (called : ℕ → List ℕ) → ((item : Item) → List·Memᴰ item items → Served t called work item) → (r .report ≡ report t (expand called items)) × (r .steps ≡ itemSteps t called items)
