@@ -9,3 +9,4 @@ pub mod PartLaws
 pub mod JoinLaw
 pub mod WordLaws
 pub mod TotalLaws
+pub mod Extending

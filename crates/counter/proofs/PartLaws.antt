@@ -95,7 +95,9 @@ module _ (l : List ℕ) (ls : List (List ℕ)) (v : List ℕ) where
   before-closed X e = rw e at (before-then X l ls v)
 
 -- The parts of a run are lines.
-key-of-line : (c : ℕ) → (leb 1 c && leb c 255) ≡ true → eqb lineEnd c ≡ false → lineKey c ≡ true
+
+-- a key of a run that is no line end
+pub key-of-line : (c : ℕ) → (leb 1 c && leb c 255) ≡ true → eqb lineEnd c ≡ false → lineKey c ≡ true
 key-of-line c k e =
     let other : eqb c lineEnd ≡ false = ne-eqb c lineEnd (λ s. eqb-false lineEnd c e (sym s)) in
     and-both (leb 1 c) (leb c 255 && not (eqb c lineEnd)) (and-fst (leb 1 c) (leb c 255) k)

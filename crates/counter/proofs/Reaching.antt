@@ -39,33 +39,44 @@ pub reached-none : (t : Pattern) → 1 ≡ reached t []
 unfolding reached leads
 reached-none t = word-one 32 0 (omega arith)
 
-module _ (t : Pattern) (few : atomCount t ≤ 29) (w : List ℕ) where
+-- from a state of the pattern
+module _ (t : Pattern) (few : atomCount t ≤ 29) (q : ℕ) (inside : q < states t) (w : List ℕ) where
   -- no key leads to a state that the pattern does not have
-  pub leads-high : (q : ℕ) → states t ≤ q → leads t 0 w q ≡ false
-  leads-high q h = go (leads t 0 w q) refl
+  pub leads-high : (p : ℕ) → states t ≤ p → leads t q w p ≡ false
+  leads-high p h = go (leads t q w p) refl
     where
-      go : (b : Bool) → leads t 0 w q ≡ b → b ≡ false
-      go true e = absurd (omega (arith, leads-below t w 0 q (omega arith) e))
+      go : (b : Bool) → leads t q w p ≡ b → b ≡ false
+      go true e = absurd (omega (arith, leads-below t w q p inside e))
       go false e = refl
 
-  wide : (X : ℕ → Bool) → anyBelow 32 (λ q. leads t 0 w q && X q) ≡ anyBelow (states t) (λ q. leads t 0 w q && X q)
-  wide X = any-widen (states t) 32 (λ q. leads t 0 w q && X q) (omega arith) (λ q h. rw (leads-high q h) refl)
+  wide : (X : ℕ → Bool) → anyBelow 32 (λ p. leads t q w p && X p) ≡ anyBelow (states t) (λ p. leads t q w p && X p)
+  wide X = any-widen (states t) 32 (λ p. leads t q w p && X p) (omega arith) (λ p h. rw (leads-high p h) refl)
 
   -- one key more
-  pub reached-more : (c : ℕ) → moved t (reached t w) c ≡ reached t (w ++ (c ∷ []))
-  unfolding moved reached
-  reached-more c =
-      word-ext 32 (λ p. anyBelow 32 (λ q. bit (word 32 (leads t 0 w)) q && move t q c p)) (leads t 0 (w ++ (c ∷ [])))
+  pub leads-more : (c : ℕ) → moved t (word 32 (leads t q w)) c ≡ word 32 (leads t q (w ++ (c ∷ [])))
+  unfolding moved
+  leads-more c =
+      word-ext 32 (λ p. anyBelow 32 (λ r. bit (word 32 (leads t q w)) r && move t r c p)) (leads t q (w ++ (c ∷ [])))
       (λ p h.
-      any-ext 32 (λ q. bit (word 32 (leads t 0 w)) q && move t q c p) (λ q. leads t 0 w q && move t q c p) (λ q i. ap (λ (b : Bool). b && move t q c p) (bit-word 32 (leads t 0 w) q i))
-      ∙ wide (λ q. move t q c p)
-      ∙ any-ext (states t) (λ q. leads t 0 w q && move t q c p) (λ q. leads t 0 w q && leads t q (c ∷ []) p) (λ q i. ap (λ (b : Bool). leads t 0 w q && b) (sym (leads-one t c q p)))
-      ∙ sym (leads-append t w (c ∷ []) 0 p (omega arith)))
+      any-ext 32 (λ r. bit (word 32 (leads t q w)) r && move t r c p) (λ r. leads t q w r && move t r c p) (λ r i. ap (λ (b : Bool). b && move t r c p) (bit-word 32 (leads t q w) r i))
+      ∙ wide (λ r. move t r c p)
+      ∙ any-ext (states t) (λ r. leads t q w r && move t r c p) (λ r. leads t q w r && leads t r (c ∷ []) p) (λ r i. ap (λ (b : Bool). leads t q w r && b) (sym (leads-one t c r p)))
+      ∙ sym (leads-append t w (c ∷ []) q p inside))
 
   -- the line is accepted
+  pub leads-accepts : common (word 32 (leads t q w)) (closingOf t .accepting) ≡ acceptedFrom t q w
+  unfolding acceptedFrom
+  leads-accepts = common-words 32 (leads t q w) (accepting t) (omega arith) ∙ wide (accepting t)
+
+-- the same from line-start
+module _ (t : Pattern) (few : atomCount t ≤ 29) (w : List ℕ) where
+  pub reached-more : (c : ℕ) → moved t (reached t w) c ≡ reached t (w ++ (c ∷ []))
+  unfolding reached
+  reached-more c = leads-more t few 0 (omega arith) w c
+
   pub reached-accepts : common (reached t w) (closingOf t .accepting) ≡ acceptedFrom t 0 w
-  unfolding reached acceptedFrom
-  reached-accepts = common-words 32 (leads t 0 w) (accepting t) (omega arith) ∙ wide (accepting t)
+  unfolding reached
+  reached-accepts = leads-accepts t few 0 (omega arith) w
 
 -- a set of states accepts exactly if the keys that lead to it match
 pub reached-matches : {t : Pattern} {keys enter : List ℕ} {c : Closing} → Automaton t keys enter c → (x : ℕ) (w : List ℕ) → x ≡ reached t w → isLine w ≡ true → common x (c .accepting) ≡ matches t w

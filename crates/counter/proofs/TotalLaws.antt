@@ -93,7 +93,7 @@ module _ (t : Pattern) (few : atomCount t ≤ 29) where
   tail-accepts l h = ap (λ (x : ℕ). common x (closingOf t .accepting)) narrow ∙ reached-accepts t few l ∙ states-match t l h
     where
       narrow : word (states t) (leads t 0 l) ≡ reached t l
-      narrow = word-wide (states t) 32 (leads t 0 l) (omega arith) (leads-high t few l)
+      narrow = word-wide (states t) 32 (leads t 0 l) (omega arith) (leads-high t few 0 (omega arith) l)
 
   -- and have left line-start exactly if it has a key
   pub tail-start : (l : List ℕ) → common (word (states t) (leads t 0 l)) 1 ≡ not (isOpen l)

@@ -3,7 +3,7 @@ use Prim.Native.Nat.{ℕ, _+_, _-_, _≤_}
 use mathlib.Core.Path.{_≡_}
 use mathlib.Core.Bool.{Bool, true, false, cond, _&&_, _||_}
 use mathlib.Core.List.{List, [], _∷_, _++_}
-use lib.Dec.{leb, eqb}
+use lib.Dec.{leb, ltb, eqb}
 use lib.ListN.{getD, take, replicate}
 use Rattle.stateset.specs.Set.{bit, word, anyBelow, countBelow}
 use Rattle.pattern.specs.Form.{Pattern, atomCount}
@@ -11,7 +11,7 @@ use Rattle.pattern.specs.Sets.{lineKey, isLine}
 use Rattle.pattern.specs.Meaning.{matches}
 use Rattle.pattern.specs.Reader.{accepted}
 use Rattle.pattern.specs.declared.automaton.Accepting.{Accepting}
-use Rattle.pattern.specs.States.{endsFree, atomWord}
+use Rattle.pattern.specs.States.{endsFree, atomWord, tabled}
 use Rattle.pattern.specs.Moves.{states, jumps, move, accepting, leads}
 use Rattle.pattern.specs.Automata.{keyTable, enterTable, accepts}
 use Rattle.counter.specs.declared.line.LineTest.{LineTest}
@@ -47,6 +47,10 @@ Closes a c = (t : Pattern) → a ≡ accepts t → c ≡ closingOf t
 -- a set of states moves on a key of a line
 unfoldable pub Advances : List ℕ → List ℕ → Closing → ℕ → ℕ → ℕ → Type 0
 Advances keys enter c x k y = (t : Pattern) → Automaton t keys enter c → lineKey k ≡ true → y ≡ moved t x k
+
+-- the first s rows move so, and there are no others
+unfoldable pub AdvancesRows : List ℕ → List ℕ → Closing → List ℕ → ℕ → ℕ → List ℕ → Type 0
+AdvancesRows keys enter c rows s k r = (t : Pattern) → Automaton t keys enter c → lineKey k ≡ true → r ≡ tabled (λ q. cond (ltb q s) (moved t (getD rows q 0) k) 0) 32 0
 
 -- the states that the keys of w lead to from line-start
 unfoldable pub reached : Pattern → List ℕ → ℕ
@@ -102,3 +106,7 @@ totalOf n = cond (leb n most) (Total.Lines n) Total.TooMany
 -- the count of a run that has a key, from its report
 unfoldable pub Totals : Closing → Report → Total → Type 0
 Totals c r x = (t : Pattern) → atomCount t ≤ 29 → c ≡ closingOf t → (w : List ℕ) → isRun w ≡ true → isOpen w ≡ true → r ≡ report t w → x ≡ totalOf (matching t w)
+
+-- the report of a run with one line end more, whatever the tables
+unfoldable pub Ended : Closing → Report → Report → Type 0
+Ended c a b = (keys enter : List ℕ) → Extended keys enter c a lineEnd b

@@ -1,5 +1,7 @@
 // The counter of document 01: the one-line test, the count over a plain run, and the joining of reports.
 mod joining;
+// The counter of document 01: the one-line test and the count over a plain run.
+mod extend;
 mod line;
 mod moves;
 mod report;
