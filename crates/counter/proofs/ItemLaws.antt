@@ -4,7 +4,7 @@ use native.Mathlib.Omega.{arith}
 use native.Mathlib.Numerals.{add-one}
 use mathlib.Core.Path.{_≡_, refl, sym, ap, _∙_}
 use mathlib.Core.Bool.{Bool, true, false, cond, _&&_}
-use mathlib.Core.List.{List, [], _∷_, _++_, append-assoc, append-nil, List·Memᴰ, Memᴰ·append-right}
+use mathlib.Core.List.{List, [], _∷_, _++_, append-assoc, append-nil, List·Memᴰ, List·Memᴰ·head, Memᴰ·append-right}
 use lib.Dec.{leb, eqb}
 use lib.ListN.{length, getD, take, drop, length-append, length-drop}
 use lib.Seq.{take-append-le, take-append-seam}
@@ -20,22 +20,28 @@ use Rattle.book.specs.Expansion.{keysOf, expand}
 use Rattle.book.specs.Reading.{itemAt, itemsOf}
 use Rattle.book.proofs.Items.{found-long, items-on-found, items-on-short, items-end}
 use Rattle.pattern.specs.Form.{Pattern, atomCount}
+use Rattle.pattern.specs.Meaning.{matches}
 use Rattle.pattern.specs.Moves.{states, leads}
 use Rattle.counter.specs.declared.items.MacroCount.{MacroCount}
 use Rattle.counter.specs.declared.moves.Closing.{Closing}
 use Rattle.counter.specs.declared.report.Report.{Report}
-use Rattle.counter.specs.Lines.{isRun}
-use Rattle.counter.specs.Reports.{laterParts, rowsOf, unbroken, broken, reportWith, report, joinedWith, joinedReports}
+use Rattle.counter.specs.Lines.{isRun, countIn}
+use Rattle.counter.specs.Reports.{laterParts, lastPart, partsBefore, rowsOf, unbroken, broken, reportWith, report, joinedWith, joinedReports}
 use Rattle.counter.specs.Counting.{sumBelow, pairsWith, pairs, itemSteps}
 use Rattle.counter.specs.Steps.{Automaton, Extended, loaded, pairsIn}
 use Rattle.counter.specs.Items.{emptyReport, CallRoom, CallFits, CallsFit, Served, AfterItem, ItemsCounted}
 use Rattle.counter.proofs.JoinLaw.{row-of, flag-set, join-reports}
+use Rattle.counter.proofs.Joins.{shifted}
 use Rattle.counter.proofs.WordLaws.{sizes-le, sum-more}
 
 -- the empty run
 pub empty-is : (t : Pattern) → emptyReport (states t) ≡ report t []
 unfolding report laterParts leads
 empty-is t = refl
+
+-- its rows: each state is reached from itself
+pub own-row : (s q : ℕ) → q < s → s ≤ 32 → 1 * 2 ^ q % 2 ^ 64 ≡ word s (λ p. eqb q p)
+own-row s q h l = shifted q (omega arith) ∙ word-one s q h
 
 -- the number of states of a report
 pub report-size : (t : Pattern) (w : List ℕ) → report t w .s ≡ states t
@@ -68,8 +74,10 @@ unfolding report pairs
 pairs-of t few w = go (laterParts w)
   where
     go : (ls : List (List ℕ)) → pairsIn (reportWith t w ls) ≡ pairsWith t w ls
-    go [] = ?
-    go (l ∷ ls) = ?
+    go [] =
+        sum-ext (states t) (λ q. countBelow 64 (bit (getD (rowsOf (states t) (λ q p. leads t q w p)) q 0))) (λ q. countBelow (states t) (leads t q w))
+        (λ q h. ap (λ (x : ℕ). countBelow 64 (bit x)) (row-of (states t) (λ q p. leads t q w p) q h (omega arith)) ∙ count-word (states t) (leads t q w) (omega arith))
+    go (l ∷ ls) = rw (flag-set (countIn (matches t) (partsBefore l ls))) (count-word (states t) (leads t 0 (lastPart l ls)) (omega arith))
 
 -- and no more than 32 × 64
 pub pairs-le : (r : Report) → r .s ≤ 32 → pairsIn r ≤ 2048
@@ -93,4 +101,114 @@ expand-more called (j ∷ is) i = ap (λ (l : List ℕ). keysOf called j ++ l) (
 -- the steps of one item more
 pub steps-more : (t : Pattern) (called : ℕ → List ℕ) (is : List Item) (i : Item) → itemSteps t called (is ++ (i ∷ [])) ≡ itemSteps t called is + pairs t (expand called is)
 unfolding itemSteps
-steps-more t called is i = ?
+steps-more t called is i =
+    ap (λ (n : ℕ). sumBelow n (λ k. pairs t (expand called (take k (is ++ (i ∷ [])))))) (length-append is (i ∷ []))
+    ∙ sum-more (length is) (λ k. pairs t (expand called (take k (is ++ (i ∷ [])))))
+    ∙ both
+    (sum-ext (length is) (λ k. pairs t (expand called (take k (is ++ (i ∷ []))))) (λ k. pairs t (expand called (take k is)))
+    (λ k h. ap (λ (l : List Item). pairs t (expand called l)) (take-append-le k is (i ∷ []) (omega arith))))
+    (ap (λ (l : List Item). pairs t (expand called l)) (take-append-seam is (i ∷ [])))
+  where
+    both : {a b c d : ℕ} → a ≡ b → c ≡ d → a + c ≡ b + d
+    both e f = rw (e, f)
+
+-- One item more.
+module _ {keys enter : List ℕ} {c : Closing} {work : List ℕ} {a : Report} {item : Item} where
+  pub item-key : {k : ℕ} {b : Report} → item ≡ Key k → Extended keys enter c a k b → AfterItem keys enter c work a item b
+  item-key i g = rw i (record { size = g .size; extends = λ t h called w run served e. g .extends t h w run served e })
+
+  pub item-call : {j : ℕ} {d b : Report} → item ≡ Call j → d ≡ loaded (a .s) (drop (j * (a .s + 4)) work) → b ≡ joinedReports a d → AfterItem keys enter c work a item b
+  item-call {j} {d} {b} i f g =
+      rw i
+      (record {
+        size = ap (λ (x : Report). x .s) g ∙ joined-size a d;
+        extends = λ t h called w run served e.
+          let same : a .s ≡ states t = ap (λ (x : Report). x .s) e ∙ report-size t w in
+          let there : d ≡ report t (called j) = f ∙ rw same (served .0) in
+          g ∙ rw (e, there) (join-reports t (h .few) w (called j) run (served .1));
+      })
+
+-- the words of a call's report are there
+pub call-room : {s j : ℕ} {item : Item} {work : List ℕ} → item ≡ Call j → CallFits s item work → suc j * (s + 4) ≤ length work
+call-room i f = rw i at (f .room)
+
+-- the run of an item
+run-of-item : (t : Pattern) (called : ℕ → List ℕ) (work : List ℕ) (i : Item) → Served t called work i → isRun (keysOf called i) ≡ true
+unfolding isRun
+run-of-item t called work (Key k) h = and-both (leb 1 k && leb k 255) true h refl
+run-of-item t called work (Call j) h = h .1
+
+-- All items.
+pub record ItemsSoFar (keys enter : List ℕ) (c : Closing) (work : List ℕ) (s : ℕ) (body : List ℕ) (a : Report) (n at : ℕ) : Type 0 where
+  pub size : a .s ≡ s
+  pub inside : at ≤ length body
+  pub few : n ≤ at * 1024
+  pub done : List Item
+  pub whole : done ++ itemsOf (drop at body) ≡ itemsOf body
+  pub counts : (t : Pattern) → Automaton t keys enter c → s ≡ states t → (called : ℕ → List ℕ) → ((item : Item) → List·Memᴰ item (itemsOf body) → Served t called work item) → (a ≡ report t (expand called done)) × (isRun (expand called done) ≡ true) × (n ≡ itemSteps t called done)
+
+module _ {keys enter : List ℕ} {c : Closing} {work : List ℕ} {s : ℕ} {body : List ℕ} where
+  pub items-start : {a : Report} → a ≡ emptyReport s → ItemsSoFar keys enter c work s body a 0 0
+  unfolding expand itemSteps sumBelow isRun
+  items-start {a} e =
+      record {
+        size = ap (λ (x : Report). x .s) e;
+        inside = omega arith;
+        few = omega arith;
+        done = [];
+        whole = refl;
+        counts = λ t h i called served. (e ∙ ap emptyReport i ∙ empty-is t, refl, refl);
+      }
+
+  module _ {a : Report} {n at : ℕ} (x : ItemsSoFar keys enter c work s body a n at) where
+    module _ {r : ItemRead} {i : Item} (e : r ≡ itemAt (drop at body)) (f : r ≡ Found i) where
+      next : itemsOf (drop at body) ≡ i ∷ itemsOf (drop (at + 2) body)
+      next = items-on-found body at r e i f
+
+      long : at + 2 ≤ length body
+      long = omega (arith, found-long (drop at body) i (sym e ∙ f), length-drop at body)
+
+      among : List·Memᴰ i (itemsOf body)
+      among = rw (x .whole) at (Memᴰ·append-right (x .done) here)
+        where
+          here : List·Memᴰ i (itemsOf (drop at body))
+          here = rw next (List·Memᴰ·head refl)
+
+      pub item-fits : CallsFit s body work → CallFits (a .s) i work
+      item-fits g = record { small = rw (x .size) (g .small); room = rw (x .size) (g .room i among) }
+
+      pub items-on : {p : ℕ} {b : Report} → CallsFit s body work → p ≡ pairsIn a → AfterItem keys enter c work a i b → ItemsSoFar keys enter c work s body b (n + p) (at + 2)
+      items-on {p} {b} g h k =
+          record {
+            size = k .size ∙ x .size;
+            inside = long;
+            few = omega (arith, x .few, h, pairs-le a (rw (x .size) (g .small)));
+            done = x .done ++ (i ∷ []);
+            whole = append-assoc (x .done) (i ∷ []) (itemsOf (drop (at + 2) body)) ∙ ap (λ (l : List Item). x .done ++ l) (sym next) ∙ x .whole;
+            counts = λ t d j called served.
+              let before = x .counts t d j called served in
+              let w = expand called (x .done) in
+              let this = served i among in (
+                k .extends t d called w (before .1) this (before .0) ∙ ap (report t) (sym (expand-more called (x .done) i)),
+                rw (expand-more called (x .done) i) (run-append w (keysOf called i) (before .1) (run-of-item t called work i this)),
+                sym (steps-more t called (x .done) i ∙ ap (λ (m : ℕ). m + pairs t w) (sym (before .2)) ∙ ap (λ (m : ℕ). n + m) (sym (h ∙ ap pairsIn (before .0) ∙ pairs-of t (d .few) w))),
+              );
+          }
+
+    -- all items are read
+    items-all : CallsFit s body work → itemsOf (drop at body) ≡ [] → ItemsCounted keys enter c work s (itemsOf body) (record { report = a; steps = n })
+    items-all g e =
+        let all : x .done ≡ itemsOf body = sym (append-nil (x .done)) ∙ ap (λ (l : List Item). x .done ++ l) (sym e) ∙ x .whole in
+        record {
+          size = x .size;
+          few = omega (arith, x .few, x .inside, g .short);
+          counts = λ t d j called served.
+            let r = x .counts t d j called served in
+            (r .0 ∙ ap (λ (l : List Item). report t (expand called l)) all, r .2 ∙ ap (itemSteps t called) all);
+        }
+
+    pub items-short : {r : ItemRead} → CallsFit s body work → r ≡ itemAt (drop at body) → r ≡ Short → ItemsCounted keys enter c work s (itemsOf body) (record { report = a; steps = n })
+    items-short {r} g e f = items-all g (items-on-short body at r e f)
+
+    pub items-stop : CallsFit s body work → length body ≤ at → ItemsCounted keys enter c work s (itemsOf body) (record { report = a; steps = n })
+    items-stop g h = items-all g (items-end body at h)

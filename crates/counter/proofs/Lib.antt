@@ -10,3 +10,4 @@ pub mod JoinLaw
 pub mod WordLaws
 pub mod TotalLaws
 pub mod Extending
+pub mod ItemLaws

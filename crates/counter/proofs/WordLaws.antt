@@ -105,7 +105,7 @@ stored-all old at r {work} e p l =
 -- Counting members.
 
 -- one number more to sum over
-sum-more : (n : ℕ) (f : ℕ → ℕ) → sumBelow (n + 1) f ≡ sumBelow n f + f n
+pub sum-more : (n : ℕ) (f : ℕ → ℕ) → sumBelow (n + 1) f ≡ sumBelow n f + f n
 unfolding sumBelow
 sum-more n f = rw add-one
 
@@ -114,7 +114,7 @@ abbrev pub sizesOf : List ℕ → ℕ → ℕ
 sizesOf rows n = sumBelow n (λ q. countBelow 64 (bit (getD rows q 0)))
 
 -- a row has no more than 64 members
-sizes-le : (rows : List ℕ) (n : ℕ) → sizesOf rows n ≤ 64 * n
+pub sizes-le : (rows : List ℕ) (n : ℕ) → sizesOf rows n ≤ 64 * n
 unfolding sumBelow
 sizes-le rows zero = omega arith
 sizes-le rows (suc n) = omega (arith, sizes-le rows n, count-le 64 (bit (getD rows n 0)))

@@ -173,7 +173,7 @@ fn across_join(a: Report, b: Report) -> Report
     with_lines(a.s, within(a.s, a.heads), closed, within(a.s, b.tail))
 }
 
-fn joined(a: Report, b: Report) -> Report
+pub(crate) fn joined(a: Report, b: Report) -> Report
     requires { ⌜ a .s ≤ 32 ⌝ }
     ensures { λ r. ⌜ r ≡ joinedReports a b ⌝ }
 {

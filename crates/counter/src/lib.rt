@@ -1,13 +1,13 @@
-// The counter of document 01: the one-line test, the count over a plain run, and the joining of reports.
-mod joining;
-// The counter of document 01: the one-line test and the count over a plain run.
+// The counter of document 01: the one-line test, the count over a plain run, reports and their joining.
 mod extend;
+mod items;
+mod joining;
 mod line;
 mod moves;
 mod report;
 mod run;
-mod words;
 mod total;
+mod words;
 
 pub use joining::join;
 pub use line::LineTest;
