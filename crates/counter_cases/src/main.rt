@@ -1,0 +1,10 @@
+// Cases from standard input, each a pattern with a line or a run, through the counter: what it answers to each.
+mod cases;
+mod show;
+
+fn main() {
+    // The cases are longer than `io::large_buffer`.
+    let mut space = [0; 131072];
+    let n = io::read_full(libc::STDIN_FILENO, &mut space);
+    cases::all(&space[..n]);
+}
