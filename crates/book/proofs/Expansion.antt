@@ -43,6 +43,16 @@ sound-nonempty [] n h i l = absurd (omega arith)
 sound-nonempty (m ∷ ms) n h zero l = macros-parts n m ms h .0
 sound-nonempty (m ∷ ms) n h (suc i) l = sound-nonempty ms (suc n) (macros-parts n m ms h .2) i (omega arith)
 
+-- and no more than 64
+sound-short : (ms : List Macro) (n : ℕ) → soundMacros n ms ≡ true → (i : ℕ) → length (getD ms i []) ≤ 64
+unfolding soundMacros soundMacro
+sound-short [] n h i = omega arith
+sound-short (m ∷ ms) n h zero =
+    let p = and-eq-true-iff (soundMacro n m) (soundMacros (suc n) ms) .0 h in
+    let q = and-eq-true-iff (leb 1 (length m)) (leb (length m) 64 && soundItems n m) .0 (p .0) in
+    leb-true (length m) 64 (and-eq-true-iff (leb (length m) 64) (soundItems n m) .0 (q .1) .0)
+sound-short (m ∷ ms) n h (suc i) = sound-short ms (suc n) (macros-parts n m ms h .2) i
+
 -- a sound book is a sound list of macros, numbered from 0
 well-macros : (ms : List Macro) → wellFormed ms ≡ true → soundMacros 0 ms ≡ true
 unfolding wellFormed
@@ -58,6 +68,9 @@ well-items ms h i = rw zero-add at (sound-items ms 0 (well-macros ms h) i)
 -- and each of its macros has an item
 pub well-nonempty : (ms : List Macro) → wellFormed ms ≡ true → (i : ℕ) → i < length ms → 1 ≤ length (getD ms i [])
 well-nonempty ms h = sound-nonempty ms 0 (well-macros ms h)
+
+pub well-short : (ms : List Macro) → wellFormed ms ≡ true → (i : ℕ) → length (getD ms i []) ≤ 64
+well-short ms h = sound-short ms 0 (well-macros ms h)
 
 -- what sound items have: a sound first one, and sound others
 items-parts : (n : ℕ) (i : Item) (is : List Item) → soundItems n (i ∷ is) ≡ true → (soundItem n i ≡ true) × (soundItems n is ≡ true)
@@ -149,3 +162,13 @@ module _ (ms : List Macro) (well : wellFormed ms ≡ true) where
   pub expansion-keys : (m k : ℕ) → List·Memᴰ k (expansion ms m) → (1 ≤ k) × (k ≤ 255)
   unfolding expansion
   expansion-keys m k c = expandTo-keys (suc m) m k c
+
+-- each item of a macro is sound for it
+item-sound : (n : ℕ) {i : Item} (is : List Item) → soundItems n is ≡ true → List·Memᴰ i is → soundItem n i ≡ true
+item-sound n [] h m = absurd (List·Memᴰ·not-nil m)
+item-sound n (j ∷ is) h m = ⊎-elim (λ e. rw e (items-parts n j is h .0)) (λ l. item-sound n is (items-parts n j is h .1) l) (List·Memᴰ·cases-cons m)
+
+-- so each key is one from 1 to 255
+pub well-key : (ms : List Macro) → wellFormed ms ≡ true → (i : ℕ) {k : ℕ} → List·Memᴰ (Key k) (getD ms i []) → (leb 1 k && leb k 255) ≡ true
+unfolding soundItem
+well-key ms h i m = item-sound i (getD ms i []) (well-items ms h i) m

@@ -150,6 +150,7 @@ gathered-next X q h w b v r = rw (r, v, b, w, shifted q (omega arith)) (gathered
 
 -- Closed lines.
 
+-- a count within the largest, and one beyond it
 few : (n : ℕ) → n ≤ most → closedOf n ≡ record { flag = 1; lines = n }
 few n h = rw (le-leb n most h) refl
 
@@ -184,11 +185,12 @@ beyond a m e f = go (leb m most) refl
     go false i = leb-false m most i
 
 module _ (a b : Closed) where
-  -- a count beyond the largest stays so
+  -- a left count beyond the largest stays so
   pub adds-left : (a .flag ≡ 1 → ⊥) → Adds a b a
   unfolding Adds
   adds-left f m n e g = let h = beyond a m e f in e ∙ many m h ∙ sym (many (m + n) (omega arith))
 
+  -- the right count, too
   pub adds-right : (b .flag ≡ 1 → ⊥) → Adds a b b
   unfolding Adds
   adds-right f m n e g = let h = beyond b n g f in g ∙ many n h ∙ sym (many (m + n) (omega arith))
@@ -235,39 +237,46 @@ module _ (a b : Report) where
       let y = closedBy (b .flag) (b .closed) in
       rw (r, t, h, q (x + y) n (p x y c d) f, i, m) refl
 
-  -- which case it is, by the flags
+  -- neither flag is set
   pub joined-whole : {r : Report} → a .flag ≡ 0 → b .flag ≡ 0 → r ≡ wholeJoin a b → r ≡ joinedReports a b
   unfolding joinedReports
   joined-whole f g r = rw (eq-eqb (a .flag) 0 f, eq-eqb (b .flag) 0 g) r
 
+  -- the right flag alone is set
   pub joined-opening : {r : Report} → a .flag ≡ 0 → (b .flag ≡ 0 → ⊥) → r ≡ openingJoin a b → r ≡ joinedReports a b
   unfolding joinedReports
   joined-opening f g r = rw (eq-eqb (a .flag) 0 f, ne-eqb (b .flag) 0 g) r
 
+  -- the left flag alone is set
   pub joined-ending : {r : Report} → (a .flag ≡ 0 → ⊥) → b .flag ≡ 0 → r ≡ endingJoin a b → r ≡ joinedReports a b
   unfolding joinedReports
   joined-ending f g r = rw (ne-eqb (a .flag) 0 f, eq-eqb (b .flag) 0 g) r
 
+  -- both flags are set
   pub joined-across : {r : Report} → (a .flag ≡ 0 → ⊥) → (b .flag ≡ 0 → ⊥) → r ≡ acrossJoin a b → r ≡ joinedReports a b
   unfolding joinedReports
   joined-across f g r = rw (ne-eqb (a .flag) 0 f, ne-eqb (b .flag) 0 g) r
 
-  -- reports of one size are joined, others refused
+  -- reports of one size are joined
   pub join-made : {t : Bool} {r : Report} → t ≡ alike a b → not t ≡ false → r ≡ joinedReports a b → record { refused = 0; report = r } ≡ joinResult a b
   join-made {t = u} t e r = rw (← t, not-false u e, r) refl
 
+  -- reports of sizes that differ, or of no pattern's size, are refused
   pub join-refused : {t : Bool} {n : ℕ} → t ≡ alike a b → not t ≡ true → n ≡ 13 → record { refused = n; report = noReport } ≡ joinResult a b
   join-refused {t = u} t e n = rw (← t, not-true u e, n) refl
 
 -- The numbers of states.
 
 module _ (s t : ℕ) where
+  -- two sizes that differ
   pub sizes-differ : (s ≡ t → ⊥) → false ≡ (eqb s t && (leb 3 s && leb s 32))
   sizes-differ f = rw (ne-eqb s t f) refl
 
+  -- a size under the three fixed states
   pub sizes-low : s ≡ t → s < 3 → false ≡ (eqb s t && (leb 3 s && leb s 32))
   sizes-low e h = rw (eq-eqb s t e, lt-leb 3 s h) refl
 
+  -- a size that only the upper limit is left to tell
   pub sizes-high : s ≡ t → 3 ≤ s → leb s 32 ≡ (eqb s t && (leb 3 s && leb s 32))
   sizes-high e h = rw (eq-eqb s t e, le-leb 3 s h) refl
 

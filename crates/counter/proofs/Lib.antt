@@ -11,3 +11,4 @@ pub mod WordLaws
 pub mod TotalLaws
 pub mod Extending
 pub mod ItemLaws
+pub mod FillLaws

@@ -7,6 +7,8 @@ use lib.Dec.{leb, eqb}
 use lib.ListN.{length, drop}
 use Rattle.book.specs.declared.item.Item.{Item}
 use Rattle.book.specs.declared.item.Item.the-variants.{Key, Call}
+use Rattle.book.specs.Format.{Macro}
+use Rattle.book.specs.Steps.{Located}
 use Rattle.book.specs.Expansion.{keysOf, expand}
 use Rattle.book.specs.Reading.{itemsOf}
 use Rattle.pattern.specs.Form.{Pattern}
@@ -16,7 +18,7 @@ use Rattle.counter.specs.declared.moves.Closing.{Closing}
 use Rattle.counter.specs.declared.report.Report.{Report}
 use Rattle.counter.specs.Lines.{isRun}
 use Rattle.counter.specs.Reports.{unbroken, report}
-use Rattle.counter.specs.Counting.{itemSteps}
+use Rattle.counter.specs.Counting.{itemSteps, steps, filled}
 use Rattle.counter.specs.Steps.{Automaton, loaded}
 
 -- the report of the empty run of a pattern with s states
@@ -53,3 +55,14 @@ pub record ItemsCounted (keys enter : List ℕ) (c : Closing) (work : List ℕ) 
   pub size : r .report .s ≡ s
   pub few : r .steps ≤ 131072
   pub counts : (t : Pattern) → Automaton t keys enter c → s ≡ states t → (called : ℕ → List ℕ) → ((item : Item) → List·Memᴰ item items → Served t called work item) → (r .report ≡ report t (expand called items)) × (r .steps ≡ itemSteps t called items)
+
+-- macro i of a book whose layout has these offsets, with room for the reports of the macros below it
+pub record MacroFits (book offsets : List ℕ) (i s : ℕ) (work : List ℕ) : Type 0 where
+  pub located : Located book offsets i
+  pub small : s ≤ 32
+  pub room : i * (s + 4) ≤ length work
+
+-- the reports of macros 0 to m stand in the work words, and their steps were counted
+pub record Filled (keys enter : List ℕ) (c : Closing) (ms : List Macro) (m s : ℕ) (before after : List ℕ) (n : ℕ) : Type 0 where
+  pub long : length after ≡ length before
+  pub counts : (t : Pattern) → Automaton t keys enter c → s ≡ states t → (after ≡ filled t ms m before) × (n ≡ steps t ms m)

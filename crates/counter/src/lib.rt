@@ -1,4 +1,5 @@
 // The counter of document 01: the one-line test, the count over a plain run, reports and their joining.
+mod counting;
 mod extend;
 mod items;
 mod joining;
