@@ -242,12 +242,12 @@ module _ {keys enter : List ℕ} {c : Closing} {book offsets : List ℕ} {m s : 
         long = l ∙ x .long;
         few = omega (arith, x .few, h .few);
         counts = λ t d j.
-          let ms = macrosIn book in
-          let well : wellFormed ms ≡ true = well-in book m (g .located .inside) in
-          let done = x .counts t d j in
-          let one = h .counts t d j (λ k. expansion ms k) (served t (d .few) ms well i work (drop (i * (s + 4)) before) (done .0)) in
-          let whole : a .report ≡ report t (expansion ms i) = one .0 ∙ ap (report t) (sym (expansion-law ms well i)) in
-          (next t (d .few) j (done .0) whole, ap (λ (k : ℕ). k + a .steps) (done .1) ∙ ap (λ (k : ℕ). sumBelow i (macroSteps t ms) + k) (one .1) ∙ sym (sum-more i (macroSteps t ms)));
+            let ms = macrosIn book in
+            let well : wellFormed ms ≡ true = well-in book m (g .located .inside) in
+            let done = x .counts t d j in
+            let one = h .counts t d j (λ k. expansion ms k) (served t (d .few) ms well i work (drop (i * (s + 4)) before) (done .0)) in
+            let whole : a .report ≡ report t (expansion ms i) = one .0 ∙ ap (report t) (sym (expansion-law ms well i)) in
+            (next t (d .few) j (done .0) whole, ap (λ (k : ℕ). k + a .steps) (done .1) ∙ ap (λ (k : ℕ). sumBelow i (macroSteps t ms) + k) (one .1) ∙ sym (sum-more i (macroSteps t ms)));
       }
     where
       next : (t : Pattern) → atomCount t ≤ 29 → s ≡ states t → work ≡ firstReports t (macrosIn book) i ++ drop (i * (s + 4)) before → a .report ≡ report t (expansion (macrosIn book) i) → after ≡ firstReports t (macrosIn book) (i + 1) ++ drop ((i + 1) * (s + 4)) before

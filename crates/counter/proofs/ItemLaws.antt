@@ -123,9 +123,9 @@ module _ {keys enter : List ℕ} {c : Closing} {work : List ℕ} {a : Report} {i
       (record {
         size = ap (λ (x : Report). x .s) g ∙ joined-size a d;
         extends = λ t h called w run served e.
-          let same : a .s ≡ states t = ap (λ (x : Report). x .s) e ∙ report-size t w in
-          let there : d ≡ report t (called j) = f ∙ rw same (served .0) in
-          g ∙ rw (e, there) (join-reports t (h .few) w (called j) run (served .1));
+            let same : a .s ≡ states t = ap (λ (x : Report). x .s) e ∙ report-size t w in
+            let there : d ≡ report t (called j) = f ∙ rw same (served .0) in
+            g ∙ rw (e, there) (join-reports t (h .few) w (called j) run (served .1));
       })
 
 -- the words of a call's report are there
@@ -186,13 +186,13 @@ module _ {keys enter : List ℕ} {c : Closing} {work : List ℕ} {s : ℕ} {body
             done = x .done ++ (i ∷ []);
             whole = append-assoc (x .done) (i ∷ []) (itemsOf (drop (at + 2) body)) ∙ ap (λ (l : List Item). x .done ++ l) (sym next) ∙ x .whole;
             counts = λ t d j called served.
-              let before = x .counts t d j called served in
-              let w = expand called (x .done) in
-              let this = served i among in (
-                k .extends t d called w (before .1) this (before .0) ∙ ap (report t) (sym (expand-more called (x .done) i)),
-                rw (expand-more called (x .done) i) (run-append w (keysOf called i) (before .1) (run-of-item t called work i this)),
-                sym (steps-more t called (x .done) i ∙ ap (λ (m : ℕ). m + pairs t w) (sym (before .2)) ∙ ap (λ (m : ℕ). n + m) (sym (h ∙ ap pairsIn (before .0) ∙ pairs-of t (d .few) w))),
-              );
+                let before = x .counts t d j called served in
+                let w = expand called (x .done) in
+                let this = served i among in (
+                  k .extends t d called w (before .1) this (before .0) ∙ ap (report t) (sym (expand-more called (x .done) i)),
+                  rw (expand-more called (x .done) i) (run-append w (keysOf called i) (before .1) (run-of-item t called work i this)),
+                  sym (steps-more t called (x .done) i ∙ ap (λ (m : ℕ). m + pairs t w) (sym (before .2)) ∙ ap (λ (m : ℕ). n + m) (sym (h ∙ ap pairsIn (before .0) ∙ pairs-of t (d .few) w))),
+                );
           }
 
     -- all items are read
@@ -203,8 +203,8 @@ module _ {keys enter : List ℕ} {c : Closing} {work : List ℕ} {s : ℕ} {body
           size = x .size;
           few = omega (arith, x .few, x .inside, g .short);
           counts = λ t d j called served.
-            let r = x .counts t d j called served in
-            (r .0 ∙ ap (λ (l : List Item). report t (expand called l)) all, r .2 ∙ ap (itemSteps t called) all);
+              let r = x .counts t d j called served in
+              (r .0 ∙ ap (λ (l : List Item). report t (expand called l)) all, r .2 ∙ ap (itemSteps t called) all);
         }
 
     pub items-short : {r : ItemRead} → CallsFit s body work → r ≡ itemAt (drop at body) → r ≡ Short → ItemsCounted keys enter c work s (itemsOf body) (record { report = a; steps = n })

@@ -12,3 +12,4 @@ pub mod TotalLaws
 pub mod Extending
 pub mod ItemLaws
 pub mod FillLaws
+pub mod BookLaws

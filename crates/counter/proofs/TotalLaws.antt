@@ -122,9 +122,9 @@ module _ {c : Closing} {tail : ℕ} {m : Bool} (start : m ≡ common tail 1) whe
       record {
         small = at-most-one k f;
         counts = λ t few e l i g.
-          let open' : isOpen l ≡ true = not-false (isOpen l) (opened start t few l g ∙ h) in
-          let same : k ≡ matches t l = a ∙ rw (g, e) (tail-accepts t few l i) in
-          rw (f, open', same) refl;
+            let open' : isOpen l ≡ true = not-false (isOpen l) (opened start t few l g ∙ h) in
+            let same : k ≡ matches t l = a ∙ rw (g, e) (tail-accepts t few l i) in
+            rw (f, open', same) refl;
       }
 
 -- a count within the limit, and one beyond

@@ -8,11 +8,13 @@ use Rattle.refusal.specs.Number.{number}
 use Rattle.pattern.specs.Form.{member}
 use Rattle.pattern.specs.Meaning.{matches}
 use Rattle.pattern.specs.Reader.{Read, accepted, refused}
+use Rattle.counter.specs.declared.counting.BookCount.{BookCount}
 use Rattle.counter.specs.declared.line.LineTest.{LineTest}
 use Rattle.counter.specs.declared.run.RunCount.{RunCount}
 use Rattle.counter.specs.declared.report.Joined.{Joined}
 use Rattle.counter.specs.declared.report.Report.{Report}
 use Rattle.counter.specs.Lines.{lineEnd, matching}
+use Rattle.counter.specs.Counting.{Outcome, finished, stopped}
 use Rattle.counter.specs.Reports.{alike, joinedReports, noReport}
 
 -- The paper's figures for an answer: the refusal's number, 0 if there is none, and the one value. "A refusal's other numbers are 0"
@@ -50,3 +52,8 @@ runResult (accepted t) w = cond (member 0 w) (refusedFor InvalidKey) (answered (
 -- the joining of two reports: 13 where they are "unlike reports", and then a report of zeros
 abbrev pub joinResult : Report → Report → Joined
 joinResult a b = cond (alike a b) (record { refused = 0; report = joinedReports a b }) (record { refused = number ReportMismatch; report = noReport })
+
+-- the count over a book: what is answered, and the work words afterwards
+abbrev pub outcome : BookCount → List ℕ → Outcome
+outcome (BookCount.Lines n k) work = finished n k work
+outcome (BookCount.Refused r) work = stopped r work

@@ -10,15 +10,20 @@ use Rattle.book.specs.declared.item.Item.the-variants.{Key, Call}
 use Rattle.book.specs.Format.{Macro}
 use Rattle.book.specs.Steps.{Located}
 use Rattle.book.specs.Expansion.{keysOf, expand}
-use Rattle.book.specs.Reading.{itemsOf}
-use Rattle.pattern.specs.Form.{Pattern}
+use Rattle.book.specs.Reading.{itemsOf, got, readBook, macrosIn}
+use Rattle.book.specs.Answer.{layoutFor}
+use Rattle.pattern.specs.Form.{Pattern, atomCount}
+use Rattle.pattern.specs.Automata.{keyTable, enterTable, accepts}
+use Rattle.pattern.specs.declared.automaton.Accepting.{Accepting}
 use Rattle.pattern.specs.Moves.{states}
+use Rattle.counter.specs.declared.counting.BookCount.{BookCount}
 use Rattle.counter.specs.declared.items.MacroCount.{MacroCount}
 use Rattle.counter.specs.declared.moves.Closing.{Closing}
 use Rattle.counter.specs.declared.report.Report.{Report}
 use Rattle.counter.specs.Lines.{isRun}
 use Rattle.counter.specs.Reports.{unbroken, report}
-use Rattle.counter.specs.Counting.{itemSteps, steps, filled}
+use Rattle.counter.specs.Counting.{itemSteps, steps, filled, countOf, countWith}
+use Rattle.counter.specs.Answers.{outcome}
 use Rattle.counter.specs.Steps.{Automaton, loaded}
 
 -- the report of the empty run of a pattern with s states
@@ -66,3 +71,17 @@ pub record MacroFits (book offsets : List ℕ) (i s : ℕ) (work : List ℕ) : T
 pub record Filled (keys enter : List ℕ) (c : Closing) (ms : List Macro) (m s : ℕ) (before after : List ℕ) (n : ℕ) : Type 0 where
   pub long : length after ≡ length before
   pub counts : (t : Pattern) → Automaton t keys enter c → s ≡ states t → (after ≡ filled t ms m before) × (n ≡ steps t ms m)
+
+-- the count of macro m, where the work words suffice
+unfoldable pub BookCounted : List ℕ → List ℕ → Closing → List Macro → ℕ → ℕ → List ℕ → List ℕ → BookCount → Type 0
+BookCounted keys enter c ms m s before after r = (t : Pattern) → Automaton t keys enter c → s ≡ states t → outcome r after ≡ countOf t ms m before
+
+-- a sound book, by its layout
+pub record InBook (book offsets : List ℕ) (macros : ℕ) : Type 0 where
+  pub table : offsets ≡ (layoutFor (readBook book)) .offsets
+  pub many : macros ≡ length (macrosIn book)
+  pub sound : readBook book ≡ got (macrosIn book) []
+
+-- the count of macro m of a sound book under an accepted pattern
+unfoldable pub PatternCounted : List ℕ → List ℕ → Accepting → List Macro → ℕ → List ℕ → List ℕ → BookCount → Type 0
+PatternCounted keys enter a ms m before after r = (t : Pattern) → keys ≡ keyTable t → enter ≡ enterTable t → a ≡ accepts t → atomCount t ≤ 29 → outcome r after ≡ countWith ms t m before

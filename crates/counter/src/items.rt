@@ -43,7 +43,14 @@ fn empty_report(s: u64) -> Report
 }
 
 // One item more; a called macro's report stands in the work words.
-fn after_item(a: Report, item: Item, work: &[u64], keys: &[u64; 256], enter: &[u64; 32], c: Closing) -> Report
+fn after_item(
+    a: Report,
+    item: Item,
+    work: &[u64],
+    keys: &[u64; 256],
+    enter: &[u64; 32],
+    c: Closing,
+) -> Report
     requires { ⌜ CallFits (a .s) item (now work) ⌝ }
     ensures { λ r. ⌜ AfterItem (now (keys .entry)) (now (enter .entry)) c (now (work .entry)) a item r ⌝ }
 {
@@ -58,7 +65,14 @@ fn after_item(a: Report, item: Item, work: &[u64], keys: &[u64; 256], enter: &[u
 }
 
 // All items of a body.
-pub(crate) fn items_report(body: &[u8], s: u64, work: &[u64], keys: &[u64; 256], enter: &[u64; 32], c: Closing) -> MacroCount
+pub(crate) fn items_report(
+    body: &[u8],
+    s: u64,
+    work: &[u64],
+    keys: &[u64; 256],
+    enter: &[u64; 32],
+    c: Closing,
+) -> MacroCount
     requires { ⌜ CallsFit s (now body) (now work) ⌝ }
     ensures { λ r. ⌜ ItemsCounted (now (keys .entry)) (now (enter .entry)) c (now (work .entry)) s (itemsOf (now (body .entry))) r ⌝ }
 {

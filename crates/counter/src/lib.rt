@@ -1,4 +1,4 @@
-// The counter of document 01: the one-line test, the count over a plain run, reports and their joining.
+// The counter of document 01: the one-line test, the count over a plain run, reports and their joining, the count over a book.
 mod counting;
 mod extend;
 mod items;
@@ -10,6 +10,8 @@ mod run;
 mod total;
 mod words;
 
+pub use counting::BookCount;
+pub use counting::count_book;
 pub use joining::join;
 pub use line::LineTest;
 pub use line::test_line;

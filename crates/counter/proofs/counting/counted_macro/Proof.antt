@@ -1,0 +1,58 @@
+use Rattle.counter.proofs.BookLaws.{macro-lines, macro-over}
+use borrow.Author.Needs.{needs}
+use Rattle.counter.proofs.counting.counted_macro.Statement.{statement}
+use Rattle.counter.proofs.counting.counted_macro.Tie as tie
+use Rattle.counter.proofs.counting.counted_macro.Reads as reads
+use Rattle.counter.proofs.counting.counted_macro.Lts as lts
+use Rattle.counter.proofs.counting.fill.Reads as fill-reads
+use Rattle.counter.proofs.total.total_of.Reads as total-of-reads
+use Rattle.counter.proofs.words.load.Reads as load-reads
+
+fill-requires : tie.Need-fill-requires
+fill-requires c κs = search needs
+
+add-load : tie.Need-add-load
+add-load c = search needs
+
+mul-load : tie.Need-mul-load
+mul-load c = search needs
+
+load-requires : tie.Need-load-requires
+load-requires c κs = search needs
+
+total-of-requires : tie.Need-total-of-requires
+total-of-requires c κs = search needs
+
+enum-known-lines : tie.Need-enum-known-lines
+enum-known-lines c = search needs
+
+enum-told : tie.Need-enum-told
+enum-told c = search needs
+
+same-length : tie.Need-same-length
+same-length c = search needs
+
+returns : tie.Need-returns
+returns c = search (macro-lines)
+
+same-length-2 : tie.Need-same-length-2
+same-length-2 c = search needs
+
+returns-2 : tie.Need-returns-2
+returns-2 c = search (macro-over)
+
+pub counted-macro-spec : {M : Type 1} → statement M
+counted-macro-spec =
+    tie.close
+    (tie.spec
+    fill-requires
+    add-load
+    mul-load
+    load-requires
+    total-of-requires
+    enum-known-lines
+    enum-told
+    same-length
+    returns
+    same-length-2
+    returns-2)

@@ -1,0 +1,54 @@
+use native.Mathlib.Omega.{arith}
+use Rattle.counter.proofs.BookLaws.{no-macro, sizes-small, macro-in, short-work, pattern-counted}
+use borrow.Author.Needs.{needs}
+use Rattle.counter.proofs.counting.counted_pattern.Statement.{statement}
+use Rattle.counter.proofs.counting.counted_pattern.Tie as tie
+use Rattle.counter.proofs.counting.counted_pattern.Reads as reads
+use Rattle.counter.proofs.counting.counted_pattern.Lts as lts
+use Rattle.counter.proofs.counting.counted_macro.Reads as counted-macro-reads
+use Rattle.counter.proofs.moves.closing_of.Reads as closing-of-reads
+
+returns : tie.Need-returns
+returns c = search (no-macro)
+
+add-s : tie.Need-add-s
+add-s c = search needs
+
+add-if2 : tie.Need-add-if2
+add-if2 c = search needs
+
+add-if2-2 : tie.Need-add-if2-2
+add-if2-2 c = search needs
+
+mul-if2 : tie.Need-mul-if2
+mul-if2 c = let e = c .before .before .before .before in omega (arith, sizes-small (e .pre .0) (e .args .a) (c .before .if1 .left) (e .pre .1))
+
+returns-2 : tie.Need-returns-2
+returns-2 c = search (short-work)
+
+closing-of-requires : tie.Need-closing-of-requires
+closing-of-requires c κs = search needs
+
+counted-macro-requires : tie.Need-counted-macro-requires
+counted-macro-requires c κs = (search (macro-in), omega arith)
+
+same-length : tie.Need-same-length
+same-length c = search needs
+
+returns-3 : tie.Need-returns-3
+returns-3 c = search (pattern-counted)
+
+pub counted-pattern-spec : {M : Type 1} → statement M
+counted-pattern-spec =
+    tie.close
+    (tie.spec
+    returns
+    add-s
+    add-if2
+    add-if2-2
+    mul-if2
+    returns-2
+    closing-of-requires
+    counted-macro-requires
+    same-length
+    returns-3)

@@ -1,0 +1,41 @@
+use Rattle.counter.proofs.BookLaws.{pattern-refused, few-atoms, pattern-accepted}
+use borrow.Author.Needs.{needs}
+use Rattle.counter.proofs.counting.counted_sound.Statement.{statement}
+use Rattle.counter.proofs.counting.counted_sound.Tie as tie
+use Rattle.counter.proofs.counting.counted_sound.Reads as reads
+use Rattle.counter.proofs.counting.counted_sound.Lts as lts
+use Rattle.counter.proofs.counting.counted_pattern.Reads as counted-pattern-reads
+use Rattle.pattern.proofs.read_pattern.Reads as read-pattern-reads
+
+read-pattern-requires : tie.Need-read-pattern-requires
+read-pattern-requires c κs = search needs
+
+enum-known-r : tie.Need-enum-known-r
+enum-known-r c = search needs
+
+enum-known-a : tie.Need-enum-known-a
+enum-known-a c = search needs
+
+counted-pattern-requires : tie.Need-counted-pattern-requires
+counted-pattern-requires c κs = (search, search (few-atoms))
+
+returns : tie.Need-returns
+returns c = search (pattern-refused)
+
+same-length : tie.Need-same-length
+same-length c = search needs
+
+returns-2 : tie.Need-returns-2
+returns-2 c = search (pattern-accepted)
+
+pub counted-sound-spec : {M : Type 1} → statement M
+counted-sound-spec =
+    tie.close
+    (tie.spec
+    read-pattern-requires
+    enum-known-r
+    enum-known-a
+    counted-pattern-requires
+    returns
+    same-length
+    returns-2)
