@@ -13,3 +13,4 @@ pub mod Extending
 pub mod ItemLaws
 pub mod FillLaws
 pub mod BookLaws
+pub mod Demands

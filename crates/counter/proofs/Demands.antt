@@ -1,0 +1,115 @@
+-- Demand 3, sentence by sentence, and what demand 1 says of refusals: theorems about the definition that `count_book` is proved to
+-- answer, `countResult`.
+use Prim.Native.Nat.{ℕ, zero, suc, _+_, _*_, _<_, _≤_}
+use native.Mathlib.Omega.{arith}
+use native.Mathlib.Nat.{mul-le-mul-right, mul-le-mul-left}
+use mathlib.Core.Path.{_≡_, refl, sym, ap, _∙_}
+use mathlib.Core.Logic.{_↔_}
+use mathlib.Core.Bool.{Bool, true, false, cond}
+use mathlib.Core.List.{List, [], _∷_}
+use lib.Dec.{leb, ltb}
+use lib.ListN.{length, getD, take}
+use borrow.Author.Tests.{leb-false, le-leb, lt-leb, lt-ltb, le-ltb}
+use Rattle.stateset.specs.Set.{countBelow}
+use Rattle.stateset.proofs.Counts.{count-le}
+use Rattle.refusal.specs.declared.Refusal.the-variants.{NoSuchMacro, InsufficientSpace, CountOverflow}
+use Rattle.book.specs.Format.{Macro, wellFormed, encode}
+use Rattle.book.specs.Expansion.{expand, expansion}
+use Rattle.book.specs.Reach.{Reaches, Alike}
+use Rattle.book.specs.Reading.{Reading, got, refused, readBook}
+use Rattle.book.proofs.Coding.{encode-read}
+use Rattle.book.proofs.Reach.{expansion-alike}
+use Rattle.pattern.specs.Form.{Pattern}
+use Rattle.pattern.specs.Moves.{states, leads}
+use Rattle.pattern.specs.Reader as reader
+use Rattle.counter.specs.Lines.{matching}
+use Rattle.counter.specs.Reports.{laterParts, lastPart, most}
+use Rattle.counter.specs.Counting.{sumBelow, pairsWith, pairs, itemSteps, macroSteps, steps, itemsTo, Outcome, finished, stopped, filled, needed, countOf, countResult}
+
+-- a sound book, an accepted pattern, a macro of the book, and work space enough
+pub record Asked (b p work : List ℕ) (ms : List Macro) (t : Pattern) (m : ℕ) : Type 0 where
+  pub well : wellFormed ms ≡ true
+  pub book : b ≡ encode ms
+  pub pattern : reader.readPattern p ≡ reader.accepted t
+  pub inside : m < length ms
+  pub enough : needed t m ≤ length work
+
+module _ {b p work : List ℕ} {ms : List Macro} {t : Pattern} {m : ℕ} (a : Asked b p work ms t m) where
+  -- what is answered then
+  answer : countResult (readBook b) (reader.readPattern p) m work ≡ countOf t ms m work
+  unfolding countResult
+  answer =
+      rw (a .book, encode-read ms (a .well), a .pattern, lt-ltb m (length ms) (a .inside), le-ltb (length work) (needed t m) (a .enough)) refl
+
+  -- "the count given equals the number of lines of the macro's written-out run that match"
+  pub count-equals : matching t (expansion ms m) ≤ most → countResult (readBook b) (reader.readPattern p) m work ≡ finished (matching t (expansion ms m)) (steps t ms m) (filled t ms m work)
+  count-equals h = answer ∙ rw (le-leb (matching t (expansion ms m)) most h) refl
+
+  -- "It is refused exactly when that number passes 2^64 − 1."
+  pub count-refused : most < matching t (expansion ms m) → countResult (readBook b) (reader.readPattern p) m work ≡ stopped CountOverflow (filled t ms m work)
+  count-refused h = answer ∙ rw (lt-leb (matching t (expansion ms m)) most h) refl
+
+  pub refused-exactly : (0 < countResult (readBook b) (reader.readPattern p) m work .refusal) ↔ (most < matching t (expansion ms m))
+  refused-exactly = (λ h. go (leb (matching t (expansion ms m)) most) refl (rw answer at h), λ h. rw (count-refused h) (omega arith))
+    where
+      go : (x : Bool) → leb (matching t (expansion ms m)) most ≡ x → 0 < cond x (finished (matching t (expansion ms m)) (steps t ms m) (filled t ms m work)) (stopped CountOverflow (filled t ms m work)) .refusal → most < matching t (expansion ms m)
+      go true e h = absurd (omega arith)
+      go false e h = leb-false (matching t (expansion ms m)) most e
+
+-- "Two sound books alike in every macro that the one named reaches, whatever their other macros hold, give the same count for it
+-- under the same pattern, each with such work space, or are both refused."
+module _ {b c p work space : List ℕ} {ms ns : List Macro} {t : Pattern} {m : ℕ} (x : Asked b p work ms t m) (y : Asked c p space ns t m) (alike : (j : ℕ) → Reaches ms m j → Alike ms ns j) where
+  pub alike-counts : (countResult (readBook b) (reader.readPattern p) m work .refusal ≡ countResult (readBook c) (reader.readPattern p) m space .refusal) × (countResult (readBook b) (reader.readPattern p) m work .lines ≡ countResult (readBook c) (reader.readPattern p) m space .lines)
+  alike-counts = rw (answer x, answer y, expansion-alike ms ns m alike) (go (leb (matching t (expansion ns m)) most) (matching t (expansion ns m)) (steps t ms m) (steps t ns m) (filled t ms m work) (filled t ns m space))
+    where
+      go : (z : Bool) (n k j : ℕ) (v w : List ℕ) → (cond z (finished n k v) (stopped CountOverflow v) .refusal ≡ cond z (finished n j w) (stopped CountOverflow w) .refusal) × (cond z (finished n k v) (stopped CountOverflow v) .lines ≡ cond z (finished n j w) (stopped CountOverflow w) .lines)
+      go true n k j v w = (refl, refl)
+      go false n k j v w = (refl, refl)
+
+-- "are never more than the number of items in the macros up to the one named, times the square of the number of states"
+module _ (t : Pattern) where
+  sum-le : (n k : ℕ) (f : ℕ → ℕ) → ((i : ℕ) → i < n → f i ≤ k) → sumBelow n f ≤ n * k
+  unfolding sumBelow
+  sum-le zero k f h = omega arith
+  sum-le (suc n) k f h = omega (arith, sum-le n k f (λ i l. h i (omega arith)), h n (omega arith))
+
+  pairs-le : (w : List ℕ) → pairs t w ≤ states t * states t
+  unfolding pairs
+  pairs-le w = go (laterParts w)
+    where
+      go : (ls : List (List ℕ)) → pairsWith t w ls ≤ states t * states t
+      go [] = sum-le (states t) (states t) (λ q. countBelow (states t) (leads t q w)) (λ q l. count-le (states t) (leads t q w))
+      go (l ∷ ls) = let one : 1 ≤ states t = omega arith in omega (arith, count-le (states t) (leads t 0 (lastPart l ls)), mul-le-mul-left (states t) one)
+
+  -- a sum of numbers that are each at most k times another
+  sum-scale : (n k : ℕ) (f g : ℕ → ℕ) → ((i : ℕ) → f i ≤ g i * k) → sumBelow n f ≤ sumBelow n g * k
+  unfolding sumBelow
+  sum-scale zero k f g h = omega arith
+  sum-scale (suc n) k f g h = omega (arith, sum-scale n k f g h, h n)
+
+  pub steps-bound : (ms : List Macro) (m : ℕ) → steps t ms m ≤ itemsTo ms m * (states t * states t)
+  unfolding steps itemsTo itemSteps
+  steps-bound ms m = sum-scale (suc m) (states t * states t) (macroSteps t ms) (λ i. length (getD ms i [])) (λ i. within (getD ms i []))
+    where
+      within : (items : Macro) → itemSteps t (λ j. expansion ms j) items ≤ length items * (states t * states t)
+      within items = sum-le (length items) (states t * states t) (λ k. pairs t (expand (λ j. expansion ms j) (take k items))) (λ k l. pairs-le (expand (λ j. expansion ms j) (take k items)))
+
+-- Demand 1: "it refuses with the one number that the table in document 01 sets, zeros in the answer and the work space left as
+-- stated under it".
+module _ (m : ℕ) (work : List ℕ) where
+  -- what a refusal leaves
+  abbrev Left : Outcome → Type 0
+  Left o = 0 < o .refusal → (o .lines ≡ 0) × (o .steps ≡ 0) × ((o .refusal ≡ 12 → ⊥) → o .work ≡ work)
+
+  left-with : (x y z : Bool) (n k : ℕ) (v : List ℕ) → Left (cond x (cond y (stopped InsufficientSpace work) (cond z (finished n k v) (stopped CountOverflow v))) (stopped NoSuchMacro work))
+  left-with true true z n k v h = (refl, refl, λ e. refl)
+  left-with true false true n k v h = absurd (omega arith)
+  left-with true false false n k v h = (refl, refl, λ e. absurd (e refl))
+  left-with false y z n k v h = (refl, refl, λ e. refl)
+
+  pub refused-left : (g : Reading (List Macro)) (r : reader.Read) → Left (countResult g r m work)
+  unfolding countResult
+  refused-left (refused q) r h = (refl, refl, λ e. refl)
+  refused-left (got ms rest) (reader.refused q) h = (refl, refl, λ e. refl)
+  refused-left (got ms rest) (reader.accepted t) h =
+      left-with (ltb m (length ms)) (ltb (length work) (needed t m)) (leb (matching t (expansion ms m)) most) (matching t (expansion ms m)) (steps t ms m) (filled t ms m work) h
