@@ -8,12 +8,12 @@ use Rattle.pattern.specs.Reader.{Read, accepted, refused, readPattern}
 use Rattle.pattern.specs.Automata.{ReadAs, verdictFigures}
 use Rattle.pattern.specs.declared.automaton.Accepting.{Accepting}
 use Rattle.pattern.specs.declared.automaton.Verdict.{Verdict}
-use Rattle.pattern.proofs.Readings.{AcceptedAs, read-accepted, read-refused}
+use Rattle.pattern.proofs.Readings.{read-accepted, read-refused}
 use Rattle.counter.specs.declared.line.LineTest.{LineTest}
 use Rattle.counter.specs.declared.moves.Closing.{Closing}
 use Rattle.counter.specs.declared.run.RunCount.{RunCount}
 use Rattle.counter.specs.Answers.{Figures, refusedFor, lineFigures, runFigures, lineResult, runResult}
-use Rattle.counter.specs.Steps.{Automaton, Closes, TestsLine, CountsRun}
+use Rattle.counter.specs.Promises.{Automaton, Closes, TestsLine, CountsRun}
 
 module _ (p keys enter keys' enter' : List ℕ) {v : Verdict} (h : ReadAs (readPattern p) keys enter (verdictFigures v) keys' enter') where
   -- a refused pattern, whatever else is asked

@@ -5,14 +5,14 @@ use native.Mathlib.Numerals.{add-one}
 use native.Mathlib.Nat.{mul-le-mul-right, mul-le-mul-left}
 use mathlib.Core.Path.{_≡_, refl, sym, ap, _∙_}
 use mathlib.Core.Bool.{Bool, true, false, cond}
-use mathlib.Core.List.{List, [], _∷_, _++_}
-use lib.Dec.{leb, ltb}
+use mathlib.Core.List.{List, [], _∷_}
+use lib.Dec.{leb}
 use lib.ListN.{length, drop}
 use borrow.Author.Tests.{lt-ltb, le-ltb}
 use Rattle.stateset.proofs.Some.{clash}
 use Rattle.refusal.specs.declared.Refusal.{Refusal}
 use Rattle.refusal.specs.declared.Refusal.the-variants.{NoSuchMacro, InsufficientSpace, CountOverflow}
-use Rattle.book.specs.Format.{Macro, wellFormed}
+use Rattle.book.specs.Format.{Macro}
 use Rattle.book.specs.Expansion.{expansion}
 use Rattle.book.specs.Reading.{Reading, got, refused, readBook, macrosOf, macrosIn}
 use Rattle.book.proofs.Offsets.{whole}
@@ -32,10 +32,10 @@ use Rattle.counter.specs.declared.moves.Closing.{Closing}
 use Rattle.counter.specs.declared.report.Report.{Report}
 use Rattle.counter.specs.declared.total.Total.{Total}
 use Rattle.counter.specs.Lines.{matching}
-use Rattle.counter.specs.Reports.{most, report}
-use Rattle.counter.specs.Counting.{Outcome, finished, stopped, filled, steps, needed, countOf, countWith, countResult}
+use Rattle.counter.specs.Reports.{most}
+use Rattle.counter.specs.Counting.{finished, stopped, filled, steps, needed, countResult}
 use Rattle.counter.specs.Answers.{outcome}
-use Rattle.counter.specs.Steps.{Automaton, Closes, Totals, totalOf, isOpen, loaded}
+use Rattle.counter.specs.Promises.{Automaton, Closes, Totals, totalOf, isOpen, loaded}
 use Rattle.counter.specs.Items.{MacroFits, Filled, BookCounted, InBook, PatternCounted}
 use Rattle.counter.proofs.FillLaws.{well-in, expansion-run, reports-at}
 

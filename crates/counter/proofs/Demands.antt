@@ -1,9 +1,9 @@
 -- Demand 3, sentence by sentence, and what demand 1 says of refusals: theorems about the definition that `count_book` is proved to
 -- answer, `countResult`.
-use Prim.Native.Nat.{ℕ, zero, suc, _+_, _*_, _<_, _≤_}
+use Prim.Native.Nat.{ℕ, zero, suc, _*_, _<_, _≤_}
 use native.Mathlib.Omega.{arith}
-use native.Mathlib.Nat.{mul-le-mul-right, mul-le-mul-left}
-use mathlib.Core.Path.{_≡_, refl, sym, ap, _∙_}
+use native.Mathlib.Nat.{mul-le-mul-left}
+use mathlib.Core.Path.{_≡_, refl, _∙_}
 use mathlib.Core.Logic.{_↔_}
 use mathlib.Core.Bool.{Bool, true, false, cond}
 use mathlib.Core.List.{List, [], _∷_}
@@ -24,7 +24,7 @@ use Rattle.pattern.specs.Moves.{states, leads}
 use Rattle.pattern.specs.Reader as reader
 use Rattle.counter.specs.Lines.{matching}
 use Rattle.counter.specs.Reports.{laterParts, lastPart, most}
-use Rattle.counter.specs.Counting.{sumBelow, pairsWith, pairs, itemSteps, macroSteps, steps, itemsTo, Outcome, finished, stopped, filled, needed, countOf, countResult}
+use Rattle.counter.specs.Counting.{sumBelow, pairsWith, pairs, itemSteps, stepsWithin, steps, itemsTo, Outcome, finished, stopped, filled, needed, countOf, countResult}
 
 -- a sound book, an accepted pattern, a macro of the book, and work space enough
 pub record Asked (b p work : List ℕ) (ms : List Macro) (t : Pattern) (m : ℕ) : Type 0 where
@@ -89,7 +89,7 @@ module _ (t : Pattern) where
 
   pub steps-bound : (ms : List Macro) (m : ℕ) → steps t ms m ≤ itemsTo ms m * (states t * states t)
   unfolding steps itemsTo itemSteps
-  steps-bound ms m = sum-scale (suc m) (states t * states t) (macroSteps t ms) (λ i. length (getD ms i [])) (λ i. within (getD ms i []))
+  steps-bound ms m = sum-scale (suc m) (states t * states t) (stepsWithin t ms) (λ i. length (getD ms i [])) (λ i. within (getD ms i []))
     where
       within : (items : Macro) → itemSteps t (λ j. expansion ms j) items ≤ length items * (states t * states t)
       within items = sum-le (length items) (states t * states t) (λ k. pairs t (expand (λ j. expansion ms j) (take k items))) (λ k l. pairs-le (expand (λ j. expansion ms j) (take k items)))

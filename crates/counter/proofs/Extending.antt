@@ -17,7 +17,7 @@ use Rattle.stateset.proofs.Sets.{word-ext, word-one, bit-word, word-high, bits-
 use Rattle.stateset.proofs.Some.{torn, and-snd, tests-ext}
 use Rattle.pattern.specs.Form.{Pattern, atomCount}
 use Rattle.pattern.specs.Meaning.{matches}
-use Rattle.pattern.specs.Moves.{states, move, accepting, leads, acceptedFrom}
+use Rattle.pattern.specs.Moves.{states, accepting, leads, acceptedFrom}
 use Rattle.pattern.specs.States.{tabled}
 use Rattle.pattern.proofs.Moving.{common}
 use Rattle.pattern.proofs.AcceptedLines.{states-match}
@@ -25,8 +25,8 @@ use Rattle.pattern.proofs.Tabled.{tabled-length, tabled-at, tabled-same}
 use Rattle.counter.specs.declared.moves.Closing.{Closing}
 use Rattle.counter.specs.declared.report.Report.{Report}
 use Rattle.counter.specs.Lines.{lineEnd, isRun, countIn}
-use Rattle.counter.specs.Reports.{firstPart, laterParts, lastPart, partsBefore, most, rowsOf, noRows, unbroken, broken, reportWith, report}
-use Rattle.counter.specs.Steps.{Automaton, Advances, AdvancesRows, Extended, Ended, closingOf, moved}
+use Rattle.counter.specs.Reports.{firstPart, laterParts, lastPart, partsBefore, most, rowsOf, noRows, withoutEnd, withEnd, reportWith, report}
+use Rattle.counter.specs.Promises.{Automaton, Advances, AdvancesRows, Extended, Ended, closingOf, moved}
 use Rattle.counter.proofs.Reaching.{leads-high, leads-more, leads-accepts}
 use Rattle.counter.proofs.PartLaws.{first-into, later-into, first-kept, later-kept, last-open, before-open, last-closed, before-closed, key-of-line, later-lines, last-line}
 use Rattle.counter.proofs.JoinLaw.{row-of}
@@ -235,20 +235,20 @@ module _ (t : Pattern) (w : List ℕ) where
   first-end e = rw (later-into w (lineEnd ∷ []) e, first-into w (lineEnd ∷ []) e, append-nil w, ← start-word t) refl
 
   -- a key of the first line
-  first-on : (k : ℕ) → eqb lineEnd k ≡ false → laterParts w ≡ [] → report t (w ++ (k ∷ [])) ≡ unbroken (states t) (λ q p. leads t q (w ++ (k ∷ [])) p)
+  first-on : (k : ℕ) → eqb lineEnd k ≡ false → laterParts w ≡ [] → report t (w ++ (k ∷ [])) ≡ withoutEnd (states t) (λ q p. leads t q (w ++ (k ∷ [])) p)
   unfolding report laterParts
   first-on k f e = rw (later-into w (k ∷ []) e, f) refl
 
   module _ {l : List ℕ} {ls : List (List ℕ)} (e : laterParts w ≡ l ∷ ls) where
     -- a later line end
-    later-end : report t (w ++ (lineEnd ∷ [])) ≡ broken (states t) (λ q. acceptedFrom t q (firstPart w)) (countIn (matches t) (partsBefore l ls) + cond (matches t (lastPart l ls)) 1 0) (leads t 0 [])
+    later-end : report t (w ++ (lineEnd ∷ [])) ≡ withEnd (states t) (λ q. acceptedFrom t q (firstPart w)) (countIn (matches t) (partsBefore l ls) + cond (matches t (lastPart l ls)) 1 0) (leads t 0 [])
     unfolding report
     later-end =
         let v = lineEnd ∷ [] in
         rw (later-kept w v e, first-kept w v e, before-closed l ls v (matches t) end-part, last-closed l ls v end-part, end-last, end-first, end-count (matches t), append-nil (lastPart l ls), add-zero) refl
 
     -- a key of a later line
-    later-on : (k : ℕ) → eqb lineEnd k ≡ false → report t (w ++ (k ∷ [])) ≡ broken (states t) (λ q. acceptedFrom t q (firstPart w)) (countIn (matches t) (partsBefore l ls)) (leads t 0 (lastPart l ls ++ (k ∷ [])))
+    later-on : (k : ℕ) → eqb lineEnd k ≡ false → report t (w ++ (k ∷ [])) ≡ withEnd (states t) (λ q. acceptedFrom t q (firstPart w)) (countIn (matches t) (partsBefore l ls)) (leads t 0 (lastPart l ls ++ (k ∷ [])))
     unfolding report
     later-on k f =
         let v = k ∷ [] in
@@ -266,7 +266,7 @@ module _ (c : Closing) (a : Report) where
   unfolding Ended report
   ended-first {h} z e keys enter = record { size = refl; extends = λ t m w r k f. go t m w (laterParts w) refl f }
     where
-      heads : (t : Pattern) → Automaton t keys enter c → (w : List ℕ) → a ≡ unbroken (states t) (λ q p. leads t q w p) → h ≡ word (states t) (λ q. acceptedFrom t q w)
+      heads : (t : Pattern) → Automaton t keys enter c → (w : List ℕ) → a ≡ withoutEnd (states t) (λ q p. leads t q w p) → h ≡ word (states t) (λ q. acceptedFrom t q w)
       heads t m w f =
           let few = m .few in
           e
@@ -285,7 +285,7 @@ module _ (c : Closing) (a : Report) where
         rw (f, e, ap (λ (b : Report). b .tail) j, h .closing, row-accepts t (h .few) 0 (omega arith) (lastPart l ls), states-match t (lastPart l ls) (last-line l ls (rw i at (later-lines w r)))) refl
 
     -- the report then
-    ended-as : {t : Pattern} {keys enter : List ℕ} → Automaton t keys enter c → (w l : List ℕ) (ls : List (List ℕ)) → isRun w ≡ true → laterParts w ≡ l ∷ ls → a ≡ reportWith t w (l ∷ ls) → report t (w ++ (lineEnd ∷ [])) ≡ broken (states t) (λ q. acceptedFrom t q (firstPart w)) (countIn (matches t) (partsBefore l ls) + x) (leads t 0 [])
+    ended-as : {t : Pattern} {keys enter : List ℕ} → Automaton t keys enter c → (w l : List ℕ) (ls : List (List ℕ)) → isRun w ≡ true → laterParts w ≡ l ∷ ls → a ≡ reportWith t w (l ∷ ls) → report t (w ++ (lineEnd ∷ [])) ≡ withEnd (states t) (λ q. acceptedFrom t q (firstPart w)) (countIn (matches t) (partsBefore l ls) + x) (leads t 0 [])
     ended-as {t} h w l ls r i j = rw (line-closed h w l ls r i j) (later-end t w i)
 
     -- another, while the count fits

@@ -6,31 +6,30 @@ use native.Mathlib.Nat.{mul-le-mul-right, lt-of-le-of-lt}
 use mathlib.Core.Path.{_≡_, refl, sym, ap, _∙_}
 use mathlib.Core.Bool.{Bool, true, false, cond, _&&_}
 use mathlib.Core.List.{List, [], _∷_, _++_, append-assoc, List·Memᴰ, List·Memᴰ·head, List·Memᴰ·tail}
-use lib.Dec.{leb, ltb, eqb}
+use lib.Dec.{leb, ltb}
 use borrow.Author.Tests.{ltb-true, ltb-false, le-ltb, le-leb}
 use Rattle.stateset.specs.Set.{word}
 use Rattle.stateset.proofs.Some.{and-both}
 use lib.ListN.{length, getD, take, drop, replicate, length-append, length-take, length-drop}
-use lib.Seq.{take-at, drop-at, getD-at, getD-append-add, take-append-le, drop-append-add, drop-drop}
+use lib.Seq.{take-at, drop-at, getD-at, getD-append-add, drop-drop}
 use Rattle.book.specs.declared.item.Item.{Item}
 use Rattle.book.specs.declared.item.Item.the-variants.{Key, Call}
 use Rattle.book.specs.Format.{Macro, wellFormed}
-use Rattle.book.specs.Expansion.{expand, expansion}
+use Rattle.book.specs.Expansion.{expansion}
 use Rattle.book.specs.Reading.{Reading, got, refused, readBook, macrosOf, macrosIn, itemsOf}
 use Rattle.book.proofs.Coding.{read-well}
 use Rattle.book.proofs.Parts.{PartOffsets, located, part-is}
 use Rattle.book.proofs.Expansion.{calls-lower, expansion-law, expansion-keys, well-short, well-key}
 use Rattle.pattern.specs.Form.{Pattern, atomCount}
 use Rattle.pattern.specs.Moves.{states, leads}
-use Rattle.pattern.specs.States.{tabled}
 use Rattle.pattern.proofs.Tabled.{tabled-length, tabled-at}
 use Rattle.counter.specs.declared.items.MacroCount.{MacroCount}
 use Rattle.counter.specs.declared.moves.Closing.{Closing}
 use Rattle.counter.specs.declared.report.Report.{Report}
 use Rattle.counter.specs.Lines.{isRun}
-use Rattle.counter.specs.Reports.{laterParts, rowsOf, noRows, unbroken, broken, reportWith, report}
-use Rattle.counter.specs.Counting.{sumBelow, itemSteps, macroSteps, steps, reportWords, firstReports, filled}
-use Rattle.counter.specs.Steps.{Automaton, loaded}
+use Rattle.counter.specs.Reports.{laterParts, rowsOf, noRows, reportWith, report}
+use Rattle.counter.specs.Counting.{sumBelow, stepsWithin, steps, reportWords, firstReports}
+use Rattle.counter.specs.Promises.{Automaton, loaded}
 use Rattle.counter.proofs.WordLaws.{sum-more}
 use Rattle.counter.specs.Items.{CallRoom, CallsFit, Served, ItemsCounted, MacroFits, Filled}
 
@@ -187,7 +186,7 @@ pub record FillSoFar (keys enter : List ℕ) (c : Closing) (ms : List Macro) (m 
   pub inside : i ≤ suc m
   pub long : length after ≡ length before
   pub few : n ≤ i * 131072
-  pub counts : (t : Pattern) → Automaton t keys enter c → s ≡ states t → (after ≡ firstReports t ms i ++ drop (i * (s + 4)) before) × (n ≡ sumBelow i (macroSteps t ms))
+  pub counts : (t : Pattern) → Automaton t keys enter c → s ≡ states t → (after ≡ firstReports t ms i ++ drop (i * (s + 4)) before) × (n ≡ sumBelow i (stepsWithin t ms))
 
 module _ {keys enter : List ℕ} {c : Closing} {ms : List Macro} {m s : ℕ} {before : List ℕ} where
   pub fill-start : FillSoFar keys enter c ms m s before before 0 0
@@ -247,7 +246,7 @@ module _ {keys enter : List ℕ} {c : Closing} {book offsets : List ℕ} {m s : 
             let done = x .counts t d j in
             let one = h .counts t d j (λ k. expansion ms k) (served t (d .few) ms well i work (drop (i * (s + 4)) before) (done .0)) in
             let whole : a .report ≡ report t (expansion ms i) = one .0 ∙ ap (report t) (sym (expansion-law ms well i)) in
-            (next t (d .few) j (done .0) whole, ap (λ (k : ℕ). k + a .steps) (done .1) ∙ ap (λ (k : ℕ). sumBelow i (macroSteps t ms) + k) (one .1) ∙ sym (sum-more i (macroSteps t ms)));
+            (next t (d .few) j (done .0) whole, ap (λ (k : ℕ). k + a .steps) (done .1) ∙ ap (λ (k : ℕ). sumBelow i (stepsWithin t ms) + k) (one .1) ∙ sym (sum-more i (stepsWithin t ms)));
       }
     where
       next : (t : Pattern) → atomCount t ≤ 29 → s ≡ states t → work ≡ firstReports t (macrosIn book) i ++ drop (i * (s + 4)) before → a .report ≡ report t (expansion (macrosIn book) i) → after ≡ firstReports t (macrosIn book) (i + 1) ++ drop ((i + 1) * (s + 4)) before

@@ -1,7 +1,6 @@
 -- Laws of the report of a macro's items, one after another.
 use Prim.Native.Nat.{ℕ, zero, suc, _+_, _*_, _%_, _^_, _<_, _≤_}
 use native.Mathlib.Omega.{arith}
-use native.Mathlib.Numerals.{add-one}
 use mathlib.Core.Path.{_≡_, refl, sym, ap, _∙_}
 use mathlib.Core.Bool.{Bool, true, false, cond, _&&_}
 use mathlib.Core.List.{List, [], _∷_, _++_, append-assoc, append-nil, List·Memᴰ, List·Memᴰ·head, Memᴰ·append-right}
@@ -10,7 +9,7 @@ use lib.ListN.{length, getD, take, drop, length-append, length-drop}
 use lib.Seq.{take-append-le, take-append-seam}
 use Rattle.stateset.specs.Set.{bit, word, countBelow}
 use Rattle.stateset.proofs.Sets.{word-one}
-use Rattle.stateset.proofs.Counts.{count-le, count-word, count-ext}
+use Rattle.stateset.proofs.Counts.{count-le, count-word}
 use Rattle.stateset.proofs.Some.{and-both, and-fst, and-snd}
 use Rattle.book.specs.declared.item.Item.{Item}
 use Rattle.book.specs.declared.item.Item.the-variants.{Key, Call}
@@ -22,14 +21,13 @@ use Rattle.book.proofs.Items.{found-long, items-on-found, items-on-short, items
 use Rattle.pattern.specs.Form.{Pattern, atomCount}
 use Rattle.pattern.specs.Meaning.{matches}
 use Rattle.pattern.specs.Moves.{states, leads}
-use Rattle.counter.specs.declared.items.MacroCount.{MacroCount}
 use Rattle.counter.specs.declared.moves.Closing.{Closing}
 use Rattle.counter.specs.declared.report.Report.{Report}
 use Rattle.counter.specs.Lines.{isRun, countIn}
-use Rattle.counter.specs.Reports.{laterParts, lastPart, partsBefore, rowsOf, unbroken, broken, reportWith, report, joinedWith, joinedReports}
+use Rattle.counter.specs.Reports.{laterParts, lastPart, partsBefore, rowsOf, reportWith, report, joinedWith, joinedReports}
 use Rattle.counter.specs.Counting.{sumBelow, pairsWith, pairs, itemSteps}
-use Rattle.counter.specs.Steps.{Automaton, Extended, loaded, pairsIn}
-use Rattle.counter.specs.Items.{emptyReport, CallRoom, CallFits, CallsFit, Served, AfterItem, ItemsCounted}
+use Rattle.counter.specs.Promises.{Automaton, Extended, loaded, pairsIn}
+use Rattle.counter.specs.Items.{emptyReport, CallFits, CallsFit, Served, AfterItem, ItemsCounted}
 use Rattle.counter.proofs.JoinLaw.{row-of, flag-set, join-reports}
 use Rattle.counter.proofs.Joins.{shifted}
 use Rattle.counter.proofs.WordLaws.{sizes-le, sum-more}

@@ -4,10 +4,10 @@ use native.Mathlib.Omega.{arith}
 use mathlib.Core.Path.{_≡_, refl, sym, ap, _∙_}
 use mathlib.Core.Logic.{_⊎_, inl, inr, ⊎-elim}
 use mathlib.Core.Bool.{Bool, true, false, cond, _&&_}
-use mathlib.Core.List.{List, [], _∷_, _++_, append-nil}
+use mathlib.Core.List.{List, [], _∷_, _++_}
 use lib.Dec.{leb, ltb, eqb}
 use lib.ListN.{getD}
-use borrow.Author.Tests.{leb-true, leb-false, le-leb, lt-leb, lt-ltb, ltb-true}
+use borrow.Author.Tests.{leb-false, lt-leb, lt-ltb, ltb-true}
 use Rattle.stateset.specs.Set.{bit, word, anyBelow}
 use Rattle.stateset.proofs.Sets.{word-ext, bit-word}
 use Rattle.stateset.proofs.Some.{any-ext}
@@ -15,13 +15,11 @@ use Rattle.pattern.specs.Form.{Pattern, atomCount}
 use Rattle.pattern.specs.Sets.{isLine}
 use Rattle.pattern.specs.Meaning.{matches}
 use Rattle.pattern.specs.Moves.{states, leads, acceptedFrom}
-use Rattle.pattern.specs.States.{tabled}
 use Rattle.pattern.proofs.AcceptedLines.{states-match}
 use Rattle.pattern.proofs.Leading.{leads-append, accepted-append}
 use Rattle.pattern.proofs.Tabled.{tabled-at, tabled-same}
-use Rattle.counter.specs.declared.report.Report.{Report}
 use Rattle.counter.specs.Lines.{isRun, countIn}
-use Rattle.counter.specs.Reports.{firstPart, laterParts, lastPart, partsBefore, most, rowsOf, unbroken, broken, reportWith, report, onward, common, closedIn, joinedWith, joinedReports}
+use Rattle.counter.specs.Reports.{firstPart, laterParts, lastPart, partsBefore, most, rowsOf, withoutEnd, withEnd, reportWith, report, onward, common, joinedReports}
 use Rattle.counter.proofs.PartLaws.{first-into, later-into, first-kept, later-kept, firstThen, laterThen, last-open, before-open, last-closed, before-closed, first-line, later-lines, last-line, line-append}
 
 -- the row of a state that there is
@@ -40,9 +38,9 @@ rows-same s X Y e = tabled-same (λ q. cond (ltb q s) (word s (X q)) 0) (λ q. c
 abbrev Shown : ℕ → ℕ → Type 0
 Shown m n = (m ≡ n) ⊎ ((most < m) × (most < n))
 
-broken-same : (s : ℕ) (H I : ℕ → Bool) (m n : ℕ) (T U : ℕ → Bool) → ((q : ℕ) → q < s → H q ≡ I q) → Shown m n → ((p : ℕ) → p < s → T p ≡ U p) → broken s H m T ≡ broken s I n U
-broken-same s H I m n T U f (inl e) g = rw (word-ext s H I f, e, word-ext s T U g) refl
-broken-same s H I m n T U f (inr (d, e)) g = rw (word-ext s H I f, lt-leb m most d, lt-leb n most e, word-ext s T U g) refl
+withEnd-same : (s : ℕ) (H I : ℕ → Bool) (m n : ℕ) (T U : ℕ → Bool) → ((q : ℕ) → q < s → H q ≡ I q) → Shown m n → ((p : ℕ) → p < s → T p ≡ U p) → withEnd s H m T ≡ withEnd s I n U
+withEnd-same s H I m n T U f (inl e) g = rw (word-ext s H I f, e, word-ext s T U g) refl
+withEnd-same s H I m n T U f (inr (d, e)) g = rw (word-ext s H I f, lt-leb m most d, lt-leb n most e, word-ext s T U g) refl
 
 -- the closed lines that a report shows
 abbrev capped : ℕ → ℕ
@@ -75,7 +73,7 @@ flag-set n = go (leb n most)
 
 module _ (t : Pattern) (few : atomCount t ≤ 29) where
   -- what the rows of a run lead to
-  onward-is : (x : ℕ) (X : ℕ → Bool) → ((r : ℕ) → r < states t → bit x r ≡ X r) → (v : List ℕ) (p : ℕ) → p < states t → onward (states t) x (unbroken (states t) (λ q p. leads t q v p)) p ≡ anyBelow (states t) (λ r. X r && leads t r v p)
+  onward-is : (x : ℕ) (X : ℕ → Bool) → ((r : ℕ) → r < states t → bit x r ≡ X r) → (v : List ℕ) (p : ℕ) → p < states t → onward (states t) x (withoutEnd (states t) (λ q p. leads t q v p)) p ≡ anyBelow (states t) (λ r. X r && leads t r v p)
   onward-is x X e v p h =
       any-ext (states t) (λ r. bit x r && bit (getD (rowsOf (states t) (λ q p. leads t q v p)) r 0) p) (λ r. X r && leads t r v p)
       (λ r l. rw (e r l, row-of (states t) (λ q p. leads t q v p) r l (omega arith), bit-word (states t) (λ p. leads t r v p) p h) refl)
@@ -87,7 +85,7 @@ module _ (t : Pattern) (few : atomCount t ≤ 29) where
   row-bit u q h r l = rw (row-of (states t) (λ q p. leads t q u p) q h (omega arith)) (bit-word (states t) (λ p. leads t q u p) r l)
 
   -- no line end in either
-  rows-join : (u v : List ℕ) (q p : ℕ) → q < states t → p < states t → onward (states t) (getD (rowsOf (states t) (λ q p. leads t q u p)) q 0) (unbroken (states t) (λ q p. leads t q v p)) p ≡ leads t q (u ++ v) p
+  rows-join : (u v : List ℕ) (q p : ℕ) → q < states t → p < states t → onward (states t) (getD (rowsOf (states t) (λ q p. leads t q u p)) q 0) (withoutEnd (states t) (λ q p. leads t q v p)) p ≡ leads t q (u ++ v) p
   rows-join u v q p h l = onward-is (getD (rowsOf (states t) (λ q p. leads t q u p)) q 0) (leads t q u) (row-bit u q h) v p l ∙ sym (leads-append t u v q p h)
 
   -- one in the second
@@ -114,11 +112,11 @@ module _ (t : Pattern) (few : atomCount t ≤ 29) where
     join-with [] [] e f =
         rw (later-into u v e, f)
         (ap (λ (rows : List ℕ). record { s = states t; rows = rows; flag = 0; heads = 0; closed = 0; tail = 0 })
-        (rows-same (states t) (λ q. onward (states t) (getD (rowsOf (states t) (λ q p. leads t q u p)) q 0) (unbroken (states t) (λ q p. leads t q v p))) (λ q p. leads t q (u ++ v) p) (rows-join u v)))
+        (rows-same (states t) (λ q. onward (states t) (getD (rowsOf (states t) (λ q p. leads t q u p)) q 0) (withoutEnd (states t) (λ q p. leads t q v p))) (λ q p. leads t q (u ++ v) p) (rows-join u v)))
     join-with [] (m ∷ ms) e f =
         let n = countIn (matches t) (partsBefore m ms) in
         rw (later-into u v e, f, flag-set n)
-        (broken-same (states t)
+        (withEnd-same (states t)
         (λ q. common (states t) (getD (rowsOf (states t) (λ q p. leads t q u p)) q 0) (word (states t) (λ q. acceptedFrom t q (firstPart v))))
         (λ q. acceptedFrom t q (firstPart (u ++ v)))
         (capped n)
@@ -131,12 +129,12 @@ module _ (t : Pattern) (few : atomCount t ≤ 29) where
     join-with (l ∷ ls) [] e f =
         let n = countIn (matches t) (partsBefore l ls) in
         rw (later-kept u v e, flag-set n)
-        (broken-same (states t)
+        (withEnd-same (states t)
         (bit (word (states t) (λ q. acceptedFrom t q (firstPart u))))
         (λ q. acceptedFrom t q (firstPart (u ++ v)))
         (capped n)
         (countIn (matches t) (partsBefore (firstThen l ls v) (laterThen ls v)))
-        (onward (states t) (word (states t) (leads t 0 (lastPart l ls))) (unbroken (states t) (λ q p. leads t q v p)))
+        (onward (states t) (word (states t) (leads t 0 (lastPart l ls))) (withoutEnd (states t) (λ q p. leads t q v p)))
         (leads t 0 (lastPart (firstThen l ls v) (laterThen ls v)))
         (λ q h. kept (λ q. acceptedFrom t q (firstPart u)) q h ∙ ap (acceptedFrom t q) (sym (first-kept u v e)))
         (rw (before-open l ls v (matches t) f) (capped-shown n))
@@ -148,7 +146,7 @@ module _ (t : Pattern) (few : atomCount t ≤ 29) where
         let n = countIn (matches t) (partsBefore l ls) in
         let k = countIn (matches t) (partsBefore m ms) in
         rw (later-kept u v e, flag-set n, flag-set k)
-        (broken-same (states t)
+        (withEnd-same (states t)
         (bit (word (states t) (λ q. acceptedFrom t q (firstPart u))))
         (λ q. acceptedFrom t q (firstPart (u ++ v)))
         (capped n + capped k + cond (common (states t) (word (states t) (leads t 0 (lastPart l ls))) (word (states t) (λ q. acceptedFrom t q (firstPart v)))) 1 0)

@@ -1,15 +1,14 @@
 -- Laws of the lines of a run.
 use Prim.Native.Nat.{ℕ, _+_}
 use native.Mathlib.Nat.{add-zero}
-use mathlib.Core.Path.{_≡_, refl, sym, ap, _∙_}
-use mathlib.Core.Bool.{Bool, true, false, not, cond, _&&_, _||_, false≢true}
+use mathlib.Core.Path.{_≡_, refl, sym}
+use mathlib.Core.Bool.{Bool, true, false, cond, _&&_, _||_, false≢true}
 use mathlib.Core.List.{List, [], _∷_, _++_}
 use lib.Dec.{eqb}
-use Rattle.stateset.proofs.Some.{torn, or-left, or-right}
 use Rattle.pattern.specs.Form.{Pattern, member}
 use Rattle.pattern.specs.Meaning.{matches}
 use Rattle.counter.specs.Lines.{lineEnd, lines, countIn, matching}
-use Rattle.counter.specs.Steps.{isOpen}
+use Rattle.counter.specs.Promises.{isOpen}
 
 -- a list with a byte in front
 pub member-first : (k b : ℕ) (l : List ℕ) → member k (b ∷ l) ≡ false → eqb k b ≡ false

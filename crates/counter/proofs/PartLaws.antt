@@ -1,12 +1,11 @@
 -- Laws of the parts of a run between line ends.
 use Prim.Native.Nat.{ℕ, _+_}
-use native.Mathlib.Omega.{arith}
 use native.Mathlib.Nat.{zero-add, add-zero, add-assoc}
 use mathlib.Core.Path.{_≡_, refl, sym, ap, _∙_}
 use mathlib.Core.Bool.{Bool, true, false, not, cond, _&&_}
 use mathlib.Core.List.{List, [], _∷_, _++_}
 use lib.Dec.{leb, eqb}
-use borrow.Author.Tests.{eqb-true, eqb-false, ne-eqb}
+use borrow.Author.Tests.{eqb-false, ne-eqb}
 use Rattle.stateset.proofs.Some.{clash, and-both, and-fst, and-snd}
 use Rattle.pattern.specs.Sets.{lineKey, isLine}
 use Rattle.counter.specs.Lines.{lineEnd, isRun, countIn}

@@ -11,16 +11,15 @@ use Rattle.stateset.proofs.Sets.{word-ext, word-one, bit-word}
 use Rattle.stateset.proofs.Some.{any-ext, any-widen}
 use Rattle.stateset.proofs.Common.{common-words}
 use Rattle.pattern.specs.Form.{Pattern, atomCount}
-use Rattle.pattern.specs.Sets.{lineKey, isLine}
+use Rattle.pattern.specs.Sets.{isLine}
 use Rattle.pattern.specs.Meaning.{matches}
 use Rattle.pattern.specs.Moves.{states, move, accepting, leads, acceptedFrom}
-use Rattle.pattern.specs.Automata.{accepts}
 use Rattle.pattern.specs.declared.automaton.Accepting.{Accepting}
 use Rattle.pattern.proofs.Moving.{common, advanced, always-word, ends-word, accepting-word}
 use Rattle.pattern.proofs.AcceptedLines.{states-match}
 use Rattle.pattern.proofs.Leading.{leads-append, leads-one, leads-below}
 use Rattle.counter.specs.declared.moves.Closing.{Closing}
-use Rattle.counter.specs.Steps.{Automaton, Closes, Advances, closingOf, moved, reached}
+use Rattle.counter.specs.Promises.{Automaton, Closes, Advances, closingOf, moved, reached}
 
 -- a move, from what each word of it is
 pub made : (keys enter : List ℕ) (c : Closing) (x k : ℕ) {i e mid a b found near r : ℕ} {m n o : Bool} →

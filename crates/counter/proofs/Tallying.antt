@@ -1,28 +1,26 @@
 -- Laws of the count over a plain run: what is known after some of its keys, and what it comes to.
-use Prim.Native.Nat.{ℕ, suc, _+_, _<_, _≤_}
+use Prim.Native.Nat.{ℕ, _+_, _<_, _≤_}
 use native.Mathlib.Omega.{arith}
 use native.Mathlib.Nat.{zero-add}
 use native.Mathlib.Numerals.{add-one}
 use mathlib.Core.Path.{_≡_, refl, sym, ap, _∙_}
-use mathlib.Core.Bool.{Bool, true, false, cond, _&&_, _||_}
+use mathlib.Core.Bool.{Bool, true, false, cond, _&&_}
 use mathlib.Core.List.{List, [], _∷_, _++_, append-nil, append-assoc}
 use lib.Dec.{eqb}
 use lib.ListN.{length, getD, take, drop, drop-of-length-le}
 use lib.Seq.{take-all, take-suc, drop-cons}
-use borrow.Author.Tests.{eqb-true, ne-eqb, eq-eqb}
-use Rattle.stateset.proofs.Some.{torn}
+use borrow.Author.Tests.{eqb-true, ne-eqb}
 use Rattle.refusal.specs.declared.Refusal.the-variants.{InvalidKey}
 use Rattle.pattern.specs.Form.{Pattern, member}
 use Rattle.pattern.specs.Sets.{lineKey, isLine}
 use Rattle.pattern.specs.Meaning.{matches}
-use Rattle.pattern.specs.Reader.{accepted}
 use Rattle.pattern.proofs.Moving.{common}
 use Rattle.counter.specs.declared.moves.Closing.{Closing}
 use Rattle.counter.specs.declared.run.RunCount.{RunCount}
 use Rattle.counter.specs.declared.run.Tally.{Tally}
 use Rattle.counter.specs.Lines.{lineEnd, matching}
 use Rattle.counter.specs.Answers.{answered, runResult}
-use Rattle.counter.specs.Steps.{Automaton, Advances, AfterKey, CountsRun, tallyAfter, isOpen, moved, reached}
+use Rattle.counter.specs.Promises.{Automaton, Advances, AfterKey, CountsRun, tallyAfter, isOpen, reached}
 use Rattle.counter.proofs.LineLaws.{member-first, member-rest, matching-closed, matching-open}
 use Rattle.counter.proofs.Reaching.{reached-none, reached-more, reached-matches}
 use Rattle.counter.proofs.Testing.{key-test, line-more, line-without, member-at}

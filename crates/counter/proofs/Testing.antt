@@ -3,13 +3,13 @@ use Prim.Native.Nat.{ℕ, zero, suc, _+_, _<_, _≤_}
 use native.Mathlib.Omega.{arith}
 use native.Mathlib.Numerals.{add-one}
 use mathlib.Core.Path.{_≡_, refl, sym, ap, _∙_}
-use mathlib.Core.Bool.{Bool, true, false, not, cond, _&&_, _||_, false≢true, or-true}
+use mathlib.Core.Bool.{Bool, true, false, not, cond, _||_}
 use mathlib.Core.List.{List, [], _∷_, _++_}
-use lib.Dec.{leb, eqb}
+use lib.Dec.{eqb}
 use lib.ListN.{length, getD, take}
 use lib.Seq.{take-all, take-suc}
 use borrow.Author.Tests.{eqb-true, eqb-false, eq-eqb, le-leb, not-true, not-false}
-use Rattle.stateset.proofs.Some.{torn, and-both, and-fst, and-snd, or-left, or-right, tests-ext}
+use Rattle.stateset.proofs.Some.{torn, and-both, and-fst, and-snd, or-left, or-right}
 use Rattle.refusal.specs.declared.Refusal.the-variants.{InvalidKey}
 use Rattle.pattern.specs.Form.{Pattern, member}
 use Rattle.pattern.specs.Sets.{lineKey, isLine}
@@ -20,7 +20,7 @@ use Rattle.counter.specs.declared.line.LineTest.{LineTest}
 use Rattle.counter.specs.declared.moves.Closing.{Closing}
 use Rattle.counter.specs.Lines.{lineEnd}
 use Rattle.counter.specs.Answers.{answered, lineResult}
-use Rattle.counter.specs.Steps.{Automaton, Advances, TestsLine, moved, reached}
+use Rattle.counter.specs.Promises.{Automaton, Advances, TestsLine, moved, reached}
 use Rattle.counter.proofs.Reaching.{reached-none, reached-more, reached-matches}
 
 -- Keys of a line.

@@ -8,9 +8,9 @@ use mathlib.Core.List.{List, [], _∷_}
 use lib.Dec.{leb, ltb, eqb}
 use lib.ListN.{getD}
 use borrow.Author.Tests.{ltb-true, ltb-false, not-true, not-false, eq-eqb, le-leb, lt-leb, leb-true, leb-false}
-use Rattle.stateset.specs.Set.{bit, word, anyBelow}
-use Rattle.stateset.proofs.Sets.{bits-ext, bit-word, word-high, word-lt, bit-one}
-use Rattle.stateset.proofs.Some.{torn, any-ext, any-at}
+use Rattle.stateset.specs.Set.{bit, word}
+use Rattle.stateset.proofs.Sets.{bits-ext, bit-word, word-high, bit-one}
+use Rattle.stateset.proofs.Some.{any-ext, any-at}
 use Rattle.pattern.specs.Form.{Pattern, atomCount}
 use Rattle.pattern.specs.Sets.{isLine}
 use Rattle.pattern.specs.Moves.{states, leads, acceptedFrom}
@@ -22,8 +22,8 @@ use Rattle.counter.specs.declared.moves.Closing.{Closing}
 use Rattle.counter.specs.declared.report.Report.{Report}
 use Rattle.counter.specs.declared.total.Total.{Total}
 use Rattle.counter.specs.Lines.{isRun, lineEnd, onto, lines, countIn, matching}
-use Rattle.counter.specs.Reports.{firstPart, laterParts, lastPart, partsBefore, most, unbroken, broken, reportWith, report}
-use Rattle.counter.specs.Steps.{closingOf, reached, isOpen, LastLine, Totals, totalOf}
+use Rattle.counter.specs.Reports.{firstPart, laterParts, lastPart, partsBefore, most, withoutEnd, withEnd, reportWith, report}
+use Rattle.counter.specs.Promises.{closingOf, reached, isOpen, LastLine, Totals, totalOf}
 use Rattle.counter.proofs.PartLaws.{first-whole, first-line, later-lines, last-line}
 use Rattle.counter.proofs.JoinLaw.{row-of, flag-set}
 use Rattle.counter.proofs.Tallying.{at-most-one}
@@ -151,13 +151,13 @@ flag-fine n = go (leb n most) refl
 -- The whole count, by the two kinds of report.
 module _ (c : Closing) (r : Report) where
   -- the report of a run without a line end, and of one with line ends
-  abbrev Unbroken : (Pattern → List ℕ → Type 0) → Type 0
-  Unbroken P = (t : Pattern) → atomCount t ≤ 29 → c ≡ closingOf t → (w : List ℕ) → isLine w ≡ true → isOpen w ≡ true → laterParts w ≡ [] → r ≡ unbroken (states t) (λ q p. leads t q w p) → P t w
+  abbrev WithoutEnd : (Pattern → List ℕ → Type 0) → Type 0
+  WithoutEnd P = (t : Pattern) → atomCount t ≤ 29 → c ≡ closingOf t → (w : List ℕ) → isLine w ≡ true → isOpen w ≡ true → laterParts w ≡ [] → r ≡ withoutEnd (states t) (λ q p. leads t q w p) → P t w
 
-  abbrev Broken : (Pattern → List ℕ → Type 0) → Type 0
-  Broken P = (t : Pattern) → atomCount t ≤ 29 → c ≡ closingOf t → (w : List ℕ) → isRun w ≡ true → (l : List ℕ) (ls : List (List ℕ)) → laterParts w ≡ l ∷ ls → r ≡ broken (states t) (λ q. acceptedFrom t q (firstPart w)) (countIn (matches t) (partsBefore l ls)) (leads t 0 (lastPart l ls)) → P t w
+  abbrev WithEnd : (Pattern → List ℕ → Type 0) → Type 0
+  WithEnd P = (t : Pattern) → atomCount t ≤ 29 → c ≡ closingOf t → (w : List ℕ) → isRun w ≡ true → (l : List ℕ) (ls : List (List ℕ)) → laterParts w ≡ l ∷ ls → r ≡ withEnd (states t) (λ q. acceptedFrom t q (firstPart w)) (countIn (matches t) (partsBefore l ls)) (leads t 0 (lastPart l ls)) → P t w
 
-  by-parts : (x : Total) → Unbroken (λ t w. x ≡ totalOf (matching t w)) → Broken (λ t w. x ≡ totalOf (matching t w)) → Totals c r x
+  by-parts : (x : Total) → WithoutEnd (λ t w. x ≡ totalOf (matching t w)) → WithEnd (λ t w. x ≡ totalOf (matching t w)) → Totals c r x
   unfolding Totals report
   by-parts x f g t few e w h o i = go (laterParts w) refl i
     where
@@ -190,7 +190,7 @@ module _ (c : Closing) (r : Report) where
 
   -- flag 1: the first line, those between, and the last part
   module _ {k : Bool} {x y : ℕ} (some : r .flag ≡ 0 → ⊥) (fine : r .flag ≤ 1) (head : k ≡ common (r .heads) 1) (first : x ≡ cond k 1 0) (last : LastLine c (r .tail) y) where
-    sum-of : Broken (λ t w. (r .closed + (x + y) ≡ matching t w) × (r .closed ≤ most))
+    sum-of : WithEnd (λ t w. (r .closed + (x + y) ≡ matching t w) × (r .closed ≤ most))
     sum-of t few e w h l ls d j =
         let n = countIn (matches t) (partsBefore l ls) in
         let kept = flag-fine n (rw (ap (λ (a : Report). a .flag) j) at fine) in

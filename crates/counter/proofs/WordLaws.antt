@@ -14,7 +14,7 @@ use Rattle.stateset.specs.Set.{bit, countBelow}
 use Rattle.stateset.proofs.Counts.{count-le}
 use Rattle.counter.specs.declared.report.Report.{Report}
 use Rattle.counter.specs.Counting.{reportWords, sumBelow}
-use Rattle.counter.specs.Steps.{loaded, pairsIn}
+use Rattle.counter.specs.Promises.{loaded, pairsIn}
 
 -- Reading rows.
 

@@ -1,6 +1,6 @@
 -- Document 01, "States and steps", "Reports" and "Refused": the count over a book, its steps and its work words.
 use Prim.Native.Nat.{ℕ, zero, suc, _+_, _*_}
-use mathlib.Core.Bool.{Bool, cond}
+use mathlib.Core.Bool.{cond}
 use mathlib.Core.List.{List, [], _∷_, _++_}
 use lib.Dec.{leb, ltb}
 use lib.ListN.{length, getD, take, drop}
@@ -13,7 +13,7 @@ use Rattle.book.specs.Expansion.{expand, expansion}
 use Rattle.book.specs.Reading.{Reading, got, refused}
 use Rattle.pattern.specs.Form.{Pattern}
 use Rattle.pattern.specs.Moves.{states, leads}
-use Rattle.pattern.specs.Reader as Pattern
+use Rattle.pattern.specs.Reader as reader
 use Rattle.counter.specs.declared.report.Report.{Report}
 use Rattle.counter.specs.Lines.{matching}
 use Rattle.counter.specs.Reports.{laterParts, lastPart, most, report}
@@ -38,12 +38,13 @@ pairs t w = pairsWith t w (laterParts w)
 unfoldable pub itemSteps : Pattern → (ℕ → List ℕ) → Macro → ℕ
 itemSteps t called items = sumBelow (length items) (λ k. pairs t (expand called (take k items)))
 
--- "Steps of macro m: over macros 0 to m"
-abbrev pub macroSteps : Pattern → List Macro → ℕ → ℕ
-macroSteps t ms i = itemSteps t (λ j. expansion ms j) (getD ms i [])
+-- the steps within one macro
+abbrev pub stepsWithin : Pattern → List Macro → ℕ → ℕ
+stepsWithin t ms i = itemSteps t (λ j. expansion ms j) (getD ms i [])
 
+-- "Steps of macro m: over macros 0 to m"
 unfoldable pub steps : Pattern → List Macro → ℕ → ℕ
-steps t ms m = sumBelow (suc m) (macroSteps t ms)
+steps t ms m = sumBelow (suc m) (stepsWithin t ms)
 
 -- "items is how many items macros 0 to m hold together"
 unfoldable pub itemsTo : List Macro → ℕ → ℕ
@@ -75,7 +76,6 @@ pub record Outcome : Type 0 where
   pub steps : ℕ
   pub work : List ℕ
 
--- "other lent memory is unchanged"
 abbrev pub stopped : Refusal → List ℕ → Outcome
 stopped r work = record { refusal = number r; lines = 0; steps = 0; work = work }
 
@@ -89,7 +89,7 @@ countOf t ms m work =
     (finished (matching t (expansion ms m)) (steps t ms m) (filled t ms m work))
     (stopped CountOverflow (filled t ms m work))
 
--- 10: "m not below M"; 11: "fewer words .. than stated"
+-- 10: "m not below M"; 11: "fewer words .. than stated"; "other lent memory is unchanged"
 abbrev pub countWith : List Macro → Pattern → ℕ → List ℕ → Outcome
 countWith ms t m work =
     cond (ltb m (length ms))
@@ -97,7 +97,7 @@ countWith ms t m work =
     (stopped NoSuchMacro work)
 
 -- "1 to 6 come in reading order, item by item; then 7; then 8 over the whole pattern; 9; 10; 11; 12."
-unfoldable pub countResult : Reading (List Macro) → Pattern.Read → ℕ → List ℕ → Outcome
+unfoldable pub countResult : Reading (List Macro) → reader.Read → ℕ → List ℕ → Outcome
 countResult (refused r) p m work = stopped r work
-countResult (got ms rest) (Pattern.refused r) m work = stopped r work
-countResult (got ms rest) (Pattern.accepted t) m work = countWith ms t m work
+countResult (got ms rest) (reader.refused r) m work = stopped r work
+countResult (got ms rest) (reader.accepted t) m work = countWith ms t m work

@@ -2,7 +2,7 @@
 use Prim.Native.Nat.{ℕ, suc, _+_, _*_, _≤_}
 use mathlib.Core.Path.{_≡_}
 use mathlib.Core.Bool.{true, _&&_}
-use mathlib.Core.List.{List, [], _∷_, _++_, List·Memᴰ}
+use mathlib.Core.List.{List, [], _++_, List·Memᴰ}
 use lib.Dec.{leb, eqb}
 use lib.ListN.{length, drop}
 use Rattle.book.specs.declared.item.Item.{Item}
@@ -21,14 +21,14 @@ use Rattle.counter.specs.declared.items.MacroCount.{MacroCount}
 use Rattle.counter.specs.declared.moves.Closing.{Closing}
 use Rattle.counter.specs.declared.report.Report.{Report}
 use Rattle.counter.specs.Lines.{isRun}
-use Rattle.counter.specs.Reports.{unbroken, report}
+use Rattle.counter.specs.Reports.{withoutEnd, report}
 use Rattle.counter.specs.Counting.{itemSteps, steps, filled, countOf, countWith}
 use Rattle.counter.specs.Answers.{outcome}
-use Rattle.counter.specs.Steps.{Automaton, loaded}
+use Rattle.counter.specs.Promises.{Automaton, loaded}
 
 -- the report of the empty run of a pattern with s states
 abbrev pub emptyReport : ℕ → Report
-emptyReport s = unbroken s (λ q p. eqb q p)
+emptyReport s = withoutEnd s (λ q p. eqb q p)
 
 -- the words of a called macro's report are there
 abbrev pub CallRoom : ℕ → Item → List ℕ → Type 0

@@ -8,7 +8,7 @@ use lib.ListN.{getD}
 use Rattle.stateset.specs.Set.{bit, anyBelow}
 use Rattle.counter.specs.declared.joining.Closed.{Closed}
 use Rattle.counter.specs.declared.report.Report.{Report}
-use Rattle.counter.specs.Reports.{most, noRows, unbroken, broken, onward, common, closedIn}
+use Rattle.counter.specs.Reports.{most, noRows, withoutEnd, withEnd, onward, common, closedIn}
 
 -- the states that rows reach from the states of x
 abbrev pub onwardBy : ℕ → ℕ → List ℕ → ℕ → Bool
@@ -32,14 +32,14 @@ withLines s heads c tail = record { s = s; rows = noRows; flag = c .flag; heads 
 
 -- the four cases of joining
 abbrev pub wholeJoin : Report → Report → Report
-wholeJoin a b = unbroken (a .s) (λ q. onward (a .s) (getD (a .rows) q 0) b)
+wholeJoin a b = withoutEnd (a .s) (λ q. onward (a .s) (getD (a .rows) q 0) b)
 
 abbrev pub openingJoin : Report → Report → Report
-openingJoin a b = broken (a .s) (λ q. common (a .s) (getD (a .rows) q 0) (b .heads)) (closedIn b) (bit (b .tail))
+openingJoin a b = withEnd (a .s) (λ q. common (a .s) (getD (a .rows) q 0) (b .heads)) (closedIn b) (bit (b .tail))
 
 abbrev pub endingJoin : Report → Report → Report
-endingJoin a b = broken (a .s) (bit (a .heads)) (closedIn a) (onward (a .s) (a .tail) b)
+endingJoin a b = withEnd (a .s) (bit (a .heads)) (closedIn a) (onward (a .s) (a .tail) b)
 
 abbrev pub acrossJoin : Report → Report → Report
 acrossJoin a b =
-    broken (a .s) (bit (a .heads)) (closedIn a + closedIn b + cond (common (a .s) (a .tail) (b .heads)) 1 0) (bit (b .tail))
+    withEnd (a .s) (bit (a .heads)) (closedIn a + closedIn b + cond (common (a .s) (a .tail) (b .heads)) 1 0) (bit (b .tail))

@@ -3,6 +3,6 @@ pub mod Lines
 pub mod Reports
 pub mod Counting
 pub mod Answers
-pub mod Steps
+pub mod Promises
 pub mod Joins
 pub mod Items

@@ -14,7 +14,7 @@ ghost use lib.Dec.{leb, eqb};
 ghost use lib.ListN.{getD};
 ghost use Rattle.stateset.specs.Set.{bit, word, anyBelow};
 ghost use Rattle.counter.specs.Reports.{most};
-ghost use Rattle.counter.specs.Steps.{AdvancesRows, Ended, Extended};
+ghost use Rattle.counter.specs.Promises.{AdvancesRows, Ended, Extended};
 
 const MOST: u64 = 0xffff_ffff_ffff_ffff;
 

@@ -11,7 +11,7 @@ ghost use mathlib.Core.Path.{_≡_};
 ghost use Rattle.pattern.specs.Reader.{readPattern};
 ghost use Rattle.pattern.specs.Sets.{lineKey};
 ghost use Rattle.counter.specs.Answers.{lineFigures, lineResult};
-ghost use Rattle.counter.specs.Steps.{TestsLine};
+ghost use Rattle.counter.specs.Promises.{TestsLine};
 
 pub enum LineTest {
     Matches,

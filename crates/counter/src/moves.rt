@@ -6,7 +6,7 @@ use stateset::chosen;
 use stateset::image;
 use stateset::meets;
 use stateset::union;
-ghost use Rattle.counter.specs.Steps.{Advances, Closes};
+ghost use Rattle.counter.specs.Promises.{Advances, Closes};
 
 // The sets of the fixed states.
 pub(crate) const LINE_START: u64 = 1 << State::LINE_START.0;

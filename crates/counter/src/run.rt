@@ -12,7 +12,7 @@ ghost use Prim.Native.Nat.{_<_, _+_};
 ghost use mathlib.Core.Path.{_≡_};
 ghost use Rattle.pattern.specs.Reader.{readPattern};
 ghost use Rattle.counter.specs.Answers.{runFigures, runResult};
-ghost use Rattle.counter.specs.Steps.{AfterKey, CountsRun};
+ghost use Rattle.counter.specs.Promises.{AfterKey, CountsRun};
 
 pub enum RunCount {
     Lines(u64),

@@ -5,7 +5,7 @@ use crate::report::Report;
 use stateset::chosen;
 use stateset::meets;
 ghost use Prim.Native.Nat.{_≤_};
-ghost use Rattle.counter.specs.Steps.{LastLine, Totals};
+ghost use Rattle.counter.specs.Promises.{LastLine, Totals};
 
 // How many lines match, or more than 64 bits count.
 pub(crate) enum Total {

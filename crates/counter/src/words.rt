@@ -8,7 +8,7 @@ ghost use lib.ListN.{length, getD, take, drop, replicate};
 ghost use lib.Seq.{paste};
 ghost use Rattle.stateset.specs.Set.{bit, countBelow};
 ghost use Rattle.counter.specs.Counting.{reportWords, sumBelow};
-ghost use Rattle.counter.specs.Steps.{loaded, pairsIn};
+ghost use Rattle.counter.specs.Promises.{loaded, pairsIn};
 
 // The rows whose words start at `at`, and zeros for the states that there are not.
 fn load_rows(work: &[u64], at: usize, s: usize) -> [u64; 32]

@@ -10,7 +10,6 @@ use borrow.Author.Tests.{leb-true}
 use Rattle.stateset.proofs.Some.{clash}
 use Rattle.refusal.specs.declared.Refusal.{Refusal}
 use Rattle.refusal.specs.declared.Refusal.the-variants.{PatternLength, PatternSyntax, TooManyAtoms}
-use Rattle.refusal.specs.Number.{number}
 use Rattle.refusal.proofs.Number.{number-positive, number-injective}
 use Rattle.pattern.specs.declared.automaton.Accepting.{Accepting}
 use Rattle.pattern.specs.Form.{Pattern, atomCount, member}

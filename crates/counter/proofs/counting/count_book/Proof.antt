@@ -1,11 +1,8 @@
+-- `counting::count_book`: a refused book is passed on, and leaves the work words.
 use Rattle.counter.proofs.BookLaws.{book-refused, book-in}
 use borrow.Author.Needs.{needs}
 use Rattle.counter.proofs.counting.count_book.Statement.{statement}
 use Rattle.counter.proofs.counting.count_book.Tie as tie
-use Rattle.counter.proofs.counting.count_book.Reads as reads
-use Rattle.counter.proofs.counting.count_book.Lts as lts
-use Rattle.book.proofs.layout_of.Reads as layout-of-reads
-use Rattle.counter.proofs.counting.counted_sound.Reads as counted-sound-reads
 
 layout-of-requires : tie.Need-layout-of-requires
 layout-of-requires c κs = search needs

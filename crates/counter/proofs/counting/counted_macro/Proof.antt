@@ -1,12 +1,8 @@
+-- `counting::counted_macro`: the count is that of macro m's run.
 use Rattle.counter.proofs.BookLaws.{macro-lines, macro-over}
 use borrow.Author.Needs.{needs}
 use Rattle.counter.proofs.counting.counted_macro.Statement.{statement}
 use Rattle.counter.proofs.counting.counted_macro.Tie as tie
-use Rattle.counter.proofs.counting.counted_macro.Reads as reads
-use Rattle.counter.proofs.counting.counted_macro.Lts as lts
-use Rattle.counter.proofs.counting.fill.Reads as fill-reads
-use Rattle.counter.proofs.total.total_of.Reads as total-of-reads
-use Rattle.counter.proofs.words.load.Reads as load-reads
 
 fill-requires : tie.Need-fill-requires
 fill-requires c κs = search needs

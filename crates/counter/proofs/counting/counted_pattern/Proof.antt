@@ -1,12 +1,9 @@
+-- `counting::counted_pattern`: first the macro number, then the work space, then the count.
 use native.Mathlib.Omega.{arith}
 use Rattle.counter.proofs.BookLaws.{no-macro, sizes-small, macro-in, short-work, pattern-counted}
 use borrow.Author.Needs.{needs}
 use Rattle.counter.proofs.counting.counted_pattern.Statement.{statement}
 use Rattle.counter.proofs.counting.counted_pattern.Tie as tie
-use Rattle.counter.proofs.counting.counted_pattern.Reads as reads
-use Rattle.counter.proofs.counting.counted_pattern.Lts as lts
-use Rattle.counter.proofs.counting.counted_macro.Reads as counted-macro-reads
-use Rattle.counter.proofs.moves.closing_of.Reads as closing-of-reads
 
 returns : tie.Need-returns
 returns c = search (no-macro)

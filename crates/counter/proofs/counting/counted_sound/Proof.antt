@@ -1,11 +1,8 @@
+-- `counting::counted_sound`: a refused pattern is passed on, and leaves the work words.
 use Rattle.counter.proofs.BookLaws.{pattern-refused, few-atoms, pattern-accepted}
 use borrow.Author.Needs.{needs}
 use Rattle.counter.proofs.counting.counted_sound.Statement.{statement}
 use Rattle.counter.proofs.counting.counted_sound.Tie as tie
-use Rattle.counter.proofs.counting.counted_sound.Reads as reads
-use Rattle.counter.proofs.counting.counted_sound.Lts as lts
-use Rattle.counter.proofs.counting.counted_pattern.Reads as counted-pattern-reads
-use Rattle.pattern.proofs.read_pattern.Reads as read-pattern-reads
 
 read-pattern-requires : tie.Need-read-pattern-requires
 read-pattern-requires c κs = search needs

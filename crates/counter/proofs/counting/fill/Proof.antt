@@ -1,3 +1,4 @@
+-- `counting::fill`: the first i macros' reports stand in the work words, and the words behind them are untouched.
 use borrow.Author.Needs.{needs}
 use Prim.Native.Nat.{suc, _+_, _-_, _*_, _<_, _≤_}
 use lib.ListN.{length}
@@ -6,10 +7,6 @@ use Rattle.book.specs.Reading.{macrosIn}
 use Rattle.counter.proofs.FillLaws.{FillSoFar, places, fill-start, words-room, macro-fits, fill-on, fill-done}
 use Rattle.counter.proofs.counting.fill.Statement.{statement}
 use Rattle.counter.proofs.counting.fill.Tie as tie
-use Rattle.counter.proofs.counting.fill.Reads as reads
-use Rattle.counter.proofs.counting.fill.Lts as lts
-use Rattle.counter.proofs.counting.macro_count.Reads as macro-count-reads
-use Rattle.counter.proofs.words.store.Reads as store-reads
 
 abbrev Inv-loop : tie.InvT-loop
 Inv-loop book offsets m s work₀ keys enter c width steps₀ i₀ work steps i = FillSoFar keys enter c (macrosIn book) m s work₀ work steps i

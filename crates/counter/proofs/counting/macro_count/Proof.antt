@@ -1,11 +1,9 @@
+-- `counting::macro_count`: the body's items are those of macro i.
 use borrow.Author.Needs.{needs}
 use native.Mathlib.Omega.{arith}
 use Rattle.counter.proofs.FillLaws.{places, body-fits, body-counted}
 use Rattle.counter.proofs.counting.macro_count.Statement.{statement}
 use Rattle.counter.proofs.counting.macro_count.Tie as tie
-use Rattle.counter.proofs.counting.macro_count.Reads as reads
-use Rattle.counter.proofs.counting.macro_count.Lts as lts
-use Rattle.counter.proofs.items.items_report.Reads as items-report-reads
 
 mul-start : tie.Need-mul-start
 mul-start c = search needs

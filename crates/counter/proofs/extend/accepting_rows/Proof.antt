@@ -7,12 +7,6 @@ use Rattle.stateset.specs.Set.{word}
 use Rattle.counter.proofs.Extending.{rowMeets, gathered-none, gathered-more}
 use Rattle.counter.proofs.extend.accepting_rows.Statement.{statement}
 use Rattle.counter.proofs.extend.accepting_rows.Tie as tie
-use Rattle.counter.proofs.extend.accepting_rows.Reads as reads
-use Rattle.counter.proofs.extend.accepting_rows.Lts as lts
-use Rattle.stateset.proofs.chosen.Reads as chosen-reads
-use Rattle.stateset.proofs.meets.Reads as meets-reads
-use Rattle.stateset.proofs.only.Reads as only-reads
-use Rattle.stateset.proofs.union.Reads as union-reads
 
 abbrev Inv-loop : tie.InvT-loop
 Inv-loop rows n accepting states₀ q₀ states q = (q ≤ n) × (states ≡ word q (rowMeets rows accepting))

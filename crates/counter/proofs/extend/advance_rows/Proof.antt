@@ -3,13 +3,10 @@ use Prim.Native.Nat.{_-_, _<_, _≤_}
 use native.Mathlib.Omega.{arith}
 use mathlib.Core.Path.{_≡_}
 use borrow.Author.Needs.{needs}
-use Rattle.counter.specs.Steps.{AdvancesRows}
+use Rattle.counter.specs.Promises.{AdvancesRows}
 use Rattle.counter.proofs.Extending.{rows-none, rows-more}
 use Rattle.counter.proofs.extend.advance_rows.Statement.{statement}
 use Rattle.counter.proofs.extend.advance_rows.Tie as tie
-use Rattle.counter.proofs.extend.advance_rows.Reads as reads
-use Rattle.counter.proofs.extend.advance_rows.Lts as lts
-use Rattle.counter.proofs.moves.advance.Reads as advance-reads
 
 abbrev Inv-loop : tie.InvT-loop
 Inv-loop rows n key keys enter c moved₀ q₀ moved q = (q ≤ n) × AdvancesRows keys enter c rows q key moved

@@ -3,10 +3,6 @@ use Rattle.counter.proofs.Extending.{ended-first}
 use borrow.Author.Needs.{needs}
 use Rattle.counter.proofs.extend.ended.Statement.{statement}
 use Rattle.counter.proofs.extend.ended.Tie as tie
-use Rattle.counter.proofs.extend.ended.Reads as reads
-use Rattle.counter.proofs.extend.ended.Lts as lts
-use Rattle.counter.proofs.extend.accepting_rows.Reads as accepting-rows-reads
-use Rattle.counter.proofs.extend.ended_again.Reads as ended-again-reads
 
 ended-again-requires : tie.Need-ended-again-requires
 ended-again-requires c κs = search needs

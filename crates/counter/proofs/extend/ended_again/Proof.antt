@@ -4,11 +4,6 @@ use Rattle.counter.proofs.Extending.{fits-sum, ended-more, ended-over}
 use borrow.Author.Needs.{needs}
 use Rattle.counter.proofs.extend.ended_again.Statement.{statement}
 use Rattle.counter.proofs.extend.ended_again.Tie as tie
-use Rattle.counter.proofs.extend.ended_again.Reads as reads
-use Rattle.counter.proofs.extend.ended_again.Lts as lts
-use Rattle.counter.proofs.extend.fits.Reads as fits-reads
-use Rattle.stateset.proofs.chosen.Reads as chosen-reads
-use Rattle.stateset.proofs.meets.Reads as meets-reads
 
 meets-requires : tie.Need-meets-requires
 meets-requires c κs = search needs

@@ -3,11 +3,6 @@ use Rattle.counter.proofs.Extending.{extended-end, extended-tail, exten
 use borrow.Author.Needs.{needs}
 use Rattle.counter.proofs.extend.extended.Statement.{statement}
 use Rattle.counter.proofs.extend.extended.Tie as tie
-use Rattle.counter.proofs.extend.extended.Reads as reads
-use Rattle.counter.proofs.extend.extended.Lts as lts
-use Rattle.counter.proofs.extend.advance_rows.Reads as advance-rows-reads
-use Rattle.counter.proofs.extend.ended.Reads as ended-reads
-use Rattle.counter.proofs.moves.advance.Reads as advance-reads
 
 ended-requires : tie.Need-ended-requires
 ended-requires c κs = search needs

@@ -4,8 +4,6 @@ use borrow.Author.Needs.{needs}
 use Rattle.counter.proofs.Extending.{fits-never, fits-below}
 use Rattle.counter.proofs.extend.fits.Statement.{statement}
 use Rattle.counter.proofs.extend.fits.Tie as tie
-use Rattle.counter.proofs.extend.fits.Reads as reads
-use Rattle.counter.proofs.extend.fits.Lts as lts
 
 returns : tie.Need-returns
 returns c = search (fits-never, needs)

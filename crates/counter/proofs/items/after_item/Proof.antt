@@ -1,13 +1,9 @@
+-- `items::after_item`: a key extends the report, a call joins the called macro's.
 use native.Mathlib.Omega.{arith}
 use Rattle.counter.proofs.ItemLaws.{item-key, item-call, call-room}
 use borrow.Author.Needs.{needs}
 use Rattle.counter.proofs.items.after_item.Statement.{statement}
 use Rattle.counter.proofs.items.after_item.Tie as tie
-use Rattle.counter.proofs.items.after_item.Reads as reads
-use Rattle.counter.proofs.items.after_item.Lts as lts
-use Rattle.counter.proofs.extend.extended.Reads as extended-reads
-use Rattle.counter.proofs.joining.joined.Reads as joined-reads
-use Rattle.counter.proofs.words.load.Reads as load-reads
 
 enum-known-item : tie.Need-enum-known-item
 enum-known-item c = search needs

@@ -1,3 +1,4 @@
+-- `items::empty_report`: the first q rows have their own state, the others none.
 use Prim.Native.Nat.{_≤_, _-_}
 use native.Mathlib.Omega.{arith}
 use mathlib.Core.Path.{_≡_}
@@ -7,8 +8,6 @@ use Rattle.counter.proofs.Joins.{filled, filled-none, filled-more}
 use Rattle.counter.proofs.ItemLaws.{own-row}
 use Rattle.counter.proofs.items.empty_report.Statement.{statement}
 use Rattle.counter.proofs.items.empty_report.Tie as tie
-use Rattle.counter.proofs.items.empty_report.Reads as reads
-use Rattle.counter.proofs.items.empty_report.Lts as lts
 
 abbrev Inv-loop : tie.InvT-loop
 Inv-loop s n rows₀ q₀ rows q = (q ≤ n) × (rows ≡ filled (λ k. word s (λ p. eqb k p)) q)

@@ -1,3 +1,4 @@
+-- `items::items_report`: the report is that of the items so far, and the steps are theirs.
 use borrow.Author.Needs.{needs}
 use Prim.Native.Nat.{_-_, _≤_}
 use native.Mathlib.Omega.{arith}
@@ -5,12 +6,6 @@ use lib.ListN.{length}
 use Rattle.counter.proofs.ItemLaws.{ItemsSoFar, items-start, items-short, item-fits, items-on, items-stop, pairs-le}
 use Rattle.counter.proofs.items.items_report.Statement.{statement}
 use Rattle.counter.proofs.items.items_report.Tie as tie
-use Rattle.counter.proofs.items.items_report.Reads as reads
-use Rattle.counter.proofs.items.items_report.Lts as lts
-use Rattle.book.proofs.read_item.Reads as read-item-reads
-use Rattle.counter.proofs.items.after_item.Reads as after-item-reads
-use Rattle.counter.proofs.items.empty_report.Reads as empty-report-reads
-use Rattle.counter.proofs.words.pairs_in.Reads as pairs-in-reads
 
 abbrev Inv-loop : tie.InvT-loop
 Inv-loop body s work keys enter c report₀ steps₀ at₀ report steps at = ItemsSoFar keys enter c work s body report steps at

@@ -1,10 +1,9 @@
+-- `line::is_line_key`: a byte is a key of a line unless it is 0 or a line end.
 use borrow.Author.Needs.{needs}
 use borrow.Author.Tests.{ne-eqb}
 use Rattle.counter.proofs.Testing.{no-zero, key-test}
 use Rattle.counter.proofs.line.is_line_key.Statement.{statement}
 use Rattle.counter.proofs.line.is_line_key.Tie as tie
-use Rattle.counter.proofs.line.is_line_key.Reads as reads
-use Rattle.counter.proofs.line.is_line_key.Lts as lts
 
 returns : tie.Need-returns
 returns c = search (no-zero)

@@ -1,12 +1,8 @@
+-- `line::test_line`: a refused pattern is passed on; an accepted one is tested by its tables.
 use Rattle.counter.proofs.Answering.{line-passed, line-answered}
 use borrow.Author.Needs.{needs}
 use Rattle.counter.proofs.line.test_line.Statement.{statement}
 use Rattle.counter.proofs.line.test_line.Tie as tie
-use Rattle.counter.proofs.line.test_line.Reads as reads
-use Rattle.counter.proofs.line.test_line.Lts as lts
-use Rattle.counter.proofs.line.tested.Reads as tested-reads
-use Rattle.counter.proofs.moves.closing_of.Reads as closing-of-reads
-use Rattle.pattern.proofs.read_pattern.Reads as read-pattern-reads
 
 read-pattern-requires : tie.Need-read-pattern-requires
 read-pattern-requires c κs = search needs

@@ -1,3 +1,4 @@
+-- `line::tested`: the states are those that the keys so far lead to from line-start, and all of these are keys of a line.
 use borrow.Author.Needs.{needs}
 use Prim.Native.Nat.{_-_}
 use native.Mathlib.Omega.{arith}
@@ -5,11 +6,6 @@ use lib.ListN.{length}
 use Rattle.counter.proofs.Testing.{LineSoFar, line-start, line-on, line-refused, line-matches, line-differs}
 use Rattle.counter.proofs.line.tested.Statement.{statement}
 use Rattle.counter.proofs.line.tested.Tie as tie
-use Rattle.counter.proofs.line.tested.Reads as reads
-use Rattle.counter.proofs.line.tested.Lts as lts
-use Rattle.counter.proofs.line.is_line_key.Reads as is-line-key-reads
-use Rattle.counter.proofs.moves.advance.Reads as advance-reads
-use Rattle.stateset.proofs.meets.Reads as meets-reads
 
 abbrev Inv-loop : tie.InvT-loop
 Inv-loop line keys enter c set₀ at₀ set at = LineSoFar keys enter c line set at

@@ -1,14 +1,8 @@
+-- `moves::advance`: the words of a move come to the states that it leads to.
 use borrow.Author.Needs.{needs}
 use Rattle.counter.proofs.Reaching.{made}
 use Rattle.counter.proofs.moves.advance.Statement.{statement}
 use Rattle.counter.proofs.moves.advance.Tie as tie
-use Rattle.counter.proofs.moves.advance.Reads as reads
-use Rattle.counter.proofs.moves.advance.Lts as lts
-use Rattle.stateset.proofs.both.Reads as both-reads
-use Rattle.stateset.proofs.chosen.Reads as chosen-reads
-use Rattle.stateset.proofs.image.Reads as image-reads
-use Rattle.stateset.proofs.meets.Reads as meets-reads
-use Rattle.stateset.proofs.union.Reads as union-reads
 
 image-requires : tie.Need-image-requires
 image-requires c κs = search needs

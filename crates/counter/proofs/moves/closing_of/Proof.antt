@@ -1,11 +1,8 @@
+-- `moves::closing_of`: the words are those of the pattern that the summary is of.
 use borrow.Author.Needs.{needs}
 use Rattle.counter.proofs.Reaching.{closed}
 use Rattle.counter.proofs.moves.closing_of.Statement.{statement}
 use Rattle.counter.proofs.moves.closing_of.Tie as tie
-use Rattle.counter.proofs.moves.closing_of.Reads as reads
-use Rattle.counter.proofs.moves.closing_of.Lts as lts
-use Rattle.stateset.proofs.chosen.Reads as chosen-reads
-use Rattle.stateset.proofs.union.Reads as union-reads
 
 chosen-requires : tie.Need-chosen-requires
 chosen-requires c κs = search needs

@@ -1,13 +1,9 @@
+-- `run::after_key`: a line end closes the line, another key goes on with it.
 use native.Mathlib.Omega.{arith}
 use Rattle.counter.proofs.Tallying.{at-most-one, after-end, after-other}
 use borrow.Author.Needs.{needs}
 use Rattle.counter.proofs.run.after_key.Statement.{statement}
 use Rattle.counter.proofs.run.after_key.Tie as tie
-use Rattle.counter.proofs.run.after_key.Reads as reads
-use Rattle.counter.proofs.run.after_key.Lts as lts
-use Rattle.counter.proofs.moves.advance.Reads as advance-reads
-use Rattle.stateset.proofs.chosen.Reads as chosen-reads
-use Rattle.stateset.proofs.meets.Reads as meets-reads
 
 meets-requires : tie.Need-meets-requires
 meets-requires c κs = search needs

@@ -1,12 +1,8 @@
+-- `run::count_run`: a refused pattern is passed on; under an accepted one the run is counted by its tables.
 use Rattle.counter.proofs.Answering.{run-passed, run-answered}
 use borrow.Author.Needs.{needs}
 use Rattle.counter.proofs.run.count_run.Statement.{statement}
 use Rattle.counter.proofs.run.count_run.Tie as tie
-use Rattle.counter.proofs.run.count_run.Reads as reads
-use Rattle.counter.proofs.run.count_run.Lts as lts
-use Rattle.counter.proofs.moves.closing_of.Reads as closing-of-reads
-use Rattle.counter.proofs.run.counted.Reads as counted-reads
-use Rattle.pattern.proofs.read_pattern.Reads as read-pattern-reads
 
 read-pattern-requires : tie.Need-read-pattern-requires
 read-pattern-requires c κs = search needs

@@ -1,3 +1,4 @@
+-- `run::counted`: what is counted and what is left make the whole count.
 use borrow.Author.Needs.{needs}
 use Prim.Native.Nat.{_-_}
 use native.Mathlib.Omega.{arith}
@@ -5,11 +6,6 @@ use lib.ListN.{length}
 use Rattle.counter.proofs.Tallying.{RunSoFar, last-small, run-start, run-on, run-refused, run-done}
 use Rattle.counter.proofs.run.counted.Statement.{statement}
 use Rattle.counter.proofs.run.counted.Tie as tie
-use Rattle.counter.proofs.run.counted.Reads as reads
-use Rattle.counter.proofs.run.counted.Lts as lts
-use Rattle.counter.proofs.run.after_key.Reads as after-key-reads
-use Rattle.stateset.proofs.chosen.Reads as chosen-reads
-use Rattle.stateset.proofs.meets.Reads as meets-reads
 
 abbrev Inv-loop : tie.InvT-loop
 Inv-loop run keys enter c a₀ at₀ a at = RunSoFar keys enter c run a at

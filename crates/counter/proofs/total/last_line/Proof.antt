@@ -1,11 +1,8 @@
+-- `total::last_line`: the last part counts if its states have left line-start and accept.
 use Rattle.counter.proofs.TotalLaws.{last-none, last-some}
 use borrow.Author.Needs.{needs}
 use Rattle.counter.proofs.total.last_line.Statement.{statement}
 use Rattle.counter.proofs.total.last_line.Tie as tie
-use Rattle.counter.proofs.total.last_line.Reads as reads
-use Rattle.counter.proofs.total.last_line.Lts as lts
-use Rattle.stateset.proofs.chosen.Reads as chosen-reads
-use Rattle.stateset.proofs.meets.Reads as meets-reads
 
 meets-requires : tie.Need-meets-requires
 meets-requires c κs = search needs

@@ -1,14 +1,10 @@
+-- `total::total_of`: the first line, those between, and the last part.
 use native.Mathlib.Omega.{arith}
 use Rattle.counter.proofs.Tallying.{at-most-one}
 use Rattle.counter.proofs.TotalLaws.{total-open, total-over, total-many, total-lines}
 use borrow.Author.Needs.{needs}
 use Rattle.counter.proofs.total.total_of.Statement.{statement}
 use Rattle.counter.proofs.total.total_of.Tie as tie
-use Rattle.counter.proofs.total.total_of.Reads as reads
-use Rattle.counter.proofs.total.total_of.Lts as lts
-use Rattle.counter.proofs.total.last_line.Reads as last-line-reads
-use Rattle.stateset.proofs.chosen.Reads as chosen-reads
-use Rattle.stateset.proofs.meets.Reads as meets-reads
 
 array-read-meets : tie.Need-array-read-meets
 array-read-meets c = search needs
