@@ -4,7 +4,7 @@ use native.Mathlib.Omega.{arith}
 use mathlib.Core.Path.{_≡_, refl, sym, ap, _∙_}
 use mathlib.Core.Logic.{_⊎_, inl, inr, ⊎-elim}
 use mathlib.Core.Bool.{Bool, true, false, cond, _&&_}
-use mathlib.Core.List.{List, [], _∷_, _++_}
+use mathlib.Core.List.{List, [], _∷_, _++_, append-nil}
 use lib.Dec.{leb, ltb, eqb}
 use lib.ListN.{getD}
 use borrow.Author.Tests.{leb-false, lt-leb, lt-ltb, ltb-true}
@@ -161,3 +161,12 @@ module _ (t : Pattern) (few : atomCount t ≤ 29) where
   pub join-reports : (u v : List ℕ) → isRun u ≡ true → isRun v ≡ true → joinedReports (report t u) (report t v) ≡ report t (u ++ v)
   unfolding report
   join-reports u v g h = join-with u v g h (laterParts u) (laterParts v) refl refl
+
+  -- the report of the empty run changes nothing
+  pub join-empty-left : (v : List ℕ) → isRun v ≡ true → joinedReports (report t []) (report t v) ≡ report t v
+  unfolding isRun
+  join-empty-left v h = join-reports [] v refl h
+
+  pub join-empty-right : (u : List ℕ) → isRun u ≡ true → joinedReports (report t u) (report t []) ≡ report t u
+  unfolding isRun
+  join-empty-right u h = join-reports u [] h refl ∙ ap (report t) (append-nil u)
