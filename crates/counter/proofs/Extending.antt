@@ -3,17 +3,15 @@ use Prim.Native.Nat.{ℕ, _+_, _-_, _%_, _^_, _<_, _≤_}
 use native.Mathlib.Omega.{arith}
 use native.Mathlib.Nat.{mod-eq-of-lt, add-zero}
 use mathlib.Core.Path.{_≡_, refl, sym, ap, _∙_}
-use mathlib.Core.Logic.{_⊎_, inl, inr}
-use mathlib.Core.Bool.{Bool, true, false, cond, _&&_, _||_}
+use mathlib.Core.Bool.{Bool, true, false, cond, _&&_}
 use mathlib.Core.List.{List, [], _∷_, _++_, append-nil}
 use lib.Dec.{leb, ltb, eqb}
 use lib.Bits.{bitOr}
 use lib.Pow.{pow-lt}
-use lib.ListN.{getD, set, replicate, getD-replicate, length-set}
-use lib.Seq.{ext-getD, getD-set-same, getD-set-other}
-use borrow.Author.Tests.{ltb-true, ltb-false, leb-true, leb-false, le-leb, lt-leb, lt-ltb, le-ltb, eq-eqb, ne-eqb}
+use lib.ListN.{getD, set, replicate}
+use borrow.Author.Tests.{ltb-true, ltb-false, leb-true, leb-false, le-leb, lt-leb, eq-eqb, ne-eqb}
 use Rattle.stateset.specs.Set.{bit, word}
-use Rattle.stateset.proofs.Sets.{word-ext, word-one, bit-word, word-high, bits-ext, bit-or, bit-chosen}
+use Rattle.stateset.proofs.Sets.{word-ext, word-one, bit-word, word-high, bits-ext}
 use Rattle.stateset.proofs.Some.{torn, and-snd, tests-ext}
 use Rattle.pattern.specs.Form.{Pattern, atomCount}
 use Rattle.pattern.specs.Meaning.{matches}
@@ -21,122 +19,41 @@ use Rattle.pattern.specs.Moves.{states, accepting, leads, acceptedFrom}
 use Rattle.pattern.specs.States.{tabled}
 use Rattle.pattern.proofs.Moving.{common}
 use Rattle.pattern.proofs.AcceptedLines.{states-match}
-use Rattle.pattern.proofs.Tabled.{tabled-length, tabled-at, tabled-same}
+use Rattle.pattern.proofs.Tabled.{tabled-same}
 use Rattle.counter.specs.declared.moves.Closing.{Closing}
 use Rattle.counter.specs.declared.report.Report.{Report}
 use Rattle.counter.specs.Lines.{lineEnd, isRun, countIn}
 use Rattle.counter.specs.Reports.{firstPart, laterParts, lastPart, partsBefore, most, rowsOf, noRows, withoutEnd, withEnd, reportWith, report}
 use Rattle.counter.specs.Promises.{Automaton, Advances, AdvancesRows, Extended, Ended, closingOf, moved}
+use Rattle.counter.proofs.Joins.{filled-none, filled-more, gathered-more}
 use Rattle.counter.proofs.Reaching.{leads-high, leads-more, leads-accepts}
 use Rattle.counter.proofs.PartLaws.{first-into, later-into, first-kept, later-kept, last-open, before-open, last-closed, before-closed, key-of-line, later-lines, last-line}
 use Rattle.counter.proofs.JoinLaw.{row-of}
 
--- two numbers are the same, or one is less
-sides : (p q : ℕ) → (p < q) ⊎ ((p ≡ q) ⊎ (q < p))
-sides p q = go (ltb p q) refl (ltb q p) refl
-  where
-    go : (a : Bool) → ltb p q ≡ a → (b : Bool) → ltb q p ≡ b → (p < q) ⊎ ((p ≡ q) ⊎ (q < p))
-    go true e b f = inl (ltb-true p q e)
-    go false e true f = inr (inr (ltb-true q p f))
-    go false e false f = inr (inl (omega (arith, ltb-false p q e, ltb-false q p f)))
-
 -- The states whose rows accept, gathered one by one.
-
--- one number more
-word-more : (q : ℕ) (X : ℕ → Bool) → bitOr (word q X) (cond (X q) (2 ^ q) 0) ≡ word (q + 1) X
-word-more q X = bits-ext _ _ (λ p. bit-or (word q X) (cond (X q) (2 ^ q) 0) p ∙ rw (bit-chosen (X q) q p) (go p (sides p q)))
-  where
-    low : (p : ℕ) → p < q → (bit (word q X) p || (X q && eqb q p)) ≡ bit (word (q + 1) X) p
-    low p h =
-        let other : eqb q p ≡ false = ne-eqb q p (λ e. omega arith) in
-        rw (bit-word q X p h, bit-word (q + 1) X p (omega arith), other) (none (X p) (X q))
-      where
-        none : (a b : Bool) → (a || (b && false)) ≡ a
-        none true b = refl
-        none false true = refl
-        none false false = refl
-
-    here : (bit (word q X) q || (X q && eqb q q)) ≡ bit (word (q + 1) X) q
-    here = rw (word-high q X q (omega arith), bit-word (q + 1) X q (omega arith), eq-eqb q q refl) (all (X q))
-      where
-        all : (b : Bool) → (false || (b && true)) ≡ b
-        all true = refl
-        all false = refl
-
-    high : (p : ℕ) → q < p → (bit (word q X) p || (X q && eqb q p)) ≡ bit (word (q + 1) X) p
-    high p h =
-        let other : eqb q p ≡ false = ne-eqb q p (λ e. omega arith) in
-        rw (word-high q X p (omega arith), word-high (q + 1) X p (omega arith), other) (none (X q))
-      where
-        none : (b : Bool) → (false || (b && false)) ≡ false
-        none true = refl
-        none false = refl
-
-    go : (p : ℕ) → (p < q) ⊎ ((p ≡ q) ⊎ (q < p)) → (bit (word q X) p || (X q && eqb q p)) ≡ bit (word (q + 1) X) p
-    go p (inl h) = low p h
-    go p (inr (inl e)) = rw e here
-    go p (inr (inr h)) = high p h
 
 -- whether a row has a state of z
 abbrev pub rowMeets : List ℕ → ℕ → ℕ → Bool
 rowMeets rows z q = common (getD rows q 0) z
 
--- no row is looked at yet
-pub gathered-none : (rows : List ℕ) (z : ℕ) → 0 ≡ word 0 (rowMeets rows z)
-unfolding word
-gathered-none rows z = refl
-
 -- one row more
-pub gathered-more : (rows : List ℕ) (z q : ℕ) {a o x r : ℕ} {m : Bool} → q < 32 → a ≡ word q (rowMeets rows z) → m ≡ common (getD rows q 0) z → o ≡ 2 ^ q % 2 ^ 64 → x ≡ cond m o 0 → r ≡ bitOr a x → r ≡ word (q + 1) (rowMeets rows z)
-gathered-more rows z q h e f g i j =
+pub row-gathered : (rows : List ℕ) (z q : ℕ) {a o x r : ℕ} {m : Bool} → q < 32 → a ≡ word q (rowMeets rows z) → m ≡ common (getD rows q 0) z → o ≡ 2 ^ q % 2 ^ 64 → x ≡ cond m o 0 → r ≡ bitOr a x → r ≡ word (q + 1) (rowMeets rows z)
+row-gathered rows z q h e f g i j =
     let low : q < 64 = omega arith in
-    rw (j, i, g, f, e, mod-eq-of-lt (pow-lt low)) (word-more q (rowMeets rows z))
+    rw (j, i, g, f, e, mod-eq-of-lt (pow-lt low)) (gathered-more (rowMeets rows z) q)
 
 -- Rows that move one by one.
-
--- one entry more of a table
-tabled-more : (F G : ℕ → ℕ) (n q x : ℕ) → q < n → ((p : ℕ) → p < n → (p ≡ q → ⊥) → F p ≡ G p) → x ≡ G q → set (tabled F n 0) q x ≡ tabled G n 0
-tabled-more F G n q x h e f =
-    ext-getD 0 (set (tabled F n 0) q x) (tabled G n 0) (simp (length-set, tabled-length))
-    (λ p l. let i : p < n = (simp (length-set, tabled-length) at l) in go p i (sides p q))
-  where
-    other : (p : ℕ) → p < n → (p ≡ q → ⊥) → getD (set (tabled F n 0) q x) p 0 ≡ getD (tabled G n 0) p 0
-    other p i d = getD-set-other (tabled F n 0) q p x 0 d ∙ tabled-at F n p i ∙ e p i d ∙ sym (tabled-at G n p i)
-
-    same : getD (set (tabled F n 0) q x) q 0 ≡ getD (tabled G n 0) q 0
-    same = getD-set-same (tabled F n 0) q x 0 (rw tabled-length h) ∙ f ∙ sym (tabled-at G n q h)
-
-    go : (p : ℕ) → p < n → (p < q) ⊎ ((p ≡ q) ⊎ (q < p)) → getD (set (tabled F n 0) q x) p 0 ≡ getD (tabled G n 0) p 0
-    go p i (inl l) = other p i (λ d. omega arith)
-    go p i (inr (inl d)) = rw d same
-    go p i (inr (inr l)) = other p i (λ d. omega arith)
 
 module _ (keys enter : List ℕ) (c : Closing) (rows : List ℕ) (k : ℕ) where
   -- no row has moved yet
   pub rows-none : AdvancesRows keys enter c rows 0 k (replicate 32 0)
   unfolding AdvancesRows
-  rows-none t h l =
-      let F : ℕ → ℕ = λ q. cond (ltb q 0) (moved t (getD rows q 0) k) 0 in
-      ext-getD 0 (replicate 32 0) (tabled F 32 0) (simp tabled-length)
-      (λ q i. getD-replicate 32 q 0 0 i ∙ sym (tabled-at F 32 q i ∙ rw (le-ltb q 0 (omega arith)) refl))
+  rows-none t h l = filled-none (λ q. moved t (getD rows q 0) k)
 
   -- one row more
   pub rows-more : (q : ℕ) (r : List ℕ) (x : ℕ) → q < 32 → AdvancesRows keys enter c rows q k r → Advances keys enter c (getD rows q 0) k x → AdvancesRows keys enter c rows (q + 1) k (set r q x)
   unfolding AdvancesRows Advances
-  rows-more q r x h f g t i l =
-      rw (f t i l)
-      (tabled-more (λ p. cond (ltb p q) (moved t (getD rows p 0) k) 0) (λ p. cond (ltb p (q + 1)) (moved t (getD rows p 0) k) 0) 32 q x h
-      (λ p b d. ap (λ (b : Bool). cond b (moved t (getD rows p 0) k) 0) (go p d (ltb p q) refl))
-      (g t i l ∙ sym (rw (lt-ltb q (q + 1) (omega arith)) refl)))
-    where
-      go : (p : ℕ) → (p ≡ q → ⊥) → (b : Bool) → ltb p q ≡ b → ltb p q ≡ ltb p (q + 1)
-      go p d true e = e ∙ sym (lt-ltb p (q + 1) (omega (arith, ltb-true p q e)))
-      go p d false e = e ∙ sym (le-ltb p (q + 1) (above (ltb-false p q e) (sides p q)))
-        where
-          above : q ≤ p → (p < q) ⊎ ((p ≡ q) ⊎ (q < p)) → q + 1 ≤ p
-          above m (inl i) = omega arith
-          above m (inr (inl i)) = absurd (d i)
-          above m (inr (inr i)) = omega arith
+  rows-more q r x h f g t i l = rw (f t i l, g t i l) (filled-more (λ p. moved t (getD rows p 0) k) q h)
 
 -- A count with a limit.
 

@@ -119,7 +119,7 @@ unfolding word
 gathered-none X = refl
 
 -- one member more, if it has X
-gathered-more : (X : ℕ → Bool) (q : ℕ) → bitOr (word q X) (cond (X q) (2 ^ q) 0) ≡ word (q + 1) X
+pub gathered-more : (X : ℕ → Bool) (q : ℕ) → bitOr (word q X) (cond (X q) (2 ^ q) 0) ≡ word (q + 1) X
 gathered-more X q =
     word-unique (q + 1) (bitOr (word q X) (cond (X q) (2 ^ q) 0)) X
     (or-lt (q + 1) (word q X) (cond (X q) (2 ^ q) 0) (lt-of-lt-of-le (word-lt q X) (omega (arith, up))) (one (X q)))

@@ -5,11 +5,11 @@ use native.Mathlib.Nat.{zero-add, add-assoc}
 use mathlib.Core.Path.{_≡_, refl, sym, ap, _∙_}
 use mathlib.Core.Bool.{Bool, true, false, not, cond, _&&_, and-comm, false≢true}
 use mathlib.Core.List.{List, [], _∷_}
-use lib.Dec.{leb, ltb, eqb}
+use lib.Dec.{leb, eqb}
 use lib.ListN.{getD}
-use borrow.Author.Tests.{ltb-true, ltb-false, not-true, not-false, eq-eqb, le-leb, lt-leb, leb-true, leb-false}
+use borrow.Author.Tests.{not-true, not-false, eq-eqb, le-leb, lt-leb, leb-true, leb-false}
 use Rattle.stateset.specs.Set.{bit, word}
-use Rattle.stateset.proofs.Sets.{bits-ext, bit-word, word-high, bit-one}
+use Rattle.stateset.proofs.Sets.{bit-word, bit-one}
 use Rattle.stateset.proofs.Some.{any-ext, any-at}
 use Rattle.pattern.specs.Form.{Pattern, atomCount}
 use Rattle.pattern.specs.Sets.{isLine}
@@ -23,11 +23,11 @@ use Rattle.counter.specs.declared.report.Report.{Report}
 use Rattle.counter.specs.declared.total.Total.{Total}
 use Rattle.counter.specs.Lines.{isRun, lineEnd, onto, lines, countIn, matching}
 use Rattle.counter.specs.Reports.{firstPart, laterParts, lastPart, partsBefore, most, withoutEnd, withEnd, reportWith, report}
-use Rattle.counter.specs.Promises.{closingOf, reached, isOpen, LastLine, Totals, totalOf}
+use Rattle.counter.specs.Promises.{closingOf, isOpen, LastLine, Totals, totalOf}
 use Rattle.counter.proofs.PartLaws.{first-whole, first-line, later-lines, last-line}
 use Rattle.counter.proofs.JoinLaw.{row-of, flag-set}
 use Rattle.counter.proofs.Tallying.{at-most-one}
-use Rattle.counter.proofs.Reaching.{leads-high, reached-accepts}
+use Rattle.counter.proofs.Extending.{row-accepts}
 
 -- the lines of a run, by its parts: the last part is a line if it has a key
 abbrev lastOnly : List ℕ → List (List ℕ)
@@ -68,18 +68,6 @@ module _ (t : Pattern) (w : List ℕ) where
 
 -- Words.
 
--- a wider word of the same members
-word-wide : (s n : ℕ) (X : ℕ → Bool) → s ≤ n → ((k : ℕ) → s ≤ k → X k ≡ false) → word s X ≡ word n X
-word-wide s n X h e = bits-ext (word s X) (word n X) (λ p. go p (ltb p s) refl)
-  where
-    go : (p : ℕ) (b : Bool) → ltb p s ≡ b → bit (word s X) p ≡ bit (word n X) p
-    go p true i = let l = ltb-true p s i in bit-word s X p l ∙ sym (bit-word n X p (omega arith))
-    go p false i = let l = ltb-false p s i in word-high s X p l ∙ sym (high p (ltb p n) refl l)
-      where
-        high : (p : ℕ) (b : Bool) → ltb p n ≡ b → s ≤ p → bit (word n X) p ≡ false
-        high p true j l = bit-word n X p (ltb-true p n j) ∙ e p l
-        high p false j l = word-high n X p (ltb-false p n j)
-
 -- a set that has line-start
 common-start : (x : ℕ) → common x 1 ≡ bit x 0
 common-start x =
@@ -89,11 +77,7 @@ common-start x =
 module _ (t : Pattern) (few : atomCount t ≤ 29) where
   -- the states that a line leads to accept exactly if it matches
   pub tail-accepts : (l : List ℕ) → isLine l ≡ true → common (word (states t) (leads t 0 l)) (closingOf t .accepting) ≡ matches t l
-  unfolding reached
-  tail-accepts l h = ap (λ (x : ℕ). common x (closingOf t .accepting)) narrow ∙ reached-accepts t few l ∙ states-match t l h
-    where
-      narrow : word (states t) (leads t 0 l) ≡ reached t l
-      narrow = word-wide (states t) 32 (leads t 0 l) (omega arith) (leads-high t few 0 (omega arith) l)
+  tail-accepts l h = row-accepts t few 0 (omega arith) l ∙ states-match t l h
 
   -- and have left line-start exactly if it has a key
   pub tail-start : (l : List ℕ) → common (word (states t) (leads t 0 l)) 1 ≡ not (isOpen l)

@@ -4,7 +4,8 @@ use native.Mathlib.Omega.{arith}
 use mathlib.Core.Path.{_≡_, refl}
 use borrow.Author.Needs.{needs}
 use Rattle.stateset.specs.Set.{word}
-use Rattle.counter.proofs.Extending.{rowMeets, gathered-none, gathered-more}
+use Rattle.counter.proofs.Extending.{rowMeets, row-gathered}
+use Rattle.counter.proofs.Joins.{gathered-none}
 use Rattle.counter.proofs.extend.accepting_rows.Statement.{statement}
 use Rattle.counter.proofs.extend.accepting_rows.Tie as tie
 
@@ -48,7 +49,7 @@ loop-again : tie.Need-loop-again Inv-loop μ-loop
 loop-again c =
     let l = c .before .before .before .before .before .before .loop in
     let h : l .q < 32 = omega arith in
-    (omega arith, search (gathered-more, l .inv .1, h))
+    (omega arith, search (row-gathered, l .inv .1, h))
 
 returns : tie.Need-returns Inv-loop μ-loop
 returns c =
