@@ -1,0 +1,2 @@
+-- Laws of the definitions, which the proofs of functions cite.
+pub mod InputLaws

@@ -1,0 +1,34 @@
+use native.Mathlib.Omega.{arith}
+use Rattle.command.proofs.InputLaws.{last-sound, last-refused}
+use borrow.Author.Needs.{needs}
+use Rattle.command.proofs.last_macro.Statement.{statement}
+use Rattle.command.proofs.last_macro.Tie as tie
+use Rattle.command.proofs.last_macro.Reads as reads
+use Rattle.command.proofs.last_macro.Lts as lts
+use Rattle.book.proofs.check.Reads as check-reads
+
+check-requires : tie.Need-check-requires
+check-requires c κs = search needs
+
+enum-known-n : tie.Need-enum-known-n
+enum-known-n c = search needs
+
+cast-result : tie.Need-cast-result
+cast-result c = search needs
+
+sub-result : tie.Need-sub-result
+sub-result c = omega (arith, last-sound (c .before .before .before .args .book .now) (c .before .before .check .ensures) (c .n .given .1) .0)
+
+enum-told : tie.Need-enum-told
+enum-told c = search needs
+
+returns : tie.Need-returns
+returns c = search (last-sound)
+
+returns-2 : tie.Need-returns-2
+returns-2 c = search (last-refused)
+
+pub last-macro-spec : {M : Type 1} → statement M
+last-macro-spec =
+    tie.close
+    (tie.spec check-requires enum-known-n cast-result sub-result enum-told returns returns-2)

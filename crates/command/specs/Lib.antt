@@ -1,0 +1,2 @@
+-- What the program answers to its input.
+pub mod Input
