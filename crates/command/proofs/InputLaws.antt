@@ -1,14 +1,14 @@
 -- Laws of the program's input.
-use Prim.Native.Nat.{ℕ, suc, _+_, _-_, _<_, _≤_}
+use Prim.Native.Nat.{ℕ, suc, _+_, _-_, _<_, _≤_, min}
 use native.Mathlib.Omega.{arith}
 use native.Mathlib.Numerals.{add-one}
 use mathlib.Core.Path.{_≡_, refl, sym, ap, _∙_}
-use mathlib.Core.Bool.{Bool, true, false, cond}
-use mathlib.Core.List.{List, [], _∷_}
-use lib.Dec.{eqb, ltb}
-use lib.ListN.{length, getD, take, drop, drop-of-length-le}
-use lib.Seq.{drop-cons}
-use borrow.Author.Tests.{eq-eqb, ne-eqb, lt-ltb, le-ltb}
+use mathlib.Core.Bool.{Bool, true, false}
+use mathlib.Core.List.{List}
+use lib.Dec.{ltb}
+use lib.ListN.{length, getD, take, drop, drop-of-length-le, length-drop}
+use lib.Seq.{drop-cons, drop-length, take-all}
+use borrow.Author.Tests.{eq-eqb, ne-eqb, lt-ltb, le-ltb, ltb-true, ltb-false}
 use Rattle.refusal.specs.declared.Refusal.{Refusal}
 use Rattle.refusal.proofs.Number.{number-positive}
 use Rattle.book.specs.Format.{Macro}
@@ -17,18 +17,29 @@ use Rattle.book.specs.Answer.{Figures, checkedFigures, checkResult}
 use Rattle.book.specs.declared.layout.Checked.{Checked}
 use Rattle.book.proofs.Offsets.{whole}
 use Rattle.counter.specs.Lines.{lineEnd}
-use Rattle.command.specs.Input.{patternEnd, lastMacro}
+use Rattle.counter.specs.Counting.{stopped, countResult}
+use Rattle.counter.specs.Answers.{outcome}
+use Rattle.counter.specs.declared.counting.BookCount.{BookCount}
+use Rattle.pattern.specs.Reader.{readPattern}
+use Rattle.refusal.specs.declared.Refusal.the-variants.{InputTooLong}
+use Rattle.command.specs.Input.{patternEnd, lastMacro, programResult}
 
 -- The last macro.
 module _ (b : List ℕ) {r : Checked} (e : checkedFigures r ≡ checkResult (readBook b)) where
-  pub last-sound : {n : ℕ} → r ≡ Checked.Sound n → (1 ≤ n) × (n - 1 ≡ lastMacro (readBook b))
-  last-sound {n} f = go (readBook b) refl (rw f at e)
+  last-of : {n : ℕ} → r ≡ Checked.Sound n → (1 ≤ n) × (n - 1 ≡ lastMacro (readBook b))
+  last-of {n} f = go (readBook b) refl (rw f at e)
     where
       go : (g : Reading (List Macro)) → readBook b ≡ g → checkedFigures (Checked.Sound n) ≡ checkResult g → (1 ≤ n) × (n - 1 ≡ lastMacro g)
       go (got ms rest) d h =
           let same : n ≡ length ms = ap (λ (x : Figures). x .value) h in
           (omega (arith, whole b ms rest d .some), rw same refl)
       go (refused q) d h = absurd (omega (arith, number-positive q, ap (λ (x : Figures). x .refusal) h))
+
+  pub some-macro : {n : ℕ} → r ≡ Checked.Sound n → 1 ≤ n
+  some-macro f = last-of f .0
+
+  pub last-sound : {n : ℕ} → r ≡ Checked.Sound n → n - 1 ≡ lastMacro (readBook b)
+  last-sound f = last-of f .1
 
   pub last-refused : {q : Refusal} → r ≡ Checked.Refused q → 0 ≡ lastMacro (readBook b)
   last-refused {q} f = go (readBook b) (rw f at e)
@@ -46,11 +57,11 @@ pub searched-none : (w : List ℕ) → Searched w 0
 searched-none w = record { inside = omega arith; rest = omega arith }
 
 module _ {w : List ℕ} {at : ℕ} (x : Searched w at) where
-  pub searched-end : at < length w → getD w at 0 ≡ lineEnd → (at ≡ patternEnd w) × (at ≤ length w)
+  pub searched-end : at < length w → getD w at 0 ≡ lineEnd → at ≡ patternEnd w
   unfolding patternEnd
   searched-end h e =
       let here : patternEnd (drop at w) ≡ 0 = ap patternEnd (drop-cons w at 0 h) ∙ rw (eq-eqb (getD w at 0) lineEnd e) refl in
-      (omega (arith, x .rest), x .inside)
+      omega (arith, x .rest)
 
   pub searched-more : at < length w → (getD w at 0 ≡ lineEnd → ⊥) → Searched w (at + 1)
   unfolding patternEnd
@@ -58,8 +69,30 @@ module _ {w : List ℕ} {at : ℕ} (x : Searched w at) where
       let here : patternEnd (drop at w) ≡ suc (patternEnd (drop (at + 1) w)) = ap patternEnd (drop-cons w at 0 h) ∙ rw (ne-eqb (getD w at 0) lineEnd n, add-one at) refl in
       record { inside = omega arith; rest = omega (arith, x .rest) }
 
-  pub searched-all : length w ≤ at → (at ≡ patternEnd w) × (at ≤ length w)
+  pub searched-all : length w ≤ at → at ≡ patternEnd w
   unfolding patternEnd
   searched-all h =
       let none : patternEnd (drop at w) ≡ 0 = ap patternEnd (drop-of-length-le w h) in
-      (omega (arith, x .rest), x .inside)
+      omega (arith, x .rest)
+
+-- The whole.
+pub answer-long : (w work : List ℕ) → 8192 < length w → stopped InputTooLong work ≡ programResult w work
+unfolding programResult
+answer-long w work h = rw (lt-ltb 8192 (length w) h) refl
+
+pub answer-book : (w before after : List ℕ) (r : BookCount) {end start m : ℕ} → length w ≤ 8192 → end ≡ patternEnd w → start ≡ min (end + 1) (length w) → m ≡ lastMacro (readBook (take (length w - start) (drop start w))) → outcome r after ≡ countResult (readBook (take (length w - start) (drop start w))) (readPattern (take end w)) m before → outcome r after ≡ programResult w before
+unfolding programResult
+answer-book w before after r {end} {start} {m} h e f g k =
+    let part = take (length w - start) (drop start w) in
+    let book : part ≡ drop (suc (patternEnd w)) w = take-all (length w - start) (drop start w) (rw length-drop (omega arith)) ∙ ap (λ (n : ℕ). drop n w) f ∙ behind (end + 1) ∙ ap (λ (n : ℕ). drop n w) (add-one end ∙ ap suc e) in
+    rw (le-ltb 8192 (length w) h) (k ∙ ap (λ (n : ℕ). countResult (readBook part) (readPattern (take end w)) n before) g ∙ rw (book, e) refl)
+  where
+    behind : (n : ℕ) → drop (min n (length w)) w ≡ drop n w
+    behind n = go (ltb n (length w)) refl
+      where
+        go : (b : Bool) → ltb n (length w) ≡ b → drop (min n (length w)) w ≡ drop n w
+        go true i = let l = ltb-true n (length w) i in let same : min n (length w) ≡ n = omega arith in rw same refl
+        go false i =
+            let l = ltb-false n (length w) i in
+            let same : min n (length w) ≡ length w = omega arith in
+            rw same (drop-length w ∙ sym (drop-of-length-le w l))

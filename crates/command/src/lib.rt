@@ -4,7 +4,7 @@ use book::check;
 use counter::BookCount;
 use counter::count_book;
 use refusal::Refusal;
-ghost use Prim.Native.Nat.{_≤_};
+ghost use Prim.Native.Nat.{_≤_, _+_, min};
 ghost use mathlib.Core.Path.{_≡_};
 ghost use lib.ListN.{length};
 ghost use Rattle.book.specs.Reading.{readBook};
@@ -28,6 +28,14 @@ fn pattern_end(input: &[u8]) -> usize
     at
 }
 
+// Where the book starts: behind the LF, or behind all if there is none.
+fn book_start(end: usize, len: usize) -> usize
+    requires { ⌜ end ≤ len ⌝ }
+    ensures { λ r. ⌜ (r ≡ min (end + 1) len) × (r ≤ len) ⌝ }
+{
+    if end < len { end + 1 } else { len }
+}
+
 // The number of the book's last macro; a book that is not sound has none, and is refused whatever is asked of it.
 fn last_macro(book: &[u8]) -> usize
     ensures { λ r. ⌜ r ≡ lastMacro (readBook (now (book .entry))) ⌝ }
@@ -46,12 +54,7 @@ pub fn answer(input: &[u8], work: &mut [u64]) -> BookCount
         return BookCount::Refused(Refusal::InputTooLong);
     }
     let end = pattern_end(input);
-    let pattern = &input[..end];
-    if end == input.len() {
-        let none = &input[end..];
-        return count_book(none, pattern, last_macro(none), work);
-    }
-    let start = end + 1;
+    let start = book_start(end, input.len());
     let book = &input[start..];
-    count_book(book, pattern, last_macro(book), work)
+    count_book(book, &input[..end], last_macro(book), work)
 }

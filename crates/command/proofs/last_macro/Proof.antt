@@ -1,11 +1,8 @@
-use native.Mathlib.Omega.{arith}
-use Rattle.command.proofs.InputLaws.{last-sound, last-refused}
+-- `last_macro`: the check gives the macro count, and a sound book has a macro.
+use Rattle.command.proofs.InputLaws.{some-macro, last-sound, last-refused}
 use borrow.Author.Needs.{needs}
 use Rattle.command.proofs.last_macro.Statement.{statement}
 use Rattle.command.proofs.last_macro.Tie as tie
-use Rattle.command.proofs.last_macro.Reads as reads
-use Rattle.command.proofs.last_macro.Lts as lts
-use Rattle.book.proofs.check.Reads as check-reads
 
 check-requires : tie.Need-check-requires
 check-requires c κs = search needs
@@ -17,7 +14,7 @@ cast-result : tie.Need-cast-result
 cast-result c = search needs
 
 sub-result : tie.Need-sub-result
-sub-result c = omega (arith, last-sound (c .before .before .before .args .book .now) (c .before .before .check .ensures) (c .n .given .1) .0)
+sub-result c = search (some-macro, needs)
 
 enum-told : tie.Need-enum-told
 enum-told c = search needs

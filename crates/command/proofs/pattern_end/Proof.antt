@@ -1,11 +1,10 @@
+-- `pattern_end`: no byte before `at` is an LF.
 use Prim.Native.Nat.{_-_}
 use native.Mathlib.Omega.{arith}
 use lib.ListN.{length}
 use Rattle.command.proofs.InputLaws.{Searched, searched-none, searched-end, searched-more, searched-all}
 use Rattle.command.proofs.pattern_end.Statement.{statement}
 use Rattle.command.proofs.pattern_end.Tie as tie
-use Rattle.command.proofs.pattern_end.Reads as reads
-use Rattle.command.proofs.pattern_end.Lts as lts
 
 abbrev Inv-loop : tie.InvT-loop
 Inv-loop input at₀ at = Searched input at
@@ -20,7 +19,7 @@ shared-slice-read-if1 : tie.Need-shared-slice-read-if1 Inv-loop μ-loop
 shared-slice-read-if1 c = omega arith
 
 returns : tie.Need-returns Inv-loop μ-loop
-returns c = search (searched-end)
+returns c = (search (searched-end), omega arith)
 
 add-at : tie.Need-add-at Inv-loop μ-loop
 add-at c = omega arith
@@ -32,7 +31,7 @@ loop-again : tie.Need-loop-again Inv-loop μ-loop
 loop-again c = search (searched-more)
 
 returns-2 : tie.Need-returns-2 Inv-loop μ-loop
-returns-2 c = search (searched-all)
+returns-2 c = (search (searched-all), omega arith)
 
 pub pattern-end-spec : {M : Type 1} → statement M
 pattern-end-spec =
