@@ -1,9 +1,9 @@
 -- What the private functions of the count over a book promise each other; no public contract cites these.
 use Prim.Native.Nat.{ℕ, suc, _+_, _*_, _≤_}
 use mathlib.Core.Path.{_≡_}
-use mathlib.Core.Bool.{true, _&&_}
+use mathlib.Core.Bool.{true}
 use mathlib.Core.List.{List, [], _++_, List·Memᴰ}
-use lib.Dec.{leb, eqb}
+use lib.Dec.{eqb}
 use lib.ListN.{length, drop}
 use Rattle.book.specs.declared.item.Item.{Item}
 use Rattle.book.specs.declared.item.Item.the-variants.{Key, Call}
@@ -20,7 +20,7 @@ use Rattle.counter.specs.declared.counting.BookCount.{BookCount}
 use Rattle.counter.specs.declared.items.MacroCount.{MacroCount}
 use Rattle.counter.specs.declared.moves.Closing.{Closing}
 use Rattle.counter.specs.declared.report.Report.{Report}
-use Rattle.counter.specs.Lines.{isRun}
+use Rattle.counter.specs.Lines.{isKey, isRun}
 use Rattle.counter.specs.Reports.{withoutEnd, report}
 use Rattle.counter.specs.Counting.{itemSteps, steps, filled, countOf, countWith}
 use Rattle.counter.specs.Answers.{outcome}
@@ -47,7 +47,7 @@ pub record CallsFit (s : ℕ) (body work : List ℕ) : Type 0 where
 
 -- an item is a key, or a call whose run's report stands in the work words
 abbrev pub Served : Pattern → (ℕ → List ℕ) → List ℕ → Item → Type 0
-Served t called work (Key k) = (leb 1 k && leb k 255) ≡ true
+Served t called work (Key k) = isKey k ≡ true
 Served t called work (Call j) = (loaded (states t) (drop (j * (states t + 4)) work) ≡ report t (called j)) × (isRun (called j) ≡ true)
 
 -- the report of a run with the run of one item more

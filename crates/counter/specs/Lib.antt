@@ -1,4 +1,4 @@
--- The counter: lines, answers, and what private functions promise each other.
+-- The counter: lines, reports, steps and work words, answers; and what private functions promise each other.
 pub mod Lines
 pub mod Reports
 pub mod Counting

@@ -10,10 +10,14 @@ use Rattle.pattern.specs.Meaning.{matches}
 abbrev pub lineEnd : ℕ
 lineEnd = 10
 
--- a run: "A key is a byte from 1 to 255"
+-- "A key is a byte from 1 to 255"
+abbrev pub isKey : ℕ → Bool
+isKey c = leb 1 c && leb c 255
+
+-- a run of keys
 unfoldable pub isRun : List ℕ → Bool
 isRun [] = true
-isRun (c ∷ w) = (leb 1 c && leb c 255) && isRun w
+isRun (c ∷ w) = isKey c && isRun w
 
 -- a key in front of the first line, or as a line of its own
 abbrev pub onto : ℕ → List (List ℕ) → List (List ℕ)

@@ -17,7 +17,7 @@ use Rattle.pattern.specs.Automata.{keyTable, enterTable, accepts}
 use Rattle.counter.specs.declared.line.LineTest.{LineTest}
 use Rattle.counter.specs.declared.run.RunCount.{RunCount}
 use Rattle.counter.specs.declared.run.Tally.{Tally}
-use Rattle.counter.specs.Lines.{lineEnd, isRun, matching}
+use Rattle.counter.specs.Lines.{lineEnd, isKey, isRun, matching}
 use Rattle.counter.specs.Reports.{most, report}
 use Rattle.counter.specs.Counting.{sumBelow}
 use Rattle.counter.specs.declared.report.Report.{Report}
@@ -92,7 +92,7 @@ pairsIn r = cond (eqb (r .flag) 0) (sumBelow (r .s) (λ q. countBelow 64 (bit (g
 -- the report of a run with one key more
 pub record Extended (keys enter : List ℕ) (c : Closing) (a : Report) (k : ℕ) (b : Report) : Type 0 where
   pub size : b .s ≡ a .s
-  pub extends : (t : Pattern) → Automaton t keys enter c → (w : List ℕ) → isRun w ≡ true → (leb 1 k && leb k 255) ≡ true → a ≡ report t w → b ≡ report t (w ++ (k ∷ []))
+  pub extends : (t : Pattern) → Automaton t keys enter c → (w : List ℕ) → isRun w ≡ true → isKey k ≡ true → a ≡ report t w → b ≡ report t (w ++ (k ∷ []))
 
 -- a run's last part counts if it has a key and matches
 pub record LastLine (c : Closing) (tail n : ℕ) : Type 0 where
