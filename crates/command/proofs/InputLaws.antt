@@ -17,12 +17,12 @@ use Rattle.book.specs.Answer.{Figures, checkedFigures, checkResult}
 use Rattle.book.specs.declared.layout.Checked.{Checked}
 use Rattle.book.proofs.Offsets.{whole}
 use Rattle.counter.specs.Lines.{lineEnd}
-use Rattle.counter.specs.Counting.{stopped, countResult}
+use Rattle.counter.specs.Counting.{Outcome, stopped, countResult}
 use Rattle.counter.specs.Answers.{outcome}
 use Rattle.counter.specs.declared.counting.BookCount.{BookCount}
 use Rattle.pattern.specs.Reader.{readPattern}
 use Rattle.refusal.specs.declared.Refusal.the-variants.{InputTooLong}
-use Rattle.command.specs.Input.{patternEnd, lastMacro, programResult}
+use Rattle.command.specs.Input.{patternEnd, lastMacro, lastResult, programResult}
 
 -- The last macro.
 module _ (b : List ℕ) {r : Checked} (e : checkedFigures r ≡ checkResult (readBook b)) where
@@ -76,16 +76,19 @@ module _ {w : List ℕ} {at : ℕ} (x : Searched w at) where
       omega (arith, x .rest)
 
 -- The whole.
+pub last-counted : (book pattern before : List ℕ) {m : ℕ} {o : Outcome} → m ≡ lastMacro (readBook book) → o ≡ countResult (readBook book) (readPattern pattern) m before → o ≡ lastResult book pattern before
+unfolding lastResult
+last-counted book pattern before e k = k ∙ ap (λ (n : ℕ). countResult (readBook book) (readPattern pattern) n before) e
+
 pub answer-long : (w work : List ℕ) → 8192 < length w → stopped InputTooLong work ≡ programResult w work
 unfolding programResult
 answer-long w work h = rw (lt-ltb 8192 (length w) h) refl
 
-pub answer-book : (w before after : List ℕ) (r : BookCount) {end start m : ℕ} → length w ≤ 8192 → end ≡ patternEnd w → start ≡ min (end + 1) (length w) → m ≡ lastMacro (readBook (take (length w - start) (drop start w))) → outcome r after ≡ countResult (readBook (take (length w - start) (drop start w))) (readPattern (take end w)) m before → outcome r after ≡ programResult w before
+pub answer-book : (w before after : List ℕ) (r : BookCount) {end start : ℕ} → length w ≤ 8192 → end ≡ patternEnd w → start ≡ min (end + 1) (length w) → outcome r after ≡ lastResult (take (length w - start) (drop start w)) (take end w) before → outcome r after ≡ programResult w before
 unfolding programResult
-answer-book w before after r {end} {start} {m} h e f g k =
-    let part = take (length w - start) (drop start w) in
-    let book : part ≡ drop (suc (patternEnd w)) w = take-all (length w - start) (drop start w) (rw length-drop (omega arith)) ∙ ap (λ (n : ℕ). drop n w) f ∙ behind (end + 1) ∙ ap (λ (n : ℕ). drop n w) (add-one end ∙ ap suc e) in
-    rw (le-ltb 8192 (length w) h) (k ∙ ap (λ (n : ℕ). countResult (readBook part) (readPattern (take end w)) n before) g ∙ rw (book, e) refl)
+answer-book w before after r {end} {start} h e f k =
+    let book : take (length w - start) (drop start w) ≡ drop (suc (patternEnd w)) w = take-all (length w - start) (drop start w) (rw length-drop (omega arith)) ∙ ap (λ (n : ℕ). drop n w) f ∙ behind (end + 1) ∙ ap (λ (n : ℕ). drop n w) (add-one end ∙ ap suc e) in
+    rw (le-ltb 8192 (length w) h) (k ∙ rw (book, e) refl)
   where
     behind : (n : ℕ) → drop (min n (length w)) w ≡ drop n w
     behind n = go (ltb n (length w)) refl

@@ -18,7 +18,7 @@ use Rattle.counter.specs.Lines.{lines, countIn, matching}
 use Rattle.counter.specs.Reports.{firstPart, laterParts, lastPart}
 use Rattle.counter.specs.Counting.{Outcome, sumBelow, pairs, itemSteps, steps, countResult}
 use Rattle.counter.specs.Answers.{Figures, answered, refusedFor, lineResult, runResult}
-use Rattle.command.specs.Input.{patternEnd, programResult}
+use Rattle.command.specs.Input.{patternEnd, lastResult, programResult}
 
 -- What is asked. A pattern, a line, a run and a book are their bytes.
 pub data Question : Type 0 where
@@ -110,5 +110,5 @@ allHold (r ∷ rs) = holds r && allHold rs
 
 -- every row is as document 01 says
 pub paper-runs : allHold table ≡ true
-unfolding table allHold answerTo classNames member atoms atomCount sameBytes findClass readElement readElements readBracket readAtom readRepeat readExpr readBranch readBranches readPattern classRanges inRanges inElement inElements named setOf repeated takes matchesFrom matches lines countIn matching readItem readItems readMacro readMacros readHeader readAll readBook expand expandTo expansion lineResult runResult countResult firstPart laterParts lastPart sumBelow pairs itemSteps steps anyBelow countBelow nothing first last follow someBranch positions.holds enters target move leads patternEnd programResult xor
+unfolding table allHold answerTo classNames member atoms atomCount sameBytes findClass readElement readElements readBracket readAtom readRepeat readExpr readBranch readBranches readPattern classRanges inRanges inElement inElements named setOf repeated takes matchesFrom matches lines countIn matching readItem readItems readMacro readMacros readHeader readAll readBook expand expandTo expansion lineResult runResult countResult firstPart laterParts lastPart sumBelow pairs itemSteps steps anyBelow countBelow nothing first last follow someBranch positions.holds enters target move leads patternEnd lastResult programResult xor
 paper-runs = refl

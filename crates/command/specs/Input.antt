@@ -28,8 +28,12 @@ abbrev pub lastMacro : Reading (List Macro) → ℕ
 lastMacro (got ms rest) = length ms - 1
 lastMacro (refused r) = 0
 
+-- the count of the last macro
+unfoldable pub lastResult : List ℕ → List ℕ → List ℕ → Outcome
+lastResult book pattern work = countResult (readBook book) (readPattern pattern) (lastMacro (readBook book)) work
+
 -- 14: "program only, over 8,192 bytes", which "comes before all"
 unfoldable pub programResult : List ℕ → List ℕ → Outcome
 programResult w work =
     cond (ltb 8192 (length w)) (stopped InputTooLong work)
-    (countResult (readBook (bookIn w)) (readPattern (patternIn w)) (lastMacro (readBook (bookIn w))) work)
+    (lastResult (bookIn w) (patternIn w) work)

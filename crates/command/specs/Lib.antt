@@ -1,2 +1,3 @@
--- What the program answers to its input.
+-- What the programs answer to their input.
 pub mod Input
+pub mod Asked

@@ -1,60 +1,9 @@
-// What the program `cuecount` does with its input (document 01, "The program `cuecount`").
-use book::Checked;
-use book::check;
-use counter::BookCount;
-use counter::count_book;
-use refusal::Refusal;
-ghost use Prim.Native.Nat.{_≤_, _+_, min};
-ghost use mathlib.Core.Path.{_≡_};
-ghost use lib.ListN.{length};
-ghost use Rattle.book.specs.Reading.{readBook};
-ghost use Rattle.counter.specs.Answers.{outcome};
-ghost use Rattle.command.specs.Input.{lastMacro, patternEnd, programResult};
+// What the programs do with their input: `cuecount`'s one input, and the macro that a command names.
+mod asked;
+mod input;
+mod last;
 
-// The most bytes that the program takes.
-const LONGEST: usize = 8192;
-
-// Where the pattern ends: at the first LF, or behind all.
-fn pattern_end(input: &[u8]) -> usize
-    ensures { λ r. ⌜ (r ≡ patternEnd (now (input .entry))) × (r ≤ length (now (input .entry))) ⌝ }
-{
-    let mut at = 0;
-    while at < input.len() {
-        if input[at] == b'\n' {
-            return at;
-        }
-        at += 1;
-    }
-    at
-}
-
-// Where the book starts: behind the LF, or behind all if there is none.
-fn book_start(end: usize, len: usize) -> usize
-    requires { ⌜ end ≤ len ⌝ }
-    ensures { λ r. ⌜ (r ≡ min (end + 1) len) × (r ≤ len) ⌝ }
-{
-    if end < len { end + 1 } else { len }
-}
-
-// The number of the book's last macro; a book that is not sound has none, and is refused whatever is asked of it.
-fn last_macro(book: &[u8]) -> usize
-    ensures { λ r. ⌜ r ≡ lastMacro (readBook (now (book .entry))) ⌝ }
-{
-    match check(book) {
-        Checked::Sound(n) => n as usize - 1,
-        Checked::Refused(_) => 0,
-    }
-}
-
-// The count of the last macro of the book behind the pattern, or a refusal: 14 before all else.
-pub fn answer(input: &[u8], work: &mut [u64]) -> BookCount
-    ensures { λ r. ⌜ outcome r (now (work .exit)) ≡ programResult (now (input .entry)) (now (work .entry)) ⌝ }
-{
-    if input.len() > LONGEST {
-        return BookCount::Refused(Refusal::InputTooLong);
-    }
-    let end = pattern_end(input);
-    let start = book_start(end, input.len());
-    let book = &input[start..];
-    count_book(book, &input[..end], last_macro(book), work)
-}
+pub use asked::Asked;
+pub use asked::macro_asked;
+pub use input::answer;
+pub use last::count_last;

@@ -1,8 +1,8 @@
 -- `last_macro`: the check gives the macro count, and a sound book has a macro.
 use Rattle.command.proofs.InputLaws.{some-macro, last-sound, last-refused}
 use borrow.Author.Needs.{needs}
-use Rattle.command.proofs.last_macro.Statement.{statement}
-use Rattle.command.proofs.last_macro.Tie as tie
+use Rattle.command.proofs.last.last_macro.Statement.{statement}
+use Rattle.command.proofs.last.last_macro.Tie as tie
 
 check-requires : tie.Need-check-requires
 check-requires c κs = search needs

@@ -3,8 +3,8 @@ use Prim.Native.Nat.{_-_}
 use native.Mathlib.Omega.{arith}
 use lib.ListN.{length}
 use Rattle.command.proofs.InputLaws.{Searched, searched-none, searched-end, searched-more, searched-all}
-use Rattle.command.proofs.pattern_end.Statement.{statement}
-use Rattle.command.proofs.pattern_end.Tie as tie
+use Rattle.command.proofs.input.pattern_end.Statement.{statement}
+use Rattle.command.proofs.input.pattern_end.Tie as tie
 
 abbrev Inv-loop : tie.InvT-loop
 Inv-loop input at₀ at = Searched input at

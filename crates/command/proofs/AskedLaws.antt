@@ -1,0 +1,124 @@
+-- Laws of the macro number that a command names.
+use Prim.Native.Nat.{ℕ, _+_, _-_, _*_, _<_, _≤_, min}
+use native.Mathlib.Omega.{arith}
+use native.Mathlib.Numerals.{add-one}
+use mathlib.Core.Path.{_≡_, refl, sym, ap, _∙_}
+use mathlib.Core.Bool.{Bool, true, false, not, cond, _&&_}
+use mathlib.Core.List.{List, [], _∷_}
+use lib.Dec.{leb, ltb}
+use lib.ListN.{length, getD, drop, drop-of-length-le}
+use lib.Seq.{drop-cons}
+use borrow.Author.Tests.{leb-true, leb-false, le-leb, lt-leb, le-ltb, not-true, not-false}
+use Rattle.stateset.proofs.Some.{clash}
+use Rattle.book.specs.Format.{Macro}
+use Rattle.book.specs.Reading.{Reading, got, refused, readBook}
+use Rattle.book.proofs.Offsets.{whole}
+use Rattle.pattern.specs.Reader as reader
+use Rattle.counter.specs.Counting.{countResult}
+use Rattle.command.specs.declared.asked.Asked.{Asked}
+use Rattle.command.specs.Asked.{isDigit, allDigits, numberFrom, isNumber, askedResult}
+
+never : {A : Type 0} → false ≡ true → A
+never e = clash (ap (λ (b : Bool). cond b 1 0) e)
+
+-- Digits.
+pub digit-low : {c : ℕ} → c < 48 → false ≡ isDigit c
+unfolding isDigit
+digit-low {c} h = rw (lt-leb 48 c h) refl
+
+pub digit-high : {c : ℕ} → 48 ≤ c → leb c 57 ≡ isDigit c
+unfolding isDigit
+digit-high {c} h = rw (le-leb 48 c h) refl
+
+pub digit-least : {c : ℕ} {b : Bool} → b ≡ isDigit c → not b ≡ false → 48 ≤ c
+unfolding isDigit
+digit-least {c} {b} e t = go (leb 48 c) refl (sym e ∙ not-false b t)
+  where
+    go : (x : Bool) → leb 48 c ≡ x → x && leb c 57 ≡ true → 48 ≤ c
+    go true l h = leb-true 48 c l
+    go false l h = never h
+
+pub digit-most : {c : ℕ} {b : Bool} → b ≡ isDigit c → not b ≡ false → c ≤ 57
+unfolding isDigit
+digit-most {c} {b} e t = go (leb 48 c) (leb c 57) refl (sym e ∙ not-false b t)
+  where
+    go : (x y : Bool) → leb c 57 ≡ y → x && y ≡ true → c ≤ 57
+    go true true l h = leb-true c 57 l
+    go true false l h = never h
+    go false y l h = never h
+
+-- The number never falls, so one that has reached 1,024 stays there or above.
+number-grows : (v : ℕ) (w : List ℕ) → v ≤ numberFrom v w
+unfolding numberFrom
+number-grows v [] = omega arith
+number-grows v (c ∷ w) = omega (arith, number-grows (10 * v + (c - 48)) w)
+
+number-capped : (v : ℕ) (w : List ℕ) → min (numberFrom (min v 1024) w) 1024 ≡ min (numberFrom v w) 1024
+number-capped v w = go (leb v 1024) refl
+  where
+    go : (x : Bool) → leb v 1024 ≡ x → min (numberFrom (min v 1024) w) 1024 ≡ min (numberFrom v w) 1024
+    go true l = let h = leb-true v 1024 l in let same : min v 1024 ≡ v = omega arith in rw same refl
+    go false l = let h = leb-false v 1024 l in let top : min v 1024 ≡ 1024 = omega arith in omega (arith, number-grows v w, number-grows (min v 1024) w)
+
+-- The bytes before `at` are digits, and write n.
+pub record Written (w : List ℕ) (at n : ℕ) : Type 0 where
+  pub some : 1 ≤ length w
+  pub small : n ≤ 1024
+  pub inside : at ≤ length w
+  pub digits : allDigits w ≡ allDigits (drop at w)
+  pub number : min (numberFrom 0 w) 1024 ≡ min (numberFrom n (drop at w)) 1024
+
+pub written-none : (w : List ℕ) → (length w ≡ 0 → ⊥) → Written w 0 0
+written-none w h = record { some = omega (arith, h); small = omega arith; inside = omega arith; digits = refl; number = refl }
+
+pub nothing-asked : (w : List ℕ) → length w ≡ 0 → Asked.Malformed ≡ askedResult w
+unfolding askedResult
+nothing-asked [] h = refl
+nothing-asked (c ∷ w) h = absurd (omega (arith, h))
+
+-- where there is a byte, a number is digits
+is-number : (w : List ℕ) → 1 ≤ length w → isNumber w ≡ allDigits w
+is-number [] h = absurd (omega (arith, h))
+is-number (c ∷ w) h = refl
+
+module _ {w : List ℕ} {at n : ℕ} (x : Written w at n) where
+  pub written-more : {b : Bool} {r : ℕ} → at < length w → b ≡ isDigit (getD w at 0) → not b ≡ false → r ≡ min (10 * n + (getD w at 0 - 48)) 1024 → Written w (at + 1) r
+  unfolding allDigits numberFrom
+  written-more {b} {r} h e t f =
+      let c = getD w at 0 in
+      let rest : drop at w ≡ c ∷ drop (at + 1) w = drop-cons w at 0 h ∙ rw (add-one at) refl in
+      record {
+        some = x .some;
+        small = omega (arith, f);
+        inside = omega arith;
+        digits = x .digits ∙ ap allDigits rest ∙ rw (sym e, not-false b t) refl;
+        number = x .number ∙ ap (λ (v : List ℕ). min (numberFrom n v) 1024) rest ∙ sym (number-capped (10 * n + (c - 48)) (drop (at + 1) w)) ∙ ap (λ (v : ℕ). min (numberFrom v (drop (at + 1) w)) 1024) (sym f)
+      }
+
+  pub written-bad : {b : Bool} → at < length w → b ≡ isDigit (getD w at 0) → not b ≡ true → Asked.Malformed ≡ askedResult w
+  unfolding allDigits askedResult
+  written-bad {b} h e t =
+      let none : allDigits w ≡ false = x .digits ∙ ap allDigits (drop-cons w at 0 h) ∙ rw (sym e, not-true b t) refl in
+      rw (is-number w (x .some), none) refl
+
+  pub written-all : length w ≤ at → Asked.Macro n ≡ askedResult w
+  unfolding allDigits numberFrom askedResult
+  written-all h =
+      let all : allDigits w ≡ true = x .digits ∙ ap allDigits (drop-of-length-le w h) in
+      let value : min (numberFrom 0 w) 1024 ≡ n = x .number ∙ ap (λ (v : List ℕ). min (numberFrom n v) 1024) (drop-of-length-le w h) ∙ omega (arith, x .small) in
+      rw (is-number w (x .some), all, value) refl
+
+-- A number from 1,024 on is refused like 1,024: no book has such a macro.
+pub asked-alike : (b : List ℕ) (p : reader.Read) (n : ℕ) (work : List ℕ) → countResult (readBook b) p (min n 1024) work ≡ countResult (readBook b) p n work
+unfolding countResult
+asked-alike b p n work = go (leb n 1024) refl
+  where
+    beyond : 1024 ≤ n → (g : Reading (List Macro)) → readBook b ≡ g → (q : reader.Read) → countResult g q (min n 1024) work ≡ countResult g q n work
+    beyond h (refused r) d q = refl
+    beyond h (got ms rest) d (reader.refused r) = refl
+    beyond h (got ms rest) d (reader.accepted t) =
+        let few = whole b ms rest d .few in
+        rw (le-ltb (min n 1024) (length ms) (omega arith), le-ltb n (length ms) (omega arith)) refl
+    go : (x : Bool) → leb n 1024 ≡ x → countResult (readBook b) p (min n 1024) work ≡ countResult (readBook b) p n work
+    go true l = let h = leb-true n 1024 l in let same : min n 1024 ≡ n = omega arith in rw same refl
+    go false l = let h = leb-false n 1024 l in beyond (omega arith) (readBook b) refl p

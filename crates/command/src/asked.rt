@@ -1,0 +1,53 @@
+// The macro that a command names.
+ghost use mathlib.Core.Path.{_≡_};
+ghost use Prim.Native.Nat.{_≤_, _+_, _*_, _-_, min};
+ghost use Rattle.command.specs.Asked.{askedResult, isDigit};
+
+// A macro's number; or the text is no number.
+pub enum Asked {
+    Macro(usize),
+    Malformed,
+}
+
+// A number that no macro has: a book has at most 1,024, from 0 on.
+const BEYOND: usize = 1024;
+
+fn is_digit(c: u8) -> bool
+    ensures { λ r. ⌜ r ≡ isDigit c ⌝ }
+{
+    if c < b'0' {
+        return false;
+    }
+    c <= b'9'
+}
+
+// The number so far with one more digit. Larger ones stay at BEYOND, so that a text of any length has a number.
+fn with_digit(n: usize, c: u8) -> usize
+    requires { ⌜ n ≤ 1024 ⌝ }
+    requires { ⌜ 48 ≤ c ⌝ }
+    requires { ⌜ c ≤ 57 ⌝ }
+    ensures { λ r. ⌜ r ≡ min (10 * n + (c - 48)) 1024 ⌝ }
+{
+    let more = 10 * n + (c - b'0') as usize;
+    if more < BEYOND { more } else { BEYOND }
+}
+
+// The macro that a text of decimal digits names.
+pub fn macro_asked(text: &[u8]) -> Asked
+    ensures { λ r. ⌜ r ≡ askedResult (now (text .entry)) ⌝ }
+{
+    if text.len() == 0 {
+        return Asked::Malformed;
+    }
+    let mut n = 0;
+    let mut at = 0;
+    while at < text.len() {
+        let c = text[at];
+        if !is_digit(c) {
+            return Asked::Malformed;
+        }
+        n = with_digit(n, c);
+        at += 1;
+    }
+    Asked::Macro(n)
+}
