@@ -92,7 +92,7 @@ module _ {w : List ℕ} {at n : ℕ} (x : Written w at n) where
         small = omega (arith, f);
         inside = omega arith;
         digits = x .digits ∙ ap allDigits rest ∙ rw (sym e, not-false b t) refl;
-        number = x .number ∙ ap (λ (v : List ℕ). min (numberFrom n v) 1024) rest ∙ sym (number-capped (10 * n + (c - 48)) (drop (at + 1) w)) ∙ ap (λ (v : ℕ). min (numberFrom v (drop (at + 1) w)) 1024) (sym f)
+        number = x .number ∙ ap (λ (v : List ℕ). min (numberFrom n v) 1024) rest ∙ sym (number-capped (10 * n + (c - 48)) (drop (at + 1) w)) ∙ ap (λ (v : ℕ). min (numberFrom v (drop (at + 1) w)) 1024) (sym f);
       }
 
   pub written-bad : {b : Bool} → at < length w → b ≡ isDigit (getD w at 0) → not b ≡ true → Asked.Malformed ≡ askedResult w
@@ -119,6 +119,7 @@ asked-alike b p n work = go (leb n 1024) refl
     beyond h (got ms rest) d (reader.accepted t) =
         let few = whole b ms rest d .few in
         rw (le-ltb (min n 1024) (length ms) (omega arith), le-ltb n (length ms) (omega arith)) refl
+
     go : (x : Bool) → leb n 1024 ≡ x → countResult (readBook b) p (min n 1024) work ≡ countResult (readBook b) p n work
     go true l = let h = leb-true n 1024 l in let same : min n 1024 ≡ n = omega arith in rw same refl
     go false l = let h = leb-false n 1024 l in beyond (omega arith) (readBook b) refl p
