@@ -2,3 +2,4 @@
 pub mod AskedLaws
 pub mod InputLaws
 pub mod PaperRuns
+pub mod Space

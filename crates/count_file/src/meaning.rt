@@ -1,0 +1,58 @@
+// What each refusal means to the one who asked, and what to do about it.
+use crate::say::text;
+use refusal::Refusal;
+
+// What a sound book and a good pattern are refused for.
+fn explain_count(r: Refusal) {
+    match r {
+        Refusal::NoSuchMacro => text(
+            b"The book has no macro of that number. The first is 0, and the last is counted if you name none.\n",
+        ),
+        Refusal::InsufficientSpace => text(
+            b"The work space is too short. This command has enough for every book: please report this.\n",
+        ),
+        Refusal::CountOverflow => text(
+            b"The count is over 18,446,744,073,709,551,615, the largest that can be given. Ask for a macro that this one calls.\n",
+        ),
+        Refusal::ReportMismatch => text(
+            b"Reports of different patterns were joined. This command joins none: please report this.\n",
+        ),
+        Refusal::InputTooLong => text(
+            b"The input has over 8,192 bytes. This command takes more: please report this.\n",
+        ),
+        _ => {}
+    }
+}
+
+pub(crate) fn explain(r: Refusal) {
+    match r {
+        Refusal::BadMagic => text(
+            b"The file is no macro book: it has under 7 bytes, or it does not begin with MBK. Name the book file.\n",
+        ),
+        Refusal::UnsupportedVersion => text(
+            b"The book's version is not 1. Export the show in version 1.\n",
+        ),
+        Refusal::BadMacroCount => text(
+            b"The book has no macro, or over 1,024. Export the show again, in parts if it has more.\n",
+        ),
+        Refusal::MalformedBody => text(
+            b"A macro has no item or over 64, or the file is cut short or goes on behind its last macro. Export it again.\n",
+        ),
+        Refusal::InvalidKey => text(
+            b"A macro holds the item 0, which is no key. Mend that macro.\n",
+        ),
+        Refusal::ForwardReference => text(
+            b"A macro calls itself, or one that does not stand before it. Mend that call.\n",
+        ),
+        Refusal::PatternLength => text(
+            b"The pattern is empty, or has over 128 bytes. Give one of 1 to 128.\n",
+        ),
+        Refusal::PatternSyntax => text(
+            b"The pattern is not of the form that is taken: README.md, Patterns, has it. Put \\ before a mark that stands for itself.\n",
+        ),
+        Refusal::TooManyAtoms => text(
+            b"The pattern has over 29 atoms (bytes, dots, brackets). Give a shorter one.\n",
+        ),
+        _ => explain_count(r),
+    }
+}
