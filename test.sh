@@ -6,7 +6,7 @@ cd "$(dirname "$0")"
 command -v rt >/dev/null || PATH="/opt/rattle/bin:$PATH"
 command -v rt >/dev/null || { echo "rt, the command of the Rattle toolchain, is not on the PATH" >&2; exit 2; }
 rt ci
-for cases in pattern_cases counter_cases count_cases; do
+for cases in pattern_cases cases; do
     (
         ulimit -s 1024
         "target/bin/$cases" <"crates/$cases/stdin" | cmp -s - "crates/$cases/stdout"

@@ -1,0 +1,15 @@
+// Cases from standard input through the operations of `book` and `counter`: what they answer to each.
+mod books;
+mod counts;
+mod numbers;
+mod plain;
+mod reach;
+mod show;
+mod stream;
+
+fn main() {
+    // A stream is at most this long.
+    let mut space = [0; 262144];
+    let n = io::read_full(libc::STDIN_FILENO, &mut space);
+    stream::all(&space[..n]);
+}
