@@ -7,35 +7,66 @@ ghost use Rattle.pattern.specs.Form.{className};
 ghost use Rattle.pattern.specs.Reader.{findClass, isClass};
 ghost use Rattle.pattern.specs.Steps.{classRange, classShown, classText};
 
-// "The twelve class names", each with its `:]`, filled up to eight bytes with 0.
-const NAMES: [u8; 96] = *b"upper:]\0\
-    lower:]\0\
-    alpha:]\0\
-    digit:]\0\
-    alnum:]\0\
-    xdigit:]\
-    punct:]\0\
-    graph:]\0\
-    print:]\0\
-    cntrl:]\0\
-    space:]\0\
-    blank:]\0";
+// A class: its name and `:]`, filled up to eight bytes with 0, and the ranges that it stands for, four at the most, each as its first
+// and last byte. Those from `1` to `0` are empty.
+struct Class {
+    name: [u8; 8],
+    ranges: [u8; 8],
+}
 
-// The ranges that they "stand for", four to a class, each as its first and last byte. Those from `1` to `0` are empty.
-const RANGES: [u8; 96] = *b"AZ101010\
-    az101010\
-    AZaz1010\
-    09101010\
-    AZaz0910\
-    09AFaf10\
-    !/:@[`{~\
-    !~101010\
-    \x20~101010\
-    \0\x1f\x7f\x7f1010\
-    \t\r\x20\x201010\
-    \t\t\x20\x201010";
+// "The twelve class names stand for these ranges."
+const CLASSES: [Class; 12] = [
+    Class {
+        name: *b"upper:]\0",
+        ranges: *b"AZ101010",
+    },
+    Class {
+        name: *b"lower:]\0",
+        ranges: *b"az101010",
+    },
+    Class {
+        name: *b"alpha:]\0",
+        ranges: *b"AZaz1010",
+    },
+    Class {
+        name: *b"digit:]\0",
+        ranges: *b"09101010",
+    },
+    Class {
+        name: *b"alnum:]\0",
+        ranges: *b"AZaz0910",
+    },
+    Class {
+        name: *b"xdigit:]",
+        ranges: *b"09AFaf10",
+    },
+    Class {
+        name: *b"punct:]\0",
+        ranges: *b"!/:@[`{~",
+    },
+    Class {
+        name: *b"graph:]\0",
+        ranges: *b"!~101010",
+    },
+    Class {
+        name: *b"print:]\0",
+        ranges: *b"\x20~101010",
+    },
+    Class {
+        name: *b"cntrl:]\0",
+        ranges: *b"\0\x1f\x7f\x7f1010",
+    },
+    Class {
+        name: *b"space:]\0",
+        ranges: *b"\t\r\x20\x201010",
+    },
+    Class {
+        name: *b"blank:]\0",
+        ranges: *b"\t\t\x20\x201010",
+    },
+];
 
-// A class's place in the tables.
+// A class's place in the table.
 pub(crate) enum ClassRead {
     Found(u8),
     Unknown,
@@ -46,7 +77,8 @@ fn name_byte(c: u8, j: usize) -> u8
     requires { ⌜ (c < 12) × (j < 8) ⌝ }
     ensures { λ r. ⌜ r ≡ getD (classText c) j 0 ⌝ }
 {
-    NAMES[c as usize * 8 + j]
+    let class = CLASSES[c as usize];
+    class.name[j]
 }
 
 // The first byte of a class's range j.
@@ -54,7 +86,8 @@ pub(crate) fn range_first(c: u8, j: usize) -> u8
     requires { ⌜ (c < 12) × (j < 4) ⌝ }
     ensures { λ r. ⌜ r ≡ classRange c j .first ⌝ }
 {
-    RANGES[c as usize * 8 + j * 2]
+    let class = CLASSES[c as usize];
+    class.ranges[j * 2]
 }
 
 // And the last one.
@@ -62,7 +95,8 @@ pub(crate) fn range_last(c: u8, j: usize) -> u8
     requires { ⌜ (c < 12) × (j < 4) ⌝ }
     ensures { λ r. ⌜ r ≡ classRange c j .last ⌝ }
 {
-    RANGES[c as usize * 8 + j * 2 + 1]
+    let class = CLASSES[c as usize];
+    class.ranges[j * 2 + 1]
 }
 
 // How many bytes a class's name and its `:]` have.

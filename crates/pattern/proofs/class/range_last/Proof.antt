@@ -1,30 +1,32 @@
--- `range_last`: the rule of the table of ranges.
+-- `class::range_last`: the rule of the table of classes.
 use borrow.Author.Needs.{needs}
+use Rattle.pattern.specs.Form.{classNames}
 use Rattle.pattern.specs.Sets.{classRanges}
 use Rattle.pattern.specs.States.{tabled}
-use Rattle.pattern.proofs.ClassTables.{rangeEntry, last-entry}
+use Rattle.pattern.proofs.ClassTables.{nameByte, rangeByte, classRow, classRows, last-entry}
 use Rattle.pattern.proofs.class.range_last.Statement.{statement}
 use Rattle.pattern.proofs.class.range_last.Tie as tie
+
+mul-class : tie.Need-mul-class
+mul-class c = search needs
+
+array-copy-out-class : tie.Need-array-copy-out-class
+array-copy-out-class c = search needs
 
 mul-result : tie.Need-mul-result
 mul-result c = search needs
 
-mul-result-2 : tie.Need-mul-result-2
-mul-result-2 c = search needs
-
 add-result : tie.Need-add-result
 add-result c = search needs
 
-add-result-2 : tie.Need-add-result-2
-add-result-2 c = search needs
-
-array-read-result : tie.Need-array-read-result
-array-read-result c = search needs
+element-copy-out-result : tie.Need-element-copy-out-result
+element-copy-out-result c = search needs
 
 returns : tie.Need-returns
-unfolding tabled rangeEntry classRanges
-returns c = last-entry _ _ (c .pre .0) (c .pre .1)
+unfolding tabled nameByte rangeByte classRow classRows classNames classRanges
+returns c = last-entry _ _ _ (c .before .before .pre .0) (c .before .before .pre .1)
 
 pub range-last-spec : {M : Type 1} → statement M
 range-last-spec =
-    tie.close (tie.spec mul-result mul-result-2 add-result add-result-2 array-read-result returns)
+    tie.close
+    (tie.spec mul-class array-copy-out-class mul-result add-result element-copy-out-result returns)
