@@ -1,5 +1,6 @@
 #!/usr/bin/env bash
-# Runs the command `count` on good and bad input, and compares what it prints and its status. The last line is 'N passed, M failed'.
+# Runs the command `count` on good and bad input, and compares what it prints and its status. The numbers expected of counts are those
+# of the second program in docs/src/second. The last line is 'N passed, M failed'.
 set -u
 cd "$(dirname "$0")/.." || exit 2
 room=$(mktemp -d) || exit 2
@@ -43,8 +44,8 @@ arena=examples/arena.mbk
 expect 0 'lines 2 steps 17' '' ./count B "$small"
 expect 0 'lines 2 steps 17' '' ./count B "$small" 1
 expect 0 'lines 2 steps 17' '' ./count B "$small" 0001
-expect 0 'lines 1 steps 8' '' ./count B "$small" 0
-expect 0 'lines 1 steps 17' '' ./count C "$small"
+expect 0 'lines 1 steps 11' '' ./count B "$small" 0
+expect 0 'lines 1 steps 15' '' ./count C "$small"
 expect 0 'lines 141071877886149849 steps 13155' '' ./count 'HOIST|HAZE|BLACKOUT' "$arena"
 expect 0 'lines 24 steps 7225' '' ./count 'HOIST|HAZE|BLACKOUT' "$arena" 170
 expect 0 'lines 2 steps 17' '' ./count B <(head -c 9 "$small"; sleep 0.2; tail -c +10 "$small")
@@ -52,7 +53,16 @@ cp "$small" "$room/a book"
 expect 0 'lines 2 steps 17' '' ./count B "$room/a book"
 ln -s "$PWD/count" "$room/link"
 expect 0 'lines 2 steps 17' '' env -C / "$room/link" B "$PWD/$small"
-expect 0 'lines 2 steps 17' '' bash -c 'ulimit -s 1024; exec ./count B "$1"' - "$small"
+
+# The longest sound book under a pattern of 29 atoms, within 1 MiB of stack, buffers included.
+x=$(printf 'x%.0s' {1..29})
+{
+    printf 'MBK\1\0\0\4'
+    items=$(printf 'x\\0%.0s' {1..63})
+    printf "\100\0$items\n\0%.0s" {1..1024}
+} >"$room/longest"
+expect 0 133127 '' stat -c %s "$room/longest"
+expect 0 'lines 1 steps 5043200' '' bash -c 'ulimit -s 1024; exec ./count "$1" "$2"' - "$x" "$room/longest"
 
 # Refusals, each with its sentence.
 book short 'MBK\1\0\1'
@@ -70,7 +80,7 @@ expect 1 'refused 5' '*item 0*' ./count B "$room/zero"
 book self 'MBK\1\0\1\0\1\0\0\1'
 expect 1 'refused 6' '*calls itself*' ./count B "$room/self"
 expect 1 'refused 7' '*over 128 bytes*' ./count '' "$small"
-expect 0 'lines 0 steps 17' '' ./count "[$(printf 'x%.0s' {1..126})]" "$small"
+expect 0 'lines 0 steps 13' '' ./count "[$(printf 'x%.0s' {1..126})]" "$small"
 expect 1 'refused 7' '*over 128 bytes*' ./count "[$(printf 'x%.0s' {1..127})]" "$small"
 expect 1 'refused 7' '*over 128 bytes*' ./count "$(printf 'x%.0s' {1..5000})" "$small"
 expect 1 'refused 8' '*not of the form*' ./count '(' "$small"
@@ -85,7 +95,7 @@ expect 1 'refused 10' '*no macro of that number*' ./count B "$small" 34028236692
     for i in {0..62}; do printf "\3\0\x$(printf %02x "$i")\1\x$(printf %02x "$i")\1\0\1"; done
     printf '\2\0\77\1\0\1'
 } >"$room/high"
-expect 0 'lines 18446744073709551615 steps 1336' '' ./count a "$room/high" 63
+expect 0 'lines 18446744073709551615 steps 389' '' ./count a "$room/high" 63
 expect 1 'refused 12' '*largest that can be given*' ./count a "$room/high"
 
 # No answer.
@@ -101,8 +111,8 @@ for number in '' x -1 +1 1x ' 1' 0x1 1.0; do
     expect 2 '' '*decimal digits*' ./count B "$small" "$number"
 done
 expect 2 '' '*macro number is too long*' ./count B "$small" "$(printf '0%.0s' {1..5000})"
-head -c 133127 /dev/zero >"$room/longest"
-expect 1 'refused 1' '*begin with MBK*' ./count B "$room/longest"
+head -c 133127 /dev/zero >"$room/zeros"
+expect 1 'refused 1' '*begin with MBK*' ./count B "$room/zeros"
 head -c 133128 /dev/zero >"$room/longer"
 expect 2 '' '*longer than any sound book*' ./count B "$room/longer"
 
