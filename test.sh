@@ -29,7 +29,8 @@ done
 bash tests/count.sh | tee -a "$log"
 
 rustc -O --edition 2021 -o target/second docs/src/second/main.rs
-target/second selftest | tee -a "$log"
+target/second selftest >target/second.selftest || { cat target/second.selftest; exit 1; }
+target/second answer <crates/cases/stdin | cmp - crates/cases/stdout || { echo "the second program answers another thing to the fixed cases" >&2; exit 1; }
 target/second compare target/bin/cases target/bin/cuecount ./count 1 6000 | tee -a "$log"
 
 awk '/^[0-9]+ passed, [0-9]+ failed$/ { passed += $1; failed += $3 } END { print passed " passed, " failed " failed"; exit failed > 0 }' "$log"

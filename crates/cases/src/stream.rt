@@ -1,5 +1,5 @@
-// The cases, one behind the other: a byte for the kind, and what the functions of the kinds say. A number has three bytes, low
-// byte first; in a report it has eight.
+// The cases, one behind the other, as docs/src/second/PROTOCOL.md has them: a byte for the kind, and what the functions of the kinds
+// say. A number has three bytes, low byte first; in a report it has eight.
 use crate::books::bodies;
 use crate::books::checks;
 use crate::counts::counting;

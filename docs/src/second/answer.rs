@@ -1,0 +1,62 @@
+//! The answer line to a case.
+
+use crate::case::Case;
+use crate::hash::hash;
+use crate::operations::*;
+use crate::refusal::Refusal;
+use crate::report::{join, Report};
+
+pub fn answer(case: &Case) -> String {
+    match case {
+        Case::Line { pattern, line } => line_answer(line_test(pattern, line)),
+        Case::Run { pattern, run } => {
+            or_refused(run_count(pattern, run).map(|lines| format!("lines {lines}")))
+        }
+        Case::Count { number, words, pattern, book } => count_answer(*number, *words, pattern, book),
+        Case::Sound { book } => or_refused(sound(book).map(|count| format!("sound {count}"))),
+        Case::Body { number, book } => or_refused(body(*number, book).map(|body| body_answer(&body))),
+        Case::Reach { number, entries, book } => reach_answer(*number, *entries, book),
+        Case::Join { left, right } => or_refused(join(left, right).map(|report| report_answer(&report))),
+    }
+}
+
+fn or_refused(result: Result<String, Refusal>) -> String {
+    result.unwrap_or_else(|refusal| format!("refused {refusal}"))
+}
+
+fn line_answer(result: Result<bool, Refusal>) -> String {
+    or_refused(result.map(|matches| String::from(if matches { "match" } else { "no match" })))
+}
+
+fn body_answer(body: &[u8]) -> String {
+    format!("body {} {}", body.len(), hash(body.iter().map(|&byte| u64::from(byte))))
+}
+
+/// The work words are filled before, so that words which must stay are seen in the hash.
+fn count_answer(number: usize, words: usize, pattern: &[u8], book: &[u8]) -> String {
+    let mut work: Vec<u64> = (1..=words as u64).map(|place| 1_000_003 * place).collect();
+    let line = count_line(book_count(number, pattern, book, &mut work));
+    format!("{line} work {}", hash(work.into_iter()))
+}
+
+fn reach_answer(number: usize, count: usize, book: &[u8]) -> String {
+    let mut entries: Vec<u16> = (0..count).map(|place| 65_535u16.wrapping_sub(place as u16)).collect();
+    match reach(number, book, &mut entries) {
+        Err(refusal) => format!("refused {refusal} rest {}", hash_entries(&entries)),
+        Ok(reached) => {
+            let (written, rest) = entries.split_at_mut(reached);
+            written.sort_unstable();
+            let list: String = written.iter().map(|each| format!(" {each}")).collect();
+            format!("reached {reached}:{list} rest {}", hash_entries(rest))
+        }
+    }
+}
+
+fn hash_entries(entries: &[u16]) -> u64 {
+    hash(entries.iter().map(|&entry| u64::from(entry)))
+}
+
+fn report_answer(report: &Report) -> String {
+    let Report { s, rows, flag, heads, closed, tail } = report;
+    format!("report {s} {flag} {heads} {closed} {tail} {}", hash(rows.iter().copied()))
+}

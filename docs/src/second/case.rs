@@ -1,0 +1,148 @@
+//! A case, and how it stands in a stream: a byte for its kind, then numbers of three bytes (reports:
+//! of eight), low byte first, then the texts.
+
+use crate::report::{Report, MOST_STATES};
+
+#[derive(Clone)]
+pub enum Case {
+    Line { pattern: Vec<u8>, line: Vec<u8> },
+    Run { pattern: Vec<u8>, run: Vec<u8> },
+    Count { number: usize, words: usize, pattern: Vec<u8>, book: Vec<u8> },
+    Sound { book: Vec<u8> },
+    Body { number: usize, book: Vec<u8> },
+    Reach { number: usize, entries: usize, book: Vec<u8> },
+    Join { left: Report, right: Report },
+}
+
+impl Case {
+    pub fn kind(&self) -> u8 {
+        match self {
+            Case::Line { .. } => b'L',
+            Case::Run { .. } => b'R',
+            Case::Count { .. } => b'C',
+            Case::Sound { .. } => b'K',
+            Case::Body { .. } => b'B',
+            Case::Reach { .. } => b'H',
+            Case::Join { .. } => b'J',
+        }
+    }
+
+    pub fn write(&self, stream: &mut Vec<u8>) {
+        stream.push(self.kind());
+        match self {
+            Case::Line { pattern, line } => write_parts(stream, &[], &[pattern, line]),
+            Case::Run { pattern, run } => write_parts(stream, &[], &[pattern, run]),
+            Case::Count { number, words, pattern, book } => {
+                write_parts(stream, &[*number, *words], &[pattern, book])
+            }
+            Case::Sound { book } => write_parts(stream, &[], &[book]),
+            Case::Body { number, book } => write_parts(stream, &[*number], &[book]),
+            Case::Reach { number, entries, book } => write_parts(stream, &[*number, *entries], &[book]),
+            Case::Join { left, right } => {
+                write_report(stream, left);
+                write_report(stream, right);
+            }
+        }
+    }
+
+    pub fn bytes(&self) -> Vec<u8> {
+        let mut stream = Vec::new();
+        self.write(&mut stream);
+        stream
+    }
+}
+
+/// The numbers, the lengths of the texts, the texts.
+fn write_parts(stream: &mut Vec<u8>, numbers: &[usize], texts: &[&Vec<u8>]) {
+    let lengths = texts.iter().map(|text| text.len());
+    for number in numbers.iter().copied().chain(lengths) {
+        stream.extend_from_slice(&(number as u64).to_le_bytes()[..3]);
+    }
+    for text in texts {
+        stream.extend_from_slice(text);
+    }
+}
+
+fn write_report(stream: &mut Vec<u8>, report: &Report) {
+    stream.extend_from_slice(&report.s.to_le_bytes());
+    let fields = [report.flag, report.heads, report.closed, report.tail];
+    for word in report.rows.iter().chain(&fields) {
+        stream.extend_from_slice(&word.to_le_bytes());
+    }
+}
+
+/// Takes cases from the front of a stream.
+pub struct Stream<'a> {
+    pub left: &'a [u8],
+}
+
+impl Stream<'_> {
+    /// The next case; nothing if the stream ends inside it or the kind is unknown.
+    pub fn case(&mut self) -> Option<Case> {
+        match self.take(1)?[0] {
+            b'L' => self.two_texts().map(|(pattern, line)| Case::Line { pattern, line }),
+            b'R' => self.two_texts().map(|(pattern, run)| Case::Run { pattern, run }),
+            b'C' => self.count(),
+            b'K' => self.one_text().map(|book| Case::Sound { book }),
+            b'B' => {
+                let number = self.number()?;
+                self.one_text().map(|book| Case::Body { number, book })
+            }
+            b'H' => {
+                let (number, entries) = (self.number()?, self.number()?);
+                self.one_text().map(|book| Case::Reach { number, entries, book })
+            }
+            b'J' => {
+                let left = self.report()?;
+                self.report().map(|right| Case::Join { left, right })
+            }
+            _ => None,
+        }
+    }
+
+    fn count(&mut self) -> Option<Case> {
+        let (number, words) = (self.number()?, self.number()?);
+        let (pattern, book) = self.two_texts()?;
+        Some(Case::Count { number, words, pattern, book })
+    }
+
+    fn take(&mut self, length: usize) -> Option<Vec<u8>> {
+        if self.left.len() < length {
+            return None;
+        }
+        let (taken, left) = self.left.split_at(length);
+        self.left = left;
+        Some(taken.to_vec())
+    }
+
+    fn low_first(&mut self, length: usize) -> Option<u64> {
+        let taken = self.take(length)?;
+        Some(taken.iter().rev().fold(0, |sum, &byte| sum << 8 | u64::from(byte)))
+    }
+
+    fn number(&mut self) -> Option<usize> {
+        self.low_first(3).map(|number| number as usize)
+    }
+
+    fn one_text(&mut self) -> Option<Vec<u8>> {
+        let length = self.number()?;
+        self.take(length)
+    }
+
+    fn two_texts(&mut self) -> Option<(Vec<u8>, Vec<u8>)> {
+        let (one, other) = (self.number()?, self.number()?);
+        Some((self.take(one)?, self.take(other)?))
+    }
+
+    fn report(&mut self) -> Option<Report> {
+        let mut report = Report::empty(self.low_first(8)?);
+        for place in 0..MOST_STATES {
+            report.rows[place] = self.low_first(8)?;
+        }
+        report.flag = self.low_first(8)?;
+        report.heads = self.low_first(8)?;
+        report.closed = self.low_first(8)?;
+        report.tail = self.low_first(8)?;
+        Some(report)
+    }
+}

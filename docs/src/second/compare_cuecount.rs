@@ -1,0 +1,164 @@
+//! Runs of the program `cuecount` (document 01, "The program cuecount").
+
+use crate::case::Case;
+use crate::child;
+use crate::describe::{hex, pattern_lines};
+use crate::fixed;
+use crate::fixed_books::example;
+use crate::make::macros_for;
+use crate::make_book::{call, keys, write};
+use crate::make_damage::damage_book;
+use crate::make_pattern::{pattern, sound_pattern};
+use crate::operations::{cuecount, CUECOUNT_BYTES};
+use crate::rng::Rng;
+use crate::tally::Tally;
+
+const SEEDED: u64 = 80;
+
+/// An input and, where it is known beforehand, what must be printed.
+type Input = (Vec<u8>, Option<&'static str>);
+
+pub fn compare(program: &str, seed: u64) -> Result<Tally, String> {
+    let mut tally = Tally::default();
+    let mut inputs = stated_inputs();
+    inputs.extend(sized_inputs());
+    inputs.extend(fixed_counts());
+    for number in 0..SEEDED {
+        inputs.push((seeded_input(&mut Rng::for_case(seed ^ 0xC0DE, number)), None));
+    }
+    let mut rng = Rng::new(seed);
+    for (input, stated) in inputs {
+        compare_one(program, &input, stated, &mut rng, &mut tally)?;
+    }
+    Ok(tally)
+}
+
+fn compare_one(
+    program: &str,
+    input: &[u8],
+    stated: Option<&str>,
+    rng: &mut Rng,
+    tally: &mut Tally,
+) -> Result<(), String> {
+    let own = cuecount(input);
+    let pieces = cut(rng, input);
+    let kind = if pieces.len() > 1 { "in pieces" } else { "at once" };
+    let other = match stated {
+        Some(stated) if stated != own => format!("stated: {stated}"),
+        _ => match child::run(program, &[], pieces) {
+            Ok(outcome) if outcome.crashed() => format!("(crashed: {})", outcome.status),
+            Ok(outcome) => outcome.only_line(),
+            Err(message) => message,
+        },
+    };
+    if other != own {
+        return Err(difference(input, kind, &own, &other));
+    }
+    tally.add(kind, &own);
+    Ok(())
+}
+
+fn difference(input: &[u8], kind: &str, own: &str, other: &str) -> String {
+    let pattern = input.split(|&byte| byte == 10).next().unwrap_or(input);
+    let shown = pattern_lines(pattern);
+    let length = input.len();
+    format!(
+        "kind: cuecount, {length} bytes, {kind}\n{shown}input in hex: {}\nsecond: {own}\nother: {other}",
+        hex(input)
+    )
+}
+
+/// Up to four pieces, which reach the program one after another.
+fn cut(rng: &mut Rng, input: &[u8]) -> Vec<Vec<u8>> {
+    let mut pieces = Vec::new();
+    let mut left = input;
+    for _ in 0..rng.below(4) {
+        let (piece, rest) = left.split_at(rng.below(left.len() + 1));
+        pieces.push(piece.to_vec());
+        left = rest;
+    }
+    pieces.push(left.to_vec());
+    pieces
+}
+
+fn input(pattern: &[u8], book: &[u8]) -> Vec<u8> {
+    [pattern, b"\n", book].concat()
+}
+
+/// What document 01 says of each can be read off without counting much.
+fn stated_inputs() -> Vec<Input> {
+    let book = write(&example());
+    let many = |count: usize| write(&vec![keys(b"a"); count]);
+    vec![
+        (input(b"B", &book), Some("lines 2 steps 17")),
+        (Vec::new(), Some("refused 1")),
+        (b"B".to_vec(), Some("refused 1")),
+        (book.clone(), Some("refused 1")),
+        (b"\n".to_vec(), Some("refused 1")),
+        (input(b"B", b"\n"), Some("refused 1")),
+        (input(b"B\n", &book), Some("refused 1")),
+        (input(b"", &book), Some("refused 7")),
+        (input(&[b'a'; 129], &book), Some("refused 7")),
+        (input(b"a**", &book), Some("refused 8")),
+        (input(b"a\0", &book), Some("refused 8")),
+        (input(&[b'a'; 30], &book), Some("refused 9")),
+        (input(&[b'a'; 30], &book[..book.len() - 1]), Some("refused 4")),
+        (input(b"B", &[&book[..], b"\n"].concat()), Some("refused 4")),
+        (input(b"a", &many(512)), Some("lines 1 steps 2048")),
+        (input(b"a", &many(513)), Some("refused 11")),
+        (input(b"^$", &many(585)), Some("lines 0 steps 1755")),
+        (input(b"^$", &many(586)), Some("refused 11")),
+        (input(b"a", &many(1024)), Some("refused 11")),
+    ]
+}
+
+/// At 8,192 bytes and around. A sound book has an odd number of bytes, so with the pattern `aa` and the
+/// LF it can fill 8,192 exactly: 62 macros of 64 items and one of 60.
+fn sized_inputs() -> Vec<Input> {
+    let mut macros = vec![keys(b"aaaaaaaaaaaaaaa\naaaaaaaaaaaaaaa\naaaaaaaaaaaaaaa\naaaaaaaaaaaaaaa\n"); 62];
+    macros.push((2..62).map(call).collect());
+    let exact = input(b"aa", &write(&macros));
+    assert_eq!(exact.len(), CUECOUNT_BYTES);
+    let longer = |byte: u8, length: usize| {
+        let mut more = exact.clone();
+        more.resize(length, byte);
+        more
+    };
+    let short_pattern = exact[1..].to_vec();
+    vec![
+        (exact.clone(), None),
+        (short_pattern, None),
+        (longer(0, 8_193), Some("refused 14")),
+        (longer(97, 8_193), Some("refused 14")),
+        (longer(97, 8_194), Some("refused 14")),
+        (longer(0, 70_000), Some("refused 14")),
+        ([b"a", &exact[..]].concat(), Some("refused 14")),
+        (vec![b'a'; 8_192], Some("refused 1")),
+        (vec![b'a'; 8_193], Some("refused 14")),
+        (vec![10; 8_192], Some("refused 1")),
+        (vec![10; 8_193], Some("refused 14")),
+        (vec![0; 300_000], Some("refused 14")),
+        (exact[..8_191].to_vec(), Some("refused 4")),
+        ([&exact[..8_191], b"\0\0"].concat(), Some("refused 14")),
+    ]
+}
+
+/// The books of the fixed cases.
+fn fixed_counts() -> Vec<Input> {
+    let mut inputs = Vec::new();
+    for fixed in fixed::all() {
+        if let Case::Count { pattern, book, .. } = fixed.case {
+            inputs.push((input(&pattern, &book), None));
+        }
+    }
+    inputs
+}
+
+fn seeded_input(rng: &mut Rng) -> Vec<u8> {
+    let pattern = if rng.chance(75) { sound_pattern(rng) } else { pattern(rng) };
+    let mut book = write(&macros_for(rng, &pattern));
+    if rng.chance(25) {
+        damage_book(rng, &mut book);
+    }
+    input(&pattern, &book)
+}

@@ -1,0 +1,86 @@
+//! The count over a book: reports of macros 0 to m, the steps, and the matching lines of macro m.
+//! Each run is written out as long as the limit allows; only beyond it the second method is used.
+
+use crate::book::Book;
+use crate::meaning::Tester;
+use crate::report::Report;
+use crate::states::States;
+use crate::summary::summaries;
+use crate::tree::Pattern;
+use crate::written;
+
+/// So many keys are written out for one count at most.
+pub const LIMIT: u64 = 2_000_000;
+
+pub struct Counted {
+    pub reports: Vec<Report>,
+    pub steps: u64,
+    /// Nothing if over 2^64 - 1.
+    pub lines: Option<u64>,
+}
+
+pub fn count(book: &Book, pattern: &Pattern, last: usize) -> Counted {
+    count_within(book, pattern, last, LIMIT)
+}
+
+/// The same with another limit, for the self test.
+pub fn count_within(book: &Book, pattern: &Pattern, last: usize, limit: u64) -> Counted {
+    let states = States::of(pattern);
+    let lengths = written::lengths(book, last);
+    let chosen = within(&lengths, limit);
+    let mut tester = Tester::new(pattern);
+    let mut counted = by_summaries_if_needed(book, &states, &chosen);
+    for (number, _) in chosen.iter().enumerate().filter(|(_, &chosen)| chosen) {
+        let mut run = Vec::new();
+        written::write_out(book, number, &mut run);
+        counted.reports[number] = written::report(&states, &mut tester, &run);
+        counted.steps += written::steps(book, &states, number);
+        if number == last {
+            counted.lines = Some(tester.count(&run));
+        }
+    }
+    check_lines(&counted, &states);
+    if !chosen[last] {
+        counted.lines = counted.reports[last].lines(&states);
+    }
+    counted
+}
+
+/// Which macros are written out: in order, each that the rest of the limit still holds. The asked
+/// macro comes first, so that its lines are tested one by one even if others are too long.
+fn within(lengths: &[u64], limit: u64) -> Vec<bool> {
+    let mut chosen = vec![false; lengths.len()];
+    let mut left = limit;
+    let last = lengths.len() - 1;
+    for number in std::iter::once(last).chain(0..last) {
+        if lengths[number] <= left {
+            left -= lengths[number];
+            chosen[number] = true;
+        }
+    }
+    chosen
+}
+
+/// Reports and steps of the macros that are not chosen; empty places for the others.
+fn by_summaries_if_needed(book: &Book, states: &States, chosen: &[bool]) -> Counted {
+    let empty = Report::empty(states.s as u64);
+    let mut counted = Counted { reports: vec![empty; chosen.len()], steps: 0, lines: None };
+    if chosen.iter().all(|&chosen| chosen) {
+        return counted;
+    }
+    for (number, summary) in summaries(book, states, chosen.len() - 1).iter().enumerate() {
+        if !chosen[number] {
+            counted.reports[number] = summary.report();
+            counted.steps += summary.steps;
+        }
+    }
+    counted
+}
+
+/// Where the lines were tested by the meaning, the report must say the same by the states.
+fn check_lines(counted: &Counted, states: &States) {
+    let by_states = counted.reports[counted.reports.len() - 1].lines(states);
+    if counted.lines.is_some() {
+        assert_eq!(counted.lines, by_states, "meaning and states differ: the second program is wrong");
+    }
+}

@@ -1,0 +1,40 @@
+//! A case in words, for the report of a difference: texts with escapes and in hex, numbers in decimal.
+
+use crate::case::Case;
+use crate::report::Report;
+
+pub fn hex(bytes: &[u8]) -> String {
+    bytes.iter().map(|byte| format!("{byte:02X}")).collect()
+}
+
+/// A pattern both ways.
+pub fn pattern_lines(pattern: &[u8]) -> String {
+    format!("pattern: {}\npattern in hex: {}\n", pattern.escape_ascii(), hex(pattern))
+}
+
+pub fn describe(case: &Case) -> String {
+    let kind = char::from(case.kind());
+    let rest = match case {
+        Case::Line { pattern, line } => format!("{}line in hex: {}", pattern_lines(pattern), hex(line)),
+        Case::Run { pattern, run } => format!("{}run in hex: {}", pattern_lines(pattern), hex(run)),
+        Case::Count { number, words, pattern, book } => {
+            format!(
+                "macro {number}, work words {words}\n{}book in hex: {}",
+                pattern_lines(pattern),
+                hex(book)
+            )
+        }
+        Case::Sound { book } => format!("book in hex: {}", hex(book)),
+        Case::Body { number, book } => format!("macro {number}\nbook in hex: {}", hex(book)),
+        Case::Reach { number, entries, book } => {
+            format!("macro {number}, entries {entries}\nbook in hex: {}", hex(book))
+        }
+        Case::Join { left, right } => format!("left {}\nright {}", numbers(left), numbers(right)),
+    };
+    format!("kind: {kind}\n{rest}")
+}
+
+fn numbers(report: &Report) -> String {
+    let Report { s, rows, flag, heads, closed, tail } = report;
+    format!("s {s} flag {flag} heads {heads} closed {closed} tail {tail} rows {rows:?}")
+}

@@ -1,0 +1,108 @@
+//! A second program for document 01, written apart from the first, to test it with.
+//! It works everything out by the definitions and prefers plainness to speed.
+
+mod answer;
+mod book;
+mod bracket;
+mod case;
+mod child;
+mod classes;
+mod compare;
+mod compare_cases;
+mod compare_count;
+mod compare_cuecount;
+mod count;
+mod describe;
+mod enumerate;
+mod fixed;
+mod fixed_books;
+mod fixed_lines;
+mod fixed_parts;
+mod fixed_runs;
+mod form;
+mod hash;
+mod make;
+mod make_book;
+mod make_bracket;
+mod make_damage;
+mod make_deep;
+mod make_large;
+mod make_line;
+mod make_pattern;
+mod make_report;
+mod make_tree;
+mod meaning;
+mod operations;
+mod parser;
+mod refusal;
+mod report;
+mod rng;
+mod selftest;
+mod states;
+mod summary;
+mod tally;
+mod tree;
+mod written;
+
+use std::io::{self, Read, Write};
+use std::process::exit;
+
+const USAGE: &str = "second answer < cases > answers
+second make SEED COUNT > cases
+second compare CASES CUECOUNT COUNT SEED N
+second selftest";
+
+fn main() {
+    let arguments: Vec<String> = std::env::args().skip(1).collect();
+    let words: Vec<&str> = arguments.iter().map(String::as_str).collect();
+    let done = match words[..] {
+        ["answer"] => answer_stream(),
+        ["make", seed, count] => make_stream(seed, count),
+        ["compare", cases, cuecount, count, seed, cases_wanted] => {
+            compare_programs([cases, cuecount, count], seed, cases_wanted)
+        }
+        ["selftest"] => test_itself(),
+        _ => Err(String::from(USAGE)),
+    };
+    if let Err(message) = done {
+        eprintln!("{message}");
+        exit(2);
+    }
+}
+
+fn number(text: &str) -> Result<u64, String> {
+    text.parse().map_err(|_| format!("not a number: {text}"))
+}
+
+fn answer_stream() -> Result<(), String> {
+    let mut bytes = Vec::new();
+    io::stdin().read_to_end(&mut bytes).map_err(|error| error.to_string())?;
+    let mut stream = case::Stream { left: &bytes };
+    let mut lines = String::new();
+    while !stream.left.is_empty() {
+        let case = stream.case().ok_or("the stream ends inside a case, or a kind is unknown")?;
+        lines.push_str(&answer::answer(&case));
+        lines.push('\n');
+    }
+    io::stdout().write_all(lines.as_bytes()).map_err(|error| error.to_string())
+}
+
+fn make_stream(seed: &str, count: &str) -> Result<(), String> {
+    let mut stream = Vec::new();
+    for case in make::cases(number(seed)?, number(count)?) {
+        case.write(&mut stream);
+    }
+    io::stdout().write_all(&stream).map_err(|error| error.to_string())
+}
+
+fn compare_programs(programs: [&str; 3], seed: &str, count: &str) -> Result<(), String> {
+    compare::compare(programs, number(seed)?, number(count)?);
+    Ok(())
+}
+
+fn test_itself() -> Result<(), String> {
+    if !selftest::selftest() {
+        exit(1);
+    }
+    Ok(())
+}

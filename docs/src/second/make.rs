@@ -1,0 +1,163 @@
+//! Seeded cases of every kind.
+
+use crate::case::Case;
+use crate::make_book::{shallow, write, Macros};
+use crate::make_damage::damage_book;
+use crate::make_deep::{chain, deep, full};
+use crate::make_line;
+use crate::make_pattern::{pattern, sound_pattern};
+use crate::make_report::pair;
+use crate::parser;
+use crate::rng::Rng;
+
+pub fn cases(seed: u64, count: u64) -> impl Iterator<Item = Case> {
+    (0..count).map(move |number| case(&mut Rng::for_case(seed, number)))
+}
+
+fn case(rng: &mut Rng) -> Case {
+    match rng.below(100) {
+        0..=29 => line_case(rng),
+        30..=44 => run_case(rng),
+        45..=71 => count_case(rng),
+        72..=78 => Case::Sound { book: some_book(rng) },
+        79..=84 => body_case(rng),
+        85..=90 => reach_case(rng),
+        _ => {
+            let (left, right) = pair(rng);
+            Case::Join { left, right }
+        }
+    }
+}
+
+fn line_case(rng: &mut Rng) -> Case {
+    let pattern = pattern(rng);
+    let mut line = make_line::line(rng, &pattern);
+    if rng.chance(4) {
+        line.insert(rng.below(line.len() + 1), rng.pick(&[0, 10]));
+    }
+    Case::Line { pattern, line }
+}
+
+fn run_case(rng: &mut Rng) -> Case {
+    let pattern = pattern(rng);
+    let mut run = make_line::run(rng, &pattern);
+    if rng.chance(4) {
+        run.insert(rng.below(run.len() + 1), 0);
+    }
+    Case::Run { pattern, run }
+}
+
+fn count_case(rng: &mut Rng) -> Case {
+    let pattern = if rng.chance(75) { sound_pattern(rng) } else { pattern(rng) };
+    let macros = macros_for(rng, &pattern);
+    let number = number_near(rng, macros.len());
+    let words = words_near(rng, number, &pattern);
+    let mut book = write(&macros);
+    if rng.chance(8) {
+        damage_book(rng, &mut book);
+    }
+    Case::Count { number, words, pattern, book }
+}
+
+/// Mostly books that can be written out.
+pub fn macros_for(rng: &mut Rng, pattern: &[u8]) -> Macros {
+    match rng.below(200) {
+        0..=49 => deep(rng, pattern),
+        50 => {
+            let count = rng.between(2, 120);
+            let items = rng.between(1, 64);
+            let percent = rng.pick(&[1, 4, 12]);
+            full(rng, count, items, percent)
+        }
+        51..=52 => {
+            let count = rng.between(2, 200);
+            chain(rng, count)
+        }
+        _ => shallow(rng, pattern),
+    }
+}
+
+/// The last macro, another one, or none: also numbers that fall back into range if cut to 16 bits.
+fn number_near(rng: &mut Rng, count: usize) -> usize {
+    match rng.below(20) {
+        0..=11 => count - 1,
+        12..=16 => rng.below(count),
+        17 => count,
+        18 => count + rng.below(5),
+        _ => rng.pick(&[1023, 1024, 65_535, 65_536, 65_536 + count - 1, 16_777_215]),
+    }
+}
+
+/// Exactly as many words as needed, one less, more, or none.
+fn words_near(rng: &mut Rng, number: usize, pattern: &[u8]) -> usize {
+    let atoms = parser::read(pattern).map_or(1, |tree| tree.atoms());
+    let needed = (number.min(1023) + 1) * (atoms + 7);
+    let words = match rng.below(20) {
+        0..=8 => needed,
+        9..=10 => needed - 1,
+        11 => 0,
+        12 => needed / 2,
+        _ => needed + rng.below(20),
+    };
+    words.min(36_864)
+}
+
+/// Any book: sound, damaged, full, or mere bytes.
+fn some_book(rng: &mut Rng) -> Vec<u8> {
+    let pattern = sound_pattern(rng);
+    let macros = macros_for(rng, &pattern);
+    let mut book = write(&macros);
+    match rng.below(20) {
+        0..=10 => damage_book(rng, &mut book),
+        11 => book = (0..rng.below(16)).map(|_| rng.byte()).collect(),
+        12 => book = write(&edge_macros(rng)),
+        _ => {}
+    }
+    book
+}
+
+/// Item counts and macro counts at their limits and one beyond.
+fn edge_macros(rng: &mut Rng) -> Macros {
+    if rng.chance(50) {
+        let count = rng.pick(&[1023, 1024, 1025]);
+        return vec![vec![u16::from(b'a')]; count];
+    }
+    let items = rng.pick(&[63, 64, 65]);
+    let mut macros = vec![vec![255]; rng.between(1, 3)];
+    macros.push(vec![256; items]);
+    macros
+}
+
+fn macro_count(book: &[u8]) -> usize {
+    match book.get(5..7) {
+        Some(count) => usize::from(count[0]) + 256 * usize::from(count[1]),
+        None => 0,
+    }
+}
+
+fn body_case(rng: &mut Rng) -> Case {
+    let book = partly_sound(rng);
+    let count = macro_count(&book).max(1);
+    let number = if rng.chance(70) { rng.below(count) } else { number_near(rng, count) };
+    Case::Body { number, book }
+}
+
+fn reach_case(rng: &mut Rng) -> Case {
+    let book = partly_sound(rng);
+    let number = number_near(rng, macro_count(&book).max(1));
+    let entries = match rng.below(8) {
+        0 | 1 => number,
+        2 => 0,
+        3 => number + 2 + rng.below(20),
+        _ => number + 1,
+    };
+    Case::Reach { number, entries: entries.min(1_100), book }
+}
+
+fn partly_sound(rng: &mut Rng) -> Vec<u8> {
+    if rng.chance(25) {
+        return some_book(rng);
+    }
+    let pattern = sound_pattern(rng);
+    write(&macros_for(rng, &pattern))
+}

@@ -1,0 +1,133 @@
+//! Seeded books whose runs are too long to write out: chains that double, counts at the top of the
+//! 64-bit range, full books, and chains as deep as books allow.
+
+use crate::book::{MOST_ITEMS, MOST_MACROS};
+use crate::make_book::{call, grown, keys, some_keys, Macros};
+use crate::make_line;
+use crate::operations::line_test;
+use crate::rng::Rng;
+
+pub fn deep(rng: &mut Rng, pattern: &[u8]) -> Macros {
+    if rng.chance(45) {
+        near_top(rng, pattern)
+    } else {
+        doubling(rng, pattern)
+    }
+}
+
+/// Each macro calls the one below two or three times, with something else in between.
+fn doubling(rng: &mut Rng, pattern: &[u8]) -> Macros {
+    let mut macros = grown(rng, pattern);
+    for _ in 0..rng.between(10, 80) {
+        let number = macros.len();
+        let mut items = vec![call(number - 1); rng.between(2, 3)];
+        if rng.chance(40) {
+            items.insert(rng.below(items.len() + 1), call(rng.below(number)));
+        }
+        if rng.chance(25) {
+            let place = rng.below(items.len() + 1);
+            items.splice(place..place, some_keys(rng, pattern));
+        }
+        macros.push(items);
+    }
+    add_short_end(rng, pattern, &mut macros);
+    macros
+}
+
+/// A last macro that reaches only low ones, whatever overflows between.
+fn add_short_end(rng: &mut Rng, pattern: &[u8], macros: &mut Macros) {
+    if rng.chance(30) {
+        let mut items = some_keys(rng, pattern);
+        items.push(call(rng.below(6.min(macros.len()))));
+        items.extend(some_keys(rng, pattern));
+        macros.push(items);
+    }
+}
+
+/// A line that matches, and one that does not if such a line is met.
+fn two_lines(rng: &mut Rng, pattern: &[u8]) -> (Vec<u8>, Vec<u8>) {
+    let (mut good, mut bad) = (vec![b'a'], Vec::new());
+    for _ in 0..20 {
+        let line = make_line::line(rng, pattern);
+        match line_test(pattern, &line) {
+            Ok(true) if line.len() < 40 => good = line,
+            Ok(false) if line.len() < 20 => bad = line,
+            _ => {}
+        }
+    }
+    (good, bad)
+}
+
+/// Macro i holds 2^i matching lines; the one behind them calls as many as make a number just below,
+/// at or above 2^64 - 1; the last ones put keys before and behind.
+fn near_top(rng: &mut Rng, pattern: &[u8]) -> Macros {
+    let (mut good, mut bad) = two_lines(rng, pattern);
+    good.push(10);
+    bad.push(10);
+    let mut macros = vec![keys(&good)];
+    for number in 1..=64 {
+        macros.push(vec![call(number - 1), call(number - 1)]);
+    }
+    let wanted = (1u128 << 64) - 4 + rng.below(7) as u128;
+    let mut items: Vec<u16> = (0..=64).filter(|place| wanted >> place & 1 == 1).map(call).collect();
+    if rng.chance(50) {
+        items.reverse();
+    }
+    items.truncate(MOST_ITEMS);
+    macros.push(items);
+    around(rng, pattern, &bad, &mut macros);
+    add_short_end(rng, pattern, &mut macros);
+    macros
+}
+
+/// Keys or lines before and behind the last macro, sometimes none.
+fn around(rng: &mut Rng, pattern: &[u8], bad: &[u8], macros: &mut Macros) {
+    for _ in 0..rng.below(3) {
+        let number = macros.len() - 1;
+        let mut items = Vec::new();
+        if rng.chance(50) {
+            items.extend(some_keys(rng, pattern));
+        }
+        items.push(call(number));
+        if rng.chance(40) {
+            items.extend(keys(bad));
+        }
+        if rng.chance(40) {
+            items.extend(some_keys(rng, pattern));
+        }
+        if rng.chance(15) {
+            items.push(call(number));
+        }
+        macros.push(items);
+    }
+}
+
+/// As many macros of as many items as asked for; `percent` of the items call any lower macro.
+pub fn full(rng: &mut Rng, count: usize, items: usize, percent: usize) -> Macros {
+    let count = count.min(MOST_MACROS);
+    let mut macros: Macros = Vec::new();
+    for number in 0..count {
+        let one = (0..items).map(|_| {
+            if number > 0 && rng.chance(percent) {
+                call(rng.below(number))
+            } else {
+                u16::from(rng.pick(b"aaabbbccx\n\n"))
+            }
+        });
+        macros.push(one.collect());
+    }
+    macros
+}
+
+/// Macro i calls macro i - 1, with a key before or behind: as deep as there are macros.
+pub fn chain(rng: &mut Rng, count: usize) -> Macros {
+    let mut macros: Macros = vec![vec![u16::from(b'a')]];
+    for number in 1..count.min(MOST_MACROS) {
+        let mut items = vec![call(number - 1)];
+        if rng.chance(30) {
+            items.insert(rng.below(2), u16::from(rng.pick(b"aabc\n")));
+        }
+        macros.push(items);
+    }
+    macros
+}

@@ -1,0 +1,113 @@
+//! Seeded lines and runs, mostly derived from the pattern they are meant for.
+
+use crate::make_pattern::damage;
+use crate::meaning::line_matches;
+use crate::parser;
+use crate::rng::Rng;
+use crate::tree::*;
+
+const KEYS: &[u8] = b"aaabbbcc]-.x";
+const ODD: &[u8] = b"\t\r\x01 /09AZz@[`{~\x7f\x80\x9b\xc3\xff\\^$()|*+?}=:,";
+
+/// A line for a pattern, sound or not; never with LF or 0.
+pub fn line(rng: &mut Rng, pattern: &[u8]) -> Vec<u8> {
+    let mut line = match parser::read(pattern) {
+        Ok(tree) if rng.chance(45) => near_miss(rng, &tree),
+        Ok(tree) if rng.chance(75) => derived(rng, &tree),
+        _ => random_line(rng),
+    };
+    if rng.chance(15) {
+        damage(rng, &mut line, KEYS);
+    }
+    if rng.chance(4) {
+        line.push(13);
+    }
+    line.retain(|&key| key != 0 && key != 10);
+    line
+}
+
+/// A derived line, damaged until it no longer matches or some tries are over.
+fn near_miss(rng: &mut Rng, tree: &Pattern) -> Vec<u8> {
+    let mut line = derived(rng, tree);
+    for _ in 0..12 {
+        if !line_matches(tree, &line) {
+            break;
+        }
+        damage(rng, &mut line, KEYS);
+        if rng.chance(40) {
+            let place = rng.below(line.len() + 1);
+            line.truncate(place);
+        }
+    }
+    line
+}
+
+fn random_line(rng: &mut Rng) -> Vec<u8> {
+    (0..rng.below(9)).map(|_| if rng.chance(10) { rng.pick(ODD) } else { rng.pick(KEYS) }).collect()
+}
+
+/// What one branch takes, with more keys around it, which an anchor may forbid.
+fn derived(rng: &mut Rng, tree: &Pattern) -> Vec<u8> {
+    let branch = &tree.branches[rng.below(tree.branches.len())];
+    let mut line = Vec::new();
+    if rng.chance(if branch.start { 15 } else { 45 }) {
+        line.extend(random_line(rng));
+    }
+    taken(rng, &branch.pieces, &mut line);
+    if rng.chance(if branch.end { 15 } else { 45 }) {
+        line.extend(random_line(rng));
+    }
+    line
+}
+
+/// Some text that the pieces take.
+pub fn taken(rng: &mut Rng, pieces: &[Piece], line: &mut Vec<u8>) {
+    for piece in pieces {
+        // Deep marks multiply; a line stays short.
+        let most = if line.len() > 60 { 1 } else { 3 };
+        let times = match piece.mark {
+            Mark::Once => 1,
+            Mark::Maybe => rng.below(2),
+            Mark::Star => rng.below(most + 1),
+            Mark::Plus => rng.between(1, most),
+        };
+        for _ in 0..times {
+            match &piece.core {
+                Core::Atom(atom) => line.push(key_of(rng, &atom.set)),
+                Core::Group(alternatives) => {
+                    let chosen = rng.below(alternatives.len());
+                    taken(rng, &alternatives[chosen], line);
+                }
+            }
+        }
+    }
+}
+
+/// A key of the set, preferably a common one; any key if the set is empty.
+fn key_of(rng: &mut Rng, set: &Set) -> u8 {
+    let common: Vec<u8> = KEYS.iter().copied().filter(|&key| set[usize::from(key)]).collect();
+    if !common.is_empty() && rng.chance(80) {
+        return rng.pick(&common);
+    }
+    let all: Vec<u8> = (1..=255u8).filter(|&key| set[usize::from(key)]).collect();
+    if all.is_empty() {
+        rng.pick(KEYS)
+    } else {
+        rng.pick(&all)
+    }
+}
+
+/// Some lines, each closed by LF, the last one sometimes not; sometimes empty.
+pub fn run(rng: &mut Rng, pattern: &[u8]) -> Vec<u8> {
+    let mut run = Vec::new();
+    for _ in 0..rng.below(7) {
+        if rng.chance(85) {
+            run.extend(line(rng, pattern));
+        }
+        run.push(10);
+    }
+    if rng.chance(45) {
+        run.extend(line(rng, pattern));
+    }
+    run
+}

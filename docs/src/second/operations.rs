@@ -1,0 +1,110 @@
+//! The operations with their refusals in the order of document 01, "Refused".
+
+use crate::book;
+use crate::count::count;
+use crate::meaning::{line_matches, Tester};
+use crate::parser;
+use crate::refusal::*;
+
+pub const CUECOUNT_WORDS: usize = 4_096;
+pub const CUECOUNT_BYTES: usize = 8_192;
+pub const COUNT_WORDS: usize = 36_864;
+
+/// The one-line test: the pattern first, then the line.
+pub fn line_test(pattern: &[u8], line: &[u8]) -> Result<bool, Refusal> {
+    let pattern = parser::read(pattern)?;
+    if line.contains(&0) || line.contains(&10) {
+        return Err(DEAD_KEY);
+    }
+    Ok(line_matches(&pattern, line))
+}
+
+/// The count over a plain run: the pattern first, then the run.
+pub fn run_count(pattern: &[u8], run: &[u8]) -> Result<u64, Refusal> {
+    let pattern = parser::read(pattern)?;
+    if run.contains(&0) {
+        return Err(DEAD_KEY);
+    }
+    Ok(Tester::new(&pattern).count(run))
+}
+
+/// Whether the book is sound; the answer is its macro count.
+pub fn sound(book: &[u8]) -> Result<usize, Refusal> {
+    book::read(book).map(|book| book.macros.len())
+}
+
+pub fn body(number: usize, bytes: &[u8]) -> Result<Vec<u8>, Refusal> {
+    let book = book::read(bytes)?;
+    if number >= book.macros.len() {
+        return Err(NO_SUCH_MACRO);
+    }
+    Ok(book.body(number).to_vec())
+}
+
+/// The reach list: how many numbers were written to the first entries.
+pub fn reach(number: usize, bytes: &[u8], entries: &mut [u16]) -> Result<usize, Refusal> {
+    let book = book::read(bytes)?;
+    if number >= book.macros.len() {
+        return Err(NO_SUCH_MACRO);
+    }
+    if entries.len() < number + 1 {
+        return Err(SHORT_WORK);
+    }
+    let reached = book.reached(number);
+    entries[..reached.len()].copy_from_slice(&reached);
+    Ok(reached.len())
+}
+
+/// The count over a book: lines and steps; the first work words hold the reports afterwards, also
+/// after refusal 12.
+pub fn book_count(
+    number: usize,
+    pattern: &[u8],
+    bytes: &[u8],
+    work: &mut [u64],
+) -> Result<(u64, u64), Refusal> {
+    let book = book::read(bytes)?;
+    let pattern = parser::read(pattern)?;
+    if number >= book.macros.len() {
+        return Err(NO_SUCH_MACRO);
+    }
+    let states = pattern.atoms() + 3;
+    if work.len() < (number + 1) * (states + 4) {
+        return Err(SHORT_WORK);
+    }
+    let counted = count(&book, &pattern, number);
+    let words = counted.reports.iter().flat_map(|report| report.words());
+    for (place, word) in work.iter_mut().zip(words) {
+        *place = word;
+    }
+    match counted.lines {
+        Some(lines) => Ok((lines, counted.steps)),
+        None => Err(COUNT_TOO_HIGH),
+    }
+}
+
+/// The count of the last macro; a book that is refused has none, and its refusal comes first anyway.
+pub fn last_count(pattern: &[u8], bytes: &[u8], words: usize) -> Result<(u64, u64), Refusal> {
+    let last = sound(bytes)? - 1;
+    book_count(last, pattern, bytes, &mut vec![0; words])
+}
+
+/// The line that the program `cuecount` prints for an input.
+pub fn cuecount(input: &[u8]) -> String {
+    if input.len() > CUECOUNT_BYTES {
+        return count_line(Err(LONG_INPUT));
+    }
+    let cut = input.iter().position(|&byte| byte == 10);
+    let (pattern, book) = match cut {
+        Some(cut) => (&input[..cut], &input[cut + 1..]),
+        None => (input, &input[input.len()..]),
+    };
+    count_line(last_count(pattern, book, CUECOUNT_WORDS))
+}
+
+pub fn count_line(result: Result<(u64, u64), Refusal>) -> String {
+    match result {
+        Ok((lines, steps)) => format!("lines {lines} steps {steps}"),
+        Err(refusal) => format!("refused {refusal}"),
+    }
+}

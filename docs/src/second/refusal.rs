@@ -1,0 +1,18 @@
+//! The refusal numbers of document 01, "Refused", under their trade's words.
+
+pub type Refusal = u8;
+
+pub const NO_BOOK: Refusal = 1;
+pub const STRANGE_VERSION: Refusal = 2;
+pub const MACRO_COUNT: Refusal = 3;
+pub const BROKEN_BODY: Refusal = 4;
+pub const DEAD_KEY: Refusal = 5;
+pub const FORWARD_CALL: Refusal = 6;
+pub const PATTERN_LENGTH: Refusal = 7;
+pub const BAD_PATTERN: Refusal = 8;
+pub const TOO_MANY_ATOMS: Refusal = 9;
+pub const NO_SUCH_MACRO: Refusal = 10;
+pub const SHORT_WORK: Refusal = 11;
+pub const COUNT_TOO_HIGH: Refusal = 12;
+pub const UNLIKE_REPORTS: Refusal = 13;
+pub const LONG_INPUT: Refusal = 14;
