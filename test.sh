@@ -5,8 +5,10 @@ set -eu -o pipefail
 cd "$(dirname "$0")"
 command -v rt >/dev/null || PATH="/opt/rattle/bin:$PATH"
 command -v rt >/dev/null || { echo "rt, the command of the Rattle toolchain, is not on the PATH" >&2; exit 2; }
-command -v rustc >/dev/null || PATH="$HOME/.cargo/bin:$PATH"
-command -v rustc >/dev/null || { echo "rustc, which compiles the second program, is not on the PATH" >&2; exit 2; }
+# The second program needs rustc; Debian's is enough.
+command -v rustc >/dev/null || PATH="${HOME:-/root}/.cargo/bin:$PATH"
+command -v rustc >/dev/null || { apt-get update -q && apt-get install -y -q rustc; } >/dev/null 2>&1 || true
+command -v rustc >/dev/null || { echo "rustc, which compiles the second program, is not there and could not be installed" >&2; exit 2; }
 log=$(mktemp)
 trap 'rm -f "$log"' EXIT
 
