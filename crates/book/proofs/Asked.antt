@@ -14,7 +14,8 @@ use Rattle.book.specs.Format.{Macro}
 use Rattle.book.specs.Offset.{bodyPart, offset}
 use Rattle.book.specs.Reading.{Reading, got, refused, readBook, macrosIn}
 use Rattle.book.specs.Reach.{ReachList}
-use Rattle.book.specs.Answer.{ReachAnswer, accepted, refusedFor, layoutFor, requireMacro, requireEntries, bodyOf, bodyAt, refusalOf}
+use Rattle.refusal.specs.Figures.{answered, refusedFor}
+use Rattle.book.specs.Answer.{ReachAnswer, layoutFor, requireMacro, requireEntries, bodyOf, bodyAt, refusalOf}
 use Rattle.book.specs.Steps.{Located}
 use Rattle.book.proofs.Readings.{clash}
 
@@ -83,5 +84,5 @@ module _ (b : List ℕ) (m k : ℕ) where
 pub reach-none : (g : Reading (List Macro)) (m : ℕ) (r : Refusal) (before after : List ℕ) → g ≡ refused r → after ≡ before → ReachAnswer g m (refusedFor r) before after
 reach-none g m r before after e f = rw e (refl, f)
 
-pub reach-some : (g : Reading (List Macro)) (m n : ℕ) (ms : List Macro) (rest before after : List ℕ) → g ≡ got ms rest → ReachList ms m n before after → ReachAnswer g m (accepted n) before after
+pub reach-some : (g : Reading (List Macro)) (m n : ℕ) (ms : List Macro) (rest before after : List ℕ) → g ≡ got ms rest → ReachList ms m n before after → ReachAnswer g m (answered n) before after
 reach-some g m n ms rest before after e l = rw e (refl, l)

@@ -8,6 +8,7 @@ use lib.ListN.{length, replicate}
 use Rattle.refusal.specs.declared.Refusal.{Refusal}
 use Rattle.refusal.specs.declared.Refusal.the-variants.{NoSuchMacro, InsufficientSpace}
 use Rattle.refusal.specs.Number as Number
+use Rattle.refusal.specs.Figures.{Figures, answered, refusedFor}
 use Rattle.book.specs.declared.layout.Checked.{Checked}
 use Rattle.book.specs.declared.layout.Layout.{Layout}
 use Rattle.book.specs.declared.reachable.Reached.{Reached}
@@ -16,24 +17,13 @@ use Rattle.book.specs.Offset.{starts, bodyPart, offset}
 use Rattle.book.specs.Reach.{ReachList}
 use Rattle.book.specs.Reading.{Reading, Reader, got, refused, _>>=_, readBook}
 
--- The paper's figures for an answer: the refusal's number, 0 if accepted, and the one value. "A refusal's other numbers are 0"
-pub record Figures : Type 0 where
-  pub refusal : ℕ
-  pub value : ℕ
-
-abbrev pub accepted : ℕ → Figures
-accepted n = record { refusal = 0; value = n }
-
-abbrev pub refusedFor : Refusal → Figures
-refusedFor r = record { refusal = Number.number r; value = 0 }
-
 -- the check of a book: its macro count
-abbrev pub checkedFigures : Checked → Figures
-checkedFigures (Checked.Sound n) = accepted n
+abbrev pub checkedFigures : Checked → Figures ℕ
+checkedFigures (Checked.Sound n) = answered n
 checkedFigures (Checked.Refused r) = refusedFor r
 
-abbrev pub checkResult : Reading (List Macro) → Figures
-checkResult (got ms rest) = accepted (length ms)
+abbrev pub checkResult : Reading (List Macro) → Figures ℕ
+checkResult (got ms rest) = answered (length ms)
 checkResult (refused r) = refusedFor r
 
 -- a book's layout: its macro count and where its macros stand; zeros in the offsets that are left over, or where it is refused
@@ -69,10 +59,10 @@ requireEntries m entries = do
   λ rest. cond (ltb entries (m + 1)) (refused InsufficientSpace) (got ms rest)
 
 -- the reach list of macro m: the figures of the answer, and the lent list before and after; a refusal leaves it "unchanged"
-abbrev pub ReachAnswer : Reading (List Macro) → ℕ → Figures → List ℕ → List ℕ → Type 0
+abbrev pub ReachAnswer : Reading (List Macro) → ℕ → Figures ℕ → List ℕ → List ℕ → Type 0
 ReachAnswer (got ms rest) m f before after = (f .refusal ≡ 0) × ReachList ms m (f .value) before after
 ReachAnswer (refused r) m f before after = (f ≡ refusedFor r) × (after ≡ before)
 
-abbrev pub reachedFigures : Reached → Figures
-reachedFigures (Reached.Written n) = accepted n
+abbrev pub reachedFigures : Reached → Figures ℕ
+reachedFigures (Reached.Written n) = answered n
 reachedFigures (Reached.Refused r) = refusedFor r

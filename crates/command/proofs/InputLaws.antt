@@ -10,10 +10,11 @@ use lib.ListN.{length, getD, take, drop, drop-of-length-le, length-drop}
 use lib.Seq.{drop-cons, drop-length, take-all}
 use borrow.Author.Tests.{eq-eqb, ne-eqb, lt-ltb, le-ltb, ltb-true, ltb-false}
 use Rattle.refusal.specs.declared.Refusal.{Refusal}
+use Rattle.refusal.specs.Figures.{Figures}
 use Rattle.refusal.proofs.Number.{number-positive}
 use Rattle.book.specs.Format.{Macro}
 use Rattle.book.specs.Reading.{Reading, got, refused, readBook}
-use Rattle.book.specs.Answer.{Figures, checkedFigures, checkResult}
+use Rattle.book.specs.Answer.{checkedFigures, checkResult}
 use Rattle.book.specs.declared.layout.Checked.{Checked}
 use Rattle.book.proofs.Offsets.{whole}
 use Rattle.counter.specs.Lines.{lineEnd}
@@ -31,9 +32,9 @@ module _ (b : List ℕ) {r : Checked} (e : checkedFigures r ≡ checkResult (rea
     where
       go : (g : Reading (List Macro)) → readBook b ≡ g → checkedFigures (Checked.Sound n) ≡ checkResult g → (1 ≤ n) × (n - 1 ≡ lastMacro g)
       go (got ms rest) d h =
-          let same : n ≡ length ms = ap (λ (x : Figures). x .value) h in
+          let same : n ≡ length ms = ap (λ (x : Figures ℕ). x .value) h in
           (omega (arith, whole b ms rest d .some), rw same refl)
-      go (refused q) d h = absurd (omega (arith, number-positive q, ap (λ (x : Figures). x .refusal) h))
+      go (refused q) d h = absurd (omega (arith, number-positive q, ap (λ (x : Figures ℕ). x .refusal) h))
 
   pub some-macro : {n : ℕ} → r ≡ Checked.Sound n → 1 ≤ n
   some-macro f = last-of f .0
@@ -45,7 +46,7 @@ module _ (b : List ℕ) {r : Checked} (e : checkedFigures r ≡ checkResult (rea
   last-refused {q} f = go (readBook b) (rw f at e)
     where
       go : (g : Reading (List Macro)) → checkedFigures (Checked.Refused q) ≡ checkResult g → 0 ≡ lastMacro g
-      go (got ms rest) h = absurd (omega (arith, number-positive q, ap (λ (x : Figures). x .refusal) h))
+      go (got ms rest) h = absurd (omega (arith, number-positive q, ap (λ (x : Figures ℕ). x .refusal) h))
       go (refused s) h = refl
 
 -- Where the pattern ends.

@@ -4,6 +4,7 @@ use mathlib.Core.Path.{_≡_, refl}
 use mathlib.Core.Bool.{Bool, true, _&&_, xor}
 use mathlib.Core.List.{List, [], _∷_}
 use lib.Dec.{eqb}
+use Rattle.refusal.specs.Figures.{Figures, answered, refusedFor}
 use Rattle.stateset.specs.Set.{anyBelow, countBelow}
 use Rattle.book.specs.Reading.{readItem, readItems, readMacro, readMacros, readHeader, readAll, readBook}
 use Rattle.book.specs.Expansion.{expand, expandTo, expansion}
@@ -17,7 +18,7 @@ use Rattle.pattern.specs.Reader.{Read, accepted, refused, sameBytes, findClass,
 use Rattle.counter.specs.Lines.{lines, countIn, matching}
 use Rattle.counter.specs.Reports.{firstPart, laterParts, lastPart}
 use Rattle.counter.specs.Counting.{Outcome, sumBelow, pairs, itemSteps, steps, countResult}
-use Rattle.counter.specs.Answers.{Figures, answered, refusedFor, lineResult, runResult}
+use Rattle.counter.specs.Answers.{lineResult, runResult}
 use Rattle.command.specs.Input.{patternEnd, lastResult, programResult}
 
 -- What is asked. A pattern, a line, a run and a book are their bytes.
@@ -35,10 +36,10 @@ pub data Question : Type 0 where
   programSteps : List ℕ → Question
 
 -- the refusal and the count of an outcome
-abbrev pub figuresOf : Outcome → Figures
+abbrev pub figuresOf : Outcome → Figures ℕ
 figuresOf o = record { refusal = o .refusal; value = o .lines }
 
-abbrev pub readFigures : Read → Figures
+abbrev pub readFigures : Read → Figures ℕ
 readFigures (accepted t) = answered 0
 readFigures (refused r) = refusedFor r
 
@@ -47,7 +48,7 @@ abbrev work : List ℕ
 work = 0 ∷ 0 ∷ 0 ∷ 0 ∷ 0 ∷ 0 ∷ 0 ∷ 0 ∷ 0 ∷ 0 ∷ 0 ∷ 0 ∷ 0 ∷ 0 ∷ 0 ∷ 0 ∷ 0 ∷ 0 ∷ []
 
 -- What is answered, by the definitions that the contracts cite.
-pub answerTo : Question → Figures
+pub answerTo : Question → Figures ℕ
 answerTo (reads p) = readFigures (readPattern p)
 answerTo (tests p w) = lineResult (readPattern p) w
 answerTo (counts p w) = runResult (readPattern p) w

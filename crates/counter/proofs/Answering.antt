@@ -12,16 +12,17 @@ use Rattle.pattern.proofs.Readings.{read-accepted, read-refused}
 use Rattle.counter.specs.declared.line.LineTest.{LineTest}
 use Rattle.counter.specs.declared.moves.Closing.{Closing}
 use Rattle.counter.specs.declared.run.RunCount.{RunCount}
-use Rattle.counter.specs.Answers.{Figures, refusedFor, lineFigures, runFigures, lineResult, runResult}
+use Rattle.refusal.specs.Figures.{Figures, refusedFor}
+use Rattle.counter.specs.Answers.{lineFigures, runFigures, lineResult, runResult}
 use Rattle.counter.specs.Promises.{Automaton, Closes, TestsLine, CountsRun}
 
 module _ (p keys enter keys' enter' : List ℕ) {v : Verdict} (h : ReadAs (readPattern p) keys enter (verdictFigures v) keys' enter') where
   -- a refused pattern, whatever else is asked
-  passed-on : {r : Refusal} → v ≡ Verdict.Refused r → (F : Read → Figures) → F (refused r) ≡ refusedFor r → refusedFor r ≡ F (readPattern p)
+  passed-on : {r : Refusal} → v ≡ Verdict.Refused r → (F : Read → Figures ℕ) → F (refused r) ≡ refusedFor r → refusedFor r ≡ F (readPattern p)
   passed-on {r} e F f = sym (ap F (read-refused p keys enter keys' enter' r (rw e at h)) ∙ f)
 
   -- an accepted one, by its tree
-  answered-by : {a : Accepting} (c : Closing) → v ≡ Verdict.Accepted a → Closes a c → (F : Read → Figures) (x : Figures) → ((t : Pattern) → Automaton t keys' enter' c → x ≡ F (accepted t)) → x ≡ F (readPattern p)
+  answered-by : {a : Accepting} (c : Closing) → v ≡ Verdict.Accepted a → Closes a c → (F : Read → Figures ℕ) (x : Figures ℕ) → ((t : Pattern) → Automaton t keys' enter' c → x ≡ F (accepted t)) → x ≡ F (readPattern p)
   unfolding Closes
   answered-by {a} c e k F x f =
       let r = read-accepted p keys enter keys' enter' a (rw e at h) in

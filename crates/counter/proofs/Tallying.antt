@@ -19,7 +19,8 @@ use Rattle.counter.specs.declared.moves.Closing.{Closing}
 use Rattle.counter.specs.declared.run.RunCount.{RunCount}
 use Rattle.counter.specs.declared.run.Tally.{Tally}
 use Rattle.counter.specs.Lines.{lineEnd, matching}
-use Rattle.counter.specs.Answers.{answered, runResult}
+use Rattle.refusal.specs.Figures.{answered}
+use Rattle.counter.specs.Answers.{runResult}
 use Rattle.counter.specs.Promises.{Automaton, Advances, AfterKey, CountsRun, tallyAfter, isOpen, reached}
 use Rattle.counter.proofs.LineLaws.{member-first, member-rest, matching-closed, matching-open}
 use Rattle.counter.proofs.Reaching.{reached-none, reached-more, reached-matches}

@@ -19,7 +19,8 @@ use Rattle.pattern.proofs.Moving.{common}
 use Rattle.counter.specs.declared.line.LineTest.{LineTest}
 use Rattle.counter.specs.declared.moves.Closing.{Closing}
 use Rattle.counter.specs.Lines.{lineEnd}
-use Rattle.counter.specs.Answers.{answered, lineResult}
+use Rattle.refusal.specs.Figures.{answered}
+use Rattle.counter.specs.Answers.{lineResult}
 use Rattle.counter.specs.Promises.{Automaton, Advances, TestsLine, moved, reached}
 use Rattle.counter.proofs.Reaching.{reached-none, reached-more, reached-matches}
 

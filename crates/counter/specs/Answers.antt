@@ -5,6 +5,7 @@ use mathlib.Core.List.{List}
 use Rattle.refusal.specs.declared.Refusal.{Refusal}
 use Rattle.refusal.specs.declared.Refusal.the-variants.{InvalidKey, ReportMismatch}
 use Rattle.refusal.specs.Number.{number}
+use Rattle.refusal.specs.Figures.{Figures, answered, refusedFor}
 use Rattle.pattern.specs.Form.{member}
 use Rattle.pattern.specs.Meaning.{matches}
 use Rattle.pattern.specs.Reader.{Read, accepted, refused}
@@ -17,35 +18,24 @@ use Rattle.counter.specs.Lines.{lineEnd, matching}
 use Rattle.counter.specs.Counting.{Outcome, finished, stopped}
 use Rattle.counter.specs.Reports.{alike, joinedReports, noReport}
 
--- The paper's figures for an answer: the refusal's number, 0 if there is none, and the one value. "A refusal's other numbers are 0"
-pub record Figures : Type 0 where
-  pub refusal : ℕ
-  pub value : ℕ
-
-abbrev pub answered : ℕ → Figures
-answered n = record { refusal = 0; value = n }
-
-abbrev pub refusedFor : Refusal → Figures
-refusedFor r = record { refusal = number r; value = 0 }
-
 -- the one-line test: 1 if the line matches, or 0
-abbrev pub lineFigures : LineTest → Figures
+abbrev pub lineFigures : LineTest → Figures ℕ
 lineFigures LineTest.Matches = answered 1
 lineFigures LineTest.NoMatch = answered 0
 lineFigures (LineTest.Refused r) = refusedFor r
 
 -- the count over a plain run: how many lines match
-abbrev pub runFigures : RunCount → Figures
+abbrev pub runFigures : RunCount → Figures ℕ
 runFigures (RunCount.Lines n) = answered n
 runFigures (RunCount.Refused r) = refusedFor r
 
 -- "Plain runs and single lines are tested after the pattern": then 5 for a "byte 0 or 10 in the one-line test"
-unfoldable pub lineResult : Read → List ℕ → Figures
+unfoldable pub lineResult : Read → List ℕ → Figures ℕ
 lineResult (refused r) w = refusedFor r
 lineResult (accepted t) w = cond (member 0 w || member lineEnd w) (refusedFor InvalidKey) (answered (cond (matches t w) 1 0))
 
 -- and for a "byte 0 in a plain run"
-unfoldable pub runResult : Read → List ℕ → Figures
+unfoldable pub runResult : Read → List ℕ → Figures ℕ
 runResult (refused r) w = refusedFor r
 runResult (accepted t) w = cond (member 0 w) (refusedFor InvalidKey) (answered (matching t w))
 

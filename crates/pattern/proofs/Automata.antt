@@ -23,7 +23,8 @@ use Rattle.pattern.specs.Branches.{shapeIn, keysIn, enterIn}
 use Rattle.pattern.specs.Summaries.{branchSummary, summaryOf, through, PatternDone, ReadsBranches}
 use Rattle.pattern.specs.Moves.{enters}
 use Rattle.pattern.proofs.Tabled.{tabled-same}
-use Rattle.pattern.specs.Automata.{keyTable, enterTable, accepts, ReadAs, acceptingOf, acceptedWith, verdictFigures}
+use Rattle.refusal.specs.Figures.{answered}
+use Rattle.pattern.specs.Automata.{keyTable, enterTable, accepts, ReadAs, acceptingOf, verdictFigures}
 use Rattle.pattern.specs.Steps.{mapWith}
 use Rattle.pattern.proofs.Parses.{clash}
 use Rattle.pattern.proofs.Entries.{with-same, with-with, with-none}
@@ -208,5 +209,5 @@ module _ (s keys enter k e : List ℕ) (x : PatternRead) (h : ReadsBranches s (r
         go (parsed t rest) (i, j, l) =
             let many : n ≡ 0 + atomCount t = cc in
             let sum : a ≡ summaryOf 0 t blank = cc in
-            rw (le-leb (atomCount t) 29 (omega arith)) (ap (λ (w : Accepting). acceptedWith w) (ev ∙ ap (λ (b : Summary). acceptingOf b n) sum ∙ accepts-all t n (many ∙ zero-add (atomCount t))), j ∙ keys-all t, rw (sum, l) (enter-all t))
+            rw (le-leb (atomCount t) 29 (omega arith)) (ap (λ (w : Accepting). answered w) (ev ∙ ap (λ (b : Summary). acceptingOf b n) sum ∙ accepts-all t n (many ∙ zero-add (atomCount t))), j ∙ keys-all t, rw (sum, l) (enter-all t))
         go fault i = clash (cc)

@@ -14,7 +14,8 @@ use Rattle.refusal.proofs.Number.{number-positive, number-injective}
 use Rattle.pattern.specs.declared.automaton.Accepting.{Accepting}
 use Rattle.pattern.specs.Form.{Pattern, atomCount, member}
 use Rattle.pattern.specs.Reader.{Read, accepted, refused, Parsed, parsed, fault, counted, readBranches, readPattern}
-use Rattle.pattern.specs.Automata.{Figures, ReadAs, acceptedWith, refusedFor, keyTable, enterTable, accepts}
+use Rattle.refusal.specs.Figures.{Figures, answered}
+use Rattle.pattern.specs.Automata.{ReadAs, refusedPattern, keyTable, enterTable, accepts}
 
 -- an accepted pattern has at most 29 atoms
 counted-few : (r : Parsed Pattern) (t : Pattern) → counted r ≡ accepted t → atomCount t ≤ 29
@@ -44,19 +45,19 @@ pub record AcceptedAs (p : List ℕ) (a : Accepting) (keys enter : List ℕ) : T
   pub closing : a ≡ accepts tree
 
 module _ (p keys enter keys' enter' : List ℕ) where
-  pub read-accepted : (a : Accepting) → ReadAs (readPattern p) keys enter (acceptedWith a) keys' enter' → AcceptedAs p a keys' enter'
+  pub read-accepted : (a : Accepting) → ReadAs (readPattern p) keys enter (answered a) keys' enter' → AcceptedAs p a keys' enter'
   unfolding ReadAs
   read-accepted a h = go (readPattern p) refl h
     where
-      go : (r : Read) → readPattern p ≡ r → ReadAs r keys enter (acceptedWith a) keys' enter' → AcceptedAs p a keys' enter'
-      go (accepted t) e (f, k, n) = record { tree = t; reading = e; few = accepted-few p t e; keyed = k; entered = n; closing = ap (λ (x : Figures). x .values) f }
-      go (refused r) e (f, k, n) = absurd (omega (arith, number-positive r, ap (λ (x : Figures). x .refusal) f))
+      go : (r : Read) → readPattern p ≡ r → ReadAs r keys enter (answered a) keys' enter' → AcceptedAs p a keys' enter'
+      go (accepted t) e (f, k, n) = record { tree = t; reading = e; few = accepted-few p t e; keyed = k; entered = n; closing = ap (λ (x : Figures Accepting). x .value) f }
+      go (refused r) e (f, k, n) = absurd (omega (arith, number-positive r, ap (λ (x : Figures Accepting). x .refusal) f))
 
   -- a pattern that is refused
-  pub read-refused : (r : Refusal) → ReadAs (readPattern p) keys enter (refusedFor r) keys' enter' → readPattern p ≡ refused r
+  pub read-refused : (r : Refusal) → ReadAs (readPattern p) keys enter (refusedPattern r) keys' enter' → readPattern p ≡ refused r
   unfolding ReadAs
   read-refused r h = go (readPattern p) refl h
     where
-      go : (d : Read) → readPattern p ≡ d → ReadAs d keys enter (refusedFor r) keys' enter' → readPattern p ≡ refused r
-      go (accepted t) e (f, k, n) = absurd (omega (arith, number-positive r, ap (λ (x : Figures). x .refusal) f))
-      go (refused s) e (f, k, n) = e ∙ ap refused (number-injective s r (sym (ap (λ (x : Figures). x .refusal) f)))
+      go : (d : Read) → readPattern p ≡ d → ReadAs d keys enter (refusedPattern r) keys' enter' → readPattern p ≡ refused r
+      go (accepted t) e (f, k, n) = absurd (omega (arith, number-positive r, ap (λ (x : Figures Accepting). x .refusal) f))
+      go (refused s) e (f, k, n) = e ∙ ap refused (number-injective s r (sym (ap (λ (x : Figures Accepting). x .refusal) f)))

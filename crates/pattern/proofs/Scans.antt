@@ -14,7 +14,9 @@ use Rattle.pattern.specs.declared.automaton.Verdict.{Verdict}
 use Rattle.pattern.specs.Form.{member}
 use Rattle.pattern.specs.Reader.{readBranches, counted, readPattern}
 use Rattle.pattern.specs.Cycle.{Clean, CleanDone, Ready}
-use Rattle.pattern.specs.Automata.{Figures, ReadAs, verdictFigures}
+use Rattle.refusal.specs.Figures.{Figures}
+use Rattle.pattern.specs.declared.automaton.Accepting.{Accepting}
+use Rattle.pattern.specs.Automata.{ReadAs, verdictFigures}
 use Rattle.pattern.proofs.Parses.{byte-of, clean-append, clean-member, clash}
 
 member-at : (l : List ℕ) (i : ℕ) → i < length l → member (getD l i 0) l ≡ true
@@ -79,6 +81,6 @@ module _ (s keys enter : List ℕ) where
           go true h = absurd (h refl)
           go false h = refl
 
-      pub pattern-clean : (f : Figures) (keys' enter' : List ℕ) → ReadAs (counted (readBranches (length s) s)) keys enter f keys' enter' → ReadAs (readPattern s) keys enter f keys' enter'
+      pub pattern-clean : (f : Figures Accepting) (keys' enter' : List ℕ) → ReadAs (counted (readBranches (length s) s)) keys enter f keys' enter' → ReadAs (readPattern s) keys enter f keys' enter'
       unfolding readPattern
       pattern-clean f keys' enter' h = rw (fits, absent 0 (λ m. clash (cc (clean-member 0 s m clean))), absent 10 (λ m. clash (cc (clean-member 10 s m clean)))) h

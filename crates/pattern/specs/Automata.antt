@@ -4,7 +4,7 @@ use mathlib.Core.Path.{_≡_}
 use mathlib.Core.Bool.{Bool, false}
 use mathlib.Core.List.{List}
 use Rattle.refusal.specs.declared.Refusal.{Refusal}
-use Rattle.refusal.specs.Number as Number
+use Rattle.refusal.specs.Figures.{Figures, answered, refusedWith}
 use Rattle.pattern.specs.declared.automaton.Accepting.{Accepting}
 use Rattle.pattern.specs.declared.automaton.Verdict.{Verdict}
 use Rattle.pattern.specs.declared.summary.Summary.{Summary}
@@ -29,25 +29,19 @@ accepts t = record {
   atoms = atomCount t;
 }
 
--- The paper's figures for an answer: the refusal's number, 0 if accepted, and the values. "A refusal's other numbers are 0"
-pub record Figures : Type 0 where
-  pub refusal : ℕ
-  pub values : Accepting
+-- "A refusal's other numbers are 0"
+abbrev pub refusedPattern : Refusal → Figures Accepting
+refusedPattern r = refusedWith (record { ends = 0; anchored = 0; empty = false; jump = false; atoms = 0 }) r
 
-abbrev pub acceptedWith : Accepting → Figures
-acceptedWith a = record { refusal = 0; values = a }
-
-abbrev pub refusedFor : Refusal → Figures
-refusedFor r = record { refusal = Number.number r; values = record { ends = 0; anchored = 0; empty = false; jump = false; atoms = 0 } }
-
-abbrev pub verdictFigures : Verdict → Figures
-verdictFigures (Verdict.Accepted a) = acceptedWith a
-verdictFigures (Verdict.Refused r) = refusedFor r
+-- the figures of an answer
+abbrev pub verdictFigures : Verdict → Figures Accepting
+verdictFigures (Verdict.Accepted a) = answered a
+verdictFigures (Verdict.Refused r) = refusedPattern r
 
 -- the figures of a reading, and what it makes of the tables
-unfoldable pub ReadAs : Read → List ℕ → List ℕ → Figures → List ℕ → List ℕ → Type 0
-ReadAs (accepted t) keys enter f keys' enter' = (f ≡ acceptedWith (accepts t)) × (keys' ≡ keyTable t) × (enter' ≡ enterTable t)
-ReadAs (refused r) keys enter f keys' enter' = (f ≡ refusedFor r) × (keys' ≡ keys) × (enter' ≡ enter)
+unfoldable pub ReadAs : Read → List ℕ → List ℕ → Figures Accepting → List ℕ → List ℕ → Type 0
+ReadAs (accepted t) keys enter f keys' enter' = (f ≡ answered (accepts t)) × (keys' ≡ keyTable t) × (enter' ≡ enterTable t)
+ReadAs (refused r) keys enter f keys' enter' = (f ≡ refusedPattern r) × (keys' ≡ keys) × (enter' ≡ enter)
 
 -- the same of what the branches come to
 abbrev pub acceptingOf : Summary → ℕ → Accepting

@@ -1,2 +1,3 @@
--- The numbers of document 01's table of refusals.
+-- The numbers of document 01's table of refusals, and the figures of an answer.
 pub mod Number
+pub mod Figures
