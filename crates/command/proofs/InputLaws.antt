@@ -6,7 +6,7 @@ use mathlib.Core.Path.{_≡_, refl, sym, ap, _∙_}
 use mathlib.Core.Bool.{Bool, true, false}
 use mathlib.Core.List.{List}
 use lib.Dec.{ltb}
-use lib.ListN.{length, getD, take, drop, drop-of-length-le, length-drop}
+use lib.ListN.{length, getD, take, drop, replicate, drop-of-length-le, length-drop}
 use lib.Seq.{drop-cons, drop-length, take-all}
 use borrow.Author.Tests.{eq-eqb, ne-eqb, lt-ltb, le-ltb, ltb-true, ltb-false}
 use Rattle.refusal.specs.declared.Refusal.{Refusal}
@@ -23,7 +23,7 @@ use Rattle.counter.specs.Answers.{outcome}
 use Rattle.counter.specs.declared.counting.BookCount.{BookCount}
 use Rattle.pattern.specs.Reader.{readPattern}
 use Rattle.refusal.specs.declared.Refusal.the-variants.{InputTooLong}
-use Rattle.command.specs.Input.{patternEnd, lastMacro, lastResult, programResult}
+use Rattle.command.specs.Input.{patternEnd, lastMacro, lastResult, programResult, told, toldBy, programAnswer, macroAnswer, lastAnswer}
 
 -- The last macro.
 module _ (b : List ℕ) {r : Checked} (e : checkedFigures r ≡ checkResult (readBook b)) where
@@ -100,3 +100,24 @@ answer-book w before after r {end} {start} h e f k =
             let l = ltb-false n (length w) i in
             let same : min n (length w) ≡ length w = omega arith in
             rw same (drop-length w ∙ sym (drop-of-length-le w l))
+
+-- What is told does not rest on the work words afterwards.
+module _ (r : BookCount) (after : List ℕ) where
+  told-of : {o : Outcome} → outcome r after ≡ o → toldBy r ≡ told o
+  told-of e = go r ∙ ap (λ (x : Outcome). told x) e
+    where
+      go : (s : BookCount) → toldBy s ≡ told (outcome s after)
+      go (BookCount.Lines n k) = refl
+      go (BookCount.Refused q) = refl
+
+  pub program-told : (w : List ℕ) → outcome r after ≡ programResult w (replicate 4096 0) → toldBy r ≡ programAnswer w
+  unfolding programAnswer
+  program-told w e = told-of e
+
+  pub macro-told : (book pattern : List ℕ) (m : ℕ) → outcome r after ≡ countResult (readBook book) (readPattern pattern) m (replicate 36864 0) → toldBy r ≡ macroAnswer book pattern m
+  unfolding macroAnswer
+  macro-told book pattern m e = told-of e
+
+  pub last-told : (book pattern : List ℕ) → outcome r after ≡ lastResult book pattern (replicate 36864 0) → toldBy r ≡ lastAnswer book pattern
+  unfolding lastAnswer
+  last-told book pattern e = told-of e

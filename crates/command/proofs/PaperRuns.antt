@@ -4,6 +4,7 @@ use mathlib.Core.Path.{_≡_, refl}
 use mathlib.Core.Bool.{Bool, true, _&&_, xor}
 use mathlib.Core.List.{List, [], _∷_}
 use lib.Dec.{eqb}
+use lib.ListN.{replicate}
 use Rattle.refusal.specs.Figures.{Figures, answered, refusedFor}
 use Rattle.stateset.specs.Set.{anyBelow, countBelow}
 use Rattle.book.specs.Reading.{readItem, readItems, readMacro, readMacros, readHeader, readAll, readBook}
@@ -19,7 +20,7 @@ use Rattle.counter.specs.Lines.{lines, countIn, matching}
 use Rattle.counter.specs.Reports.{firstPart, laterParts, lastPart}
 use Rattle.counter.specs.Counting.{Outcome, sumBelow, pairs, itemSteps, steps, countResult}
 use Rattle.counter.specs.Answers.{lineResult, runResult}
-use Rattle.command.specs.Input.{patternEnd, lastResult, programResult}
+use Rattle.command.specs.Input.{patternEnd, lastResult, programResult, programAnswer}
 
 -- What is asked. A pattern, a line, a run and a book are their bytes.
 pub data Question : Type 0 where
@@ -53,8 +54,8 @@ answerTo (reads p) = readFigures (readPattern p)
 answerTo (tests p w) = lineResult (readPattern p) w
 answerTo (counts p w) = runResult (readPattern p) w
 answerTo (countsBook p b m) = figuresOf (countResult (readBook b) (readPattern p) m work)
-answerTo (program w) = figuresOf (programResult w work)
-answerTo (programSteps w) = answered (programResult w work .steps)
+answerTo (program w) = record { refusal = programAnswer w .refusal; value = programAnswer w .lines }
+answerTo (programSteps w) = answered (programAnswer w .steps)
 
 -- A row: the question, and the refusal and the value that document 01 gives (1 for a line that matches).
 pub record Row : Type 0 where
@@ -111,5 +112,5 @@ allHold (r ∷ rs) = holds r && allHold rs
 
 -- every row is as document 01 says
 pub paper-runs : allHold table ≡ true
-unfolding table allHold answerTo classNames member atoms atomCount sameBytes findClass readElement readElements readBracket readAtom readRepeat readExpr readBranch readBranches readPattern classRanges inRanges inElement inElements named setOf repeated takes matchesFrom matches lines countIn matching readItem readItems readMacro readMacros readHeader readAll readBook expand expandTo expansion lineResult runResult countResult firstPart laterParts lastPart sumBelow pairs itemSteps steps anyBelow countBelow nothing first last follow someBranch positions.holds enters target move leads patternEnd lastResult programResult xor
+unfolding table allHold answerTo classNames member atoms atomCount sameBytes findClass readElement readElements readBracket readAtom readRepeat readExpr readBranch readBranches readPattern classRanges inRanges inElement inElements named setOf repeated takes matchesFrom matches lines countIn matching readItem readItems readMacro readMacros readHeader readAll readBook expand expandTo expansion lineResult runResult countResult firstPart laterParts lastPart sumBelow pairs itemSteps steps anyBelow countBelow nothing first last follow someBranch positions.holds enters target move leads patternEnd lastResult programResult programAnswer replicate xor
 paper-runs = refl

@@ -3,13 +3,15 @@ use Prim.Native.Nat.{ℕ, suc, _-_}
 use mathlib.Core.Bool.{cond}
 use mathlib.Core.List.{List, [], _∷_}
 use lib.Dec.{eqb, ltb}
-use lib.ListN.{length, take, drop}
+use lib.ListN.{length, take, drop, replicate}
 use Rattle.refusal.specs.declared.Refusal.the-variants.{InputTooLong}
 use Rattle.book.specs.Format.{Macro}
 use Rattle.book.specs.Reading.{Reading, got, refused, readBook}
 use Rattle.pattern.specs.Reader.{readPattern}
 use Rattle.counter.specs.Lines.{lineEnd}
 use Rattle.counter.specs.Counting.{Outcome, stopped, countResult}
+use Rattle.counter.specs.Answers.{outcome}
+use Rattle.counter.specs.declared.counting.BookCount.{BookCount}
 
 -- "Standard input: the pattern, LF, the book."
 unfoldable pub patternEnd : List ℕ → ℕ
@@ -37,3 +39,26 @@ unfoldable pub programResult : List ℕ → List ℕ → Outcome
 programResult w work =
     cond (ltb 8192 (length w)) (stopped InputTooLong work)
     (lastResult (bookIn w) (patternIn w) work)
+
+-- What a program tells: the refusal's number, or 0 with the lines and the steps. The work words are its own.
+pub record Told : Type 0 where
+  pub refusal : ℕ
+  pub lines : ℕ
+  pub steps : ℕ
+
+abbrev pub told : Outcome → Told
+told o = record { refusal = o .refusal; lines = o .lines; steps = o .steps }
+
+abbrev pub toldBy : BookCount → Told
+toldBy r = told (outcome r [])
+
+-- "with 4,096 work words"
+unfoldable pub programAnswer : List ℕ → Told
+programAnswer w = told (programResult w (replicate 4096 0))
+
+-- the command for people, with 36 words for each of 1,024 macros
+unfoldable pub macroAnswer : List ℕ → List ℕ → ℕ → Told
+macroAnswer book pattern m = told (countResult (readBook book) (readPattern pattern) m (replicate 36864 0))
+
+unfoldable pub lastAnswer : List ℕ → List ℕ → Told
+lastAnswer book pattern = told (lastResult book pattern (replicate 36864 0))

@@ -1,15 +1,18 @@
 // What the program `cuecount` does with its input (document 01, "The program `cuecount`").
-use crate::last::count_last;
+use crate::last::last_in;
 use counter::BookCount;
 use refusal::Refusal;
 ghost use Prim.Native.Nat.{_≤_, _+_, min};
 ghost use mathlib.Core.Path.{_≡_};
 ghost use lib.ListN.{length};
 ghost use Rattle.counter.specs.Answers.{outcome};
-ghost use Rattle.command.specs.Input.{patternEnd, programResult};
+ghost use Rattle.command.specs.Input.{patternEnd, programAnswer, programResult, toldBy};
 
 // The most bytes that the program takes.
 const LONGEST: usize = 8192;
+
+// The bytes that the program reads: one more, so that longer input is seen to be longer.
+pub const READ: usize = LONGEST + 1;
 
 // Where the pattern ends: at the first LF, or behind all.
 fn pattern_end(input: &[u8]) -> usize
@@ -34,7 +37,7 @@ fn book_start(end: usize, len: usize) -> usize
 }
 
 // The count of the last macro of the book behind the pattern, or a refusal: 14 before all else.
-pub fn answer(input: &[u8], work: &mut [u64]) -> BookCount
+fn answer_in(input: &[u8], work: &mut [u64]) -> BookCount
     ensures { λ r. ⌜ outcome r (now (work .exit)) ≡ programResult (now (input .entry)) (now (work .entry)) ⌝ }
 {
     if input.len() > LONGEST {
@@ -42,5 +45,13 @@ pub fn answer(input: &[u8], work: &mut [u64]) -> BookCount
     }
     let end = pattern_end(input);
     let start = book_start(end, input.len());
-    count_last(&input[start..], &input[..end], work)
+    last_in(&input[start..], &input[..end], work)
+}
+
+// What the program answers, with its 4,096 work words.
+pub fn answer(input: &[u8]) -> BookCount
+    ensures { λ r. ⌜ toldBy r ≡ programAnswer (now (input .entry)) ⌝ }
+{
+    let mut work = [0; 4096];
+    answer_in(input, &mut work)
 }

@@ -19,7 +19,7 @@ fn last_macro(book: &[u8]) -> usize
 }
 
 // How many lines of the last macro's run match the pattern, and the steps.
-pub fn count_last(book: &[u8], pattern: &[u8], work: &mut [u64]) -> BookCount
+pub(crate) fn last_in(book: &[u8], pattern: &[u8], work: &mut [u64]) -> BookCount
     ensures { λ r. ⌜ outcome r (now (work .exit)) ≡ lastResult (now (book .entry)) (now (pattern .entry)) (now (work .entry)) ⌝ }
 {
     count_book(book, pattern, last_macro(book), work)

@@ -2,8 +2,12 @@
 mod asked;
 mod input;
 mod last;
+mod people;
 
 pub use asked::Asked;
 pub use asked::macro_asked;
+pub use input::READ;
 pub use input::answer;
-pub use last::count_last;
+pub use people::LONGEST;
+pub use people::count_last;
+pub use people::count_macro;

@@ -6,10 +6,11 @@ mod say;
 
 use book_file::read_book;
 use command::Asked;
+use command::LONGEST;
 use command::count_last;
+use command::count_macro;
 use command::macro_asked;
 use counter::BookCount;
-use counter::count_book;
 use libc::ENAMETOOLONG;
 use output::print_count;
 
@@ -22,8 +23,7 @@ fn show(c: BookCount) {
     }
 }
 
-// Counts the macro that the third argument names. The work words are 1,024 reports of 36, enough for every book and pattern
-// (`space-enough`).
+// Counts the macro that the third argument names.
 fn count_named(book: &[u8], pattern: &[u8]) {
     let mut digits = io::buffer();
     let n = os::arg(3, &mut digits);
@@ -35,10 +35,7 @@ fn count_named(book: &[u8], pattern: &[u8]) {
         Asked::Malformed => {
             say::text(b"the macro number must be decimal digits, as 0 or 17\n");
         }
-        Asked::Macro(m) => {
-            let mut work = [0; 36864];
-            show(count_book(book, pattern, m, &mut work));
-        }
+        Asked::Macro(m) => show(count_macro(book, pattern, m)),
     }
 }
 
@@ -48,8 +45,7 @@ fn count(book: &[u8], pattern: &[u8]) {
         count_named(book, pattern);
         return;
     }
-    let mut work = [0; 36864];
-    show(count_last(book, pattern, &mut work));
+    show(count_last(book, pattern));
 }
 
 // Reads the book that the second argument names, and counts.
@@ -61,13 +57,13 @@ fn count_in_file(pattern: &[u8]) {
         return;
     }
     // One byte more than the longest sound book, so that a longer file is seen to be longer.
-    let mut space = [0; 133128];
+    let mut space = [0; LONGEST + 1];
     let read = read_book(&path[..n], &mut space);
     let bytes = read.bytes;
     if read.failed {
         return;
     }
-    if bytes > 133127 {
+    if bytes > LONGEST {
         say::text(
             b"the book file is longer than any sound book (133,127 bytes); is it the right file?\n",
         );

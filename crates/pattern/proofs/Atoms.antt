@@ -40,7 +40,7 @@ module _ (l : List ℕ) (b i : ℕ) (t : Bool) (inv : member b (drop i l) ≡ t)
   search-end e = rw (← e, drop-length) at inv
 
 -- the state of atom k as a set: one that is stored
-pub atom-low : (k : ℕ) → k < 29 → 2 ^ (k + 3) % 2 ^ 64 ≡ atomWord (eqb k)
+atom-low : (k : ℕ) → k < 29 → 2 ^ (k + 3) % 2 ^ 64 ≡ atomWord (eqb k)
 atom-low k h =
     let small : k + 3 < 64 = omega arith in
     let inside : k + 3 < 32 = omega arith in
@@ -59,6 +59,11 @@ atom-low k h =
     same : (p : ℕ) (t : Bool) → leb 3 p ≡ t → eqb (k + 3) p ≡ (leb 3 p && eqb k (p - 3))
     same p true e = let low : 3 ≤ p = leb-true 3 p e in rw e (go p low (eqb k (p - 3)) refl)
     same p false e = let low : p < 3 = leb-false 3 p e in rw e (ne-eqb (k + 3) p (λ q. apart p low q))
+
+pub atom-state : {w q k : ℕ} → w ≡ 2 ^ q % 2 ^ 64 → q ≡ 3 + k → k < 29 → w ≡ atomWord (eqb k)
+atom-state {w} {q} {k} e f h =
+    let same : q ≡ k + 3 = omega (arith, f) in
+    e ∙ rw same (atom-low k h)
 
 -- and one that is not
 pub atom-high : (k : ℕ) → 29 ≤ k → 0 ≡ atomWord (eqb k)

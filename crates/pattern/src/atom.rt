@@ -7,6 +7,7 @@ use crate::peek::peek;
 use crate::set::store_dot;
 use crate::set::store_key;
 use crate::shape::Shape;
+use crate::state::State;
 use stateset::only;
 ghost use mathlib.Core.Path.{_≡_};
 ghost use Prim.Native.Nat.{_+_, _≤_};
@@ -39,7 +40,11 @@ fn is_mark(b: u8) -> bool
 fn atom_bit(k: usize) -> u64
     ensures { λ r. ⌜ r ≡ atomWord (eqb k) ⌝ }
 {
-    if k < 29 { only(k as u32 + 3) } else { 0 }
+    if k < 29 {
+        let state = State::atom(k as u8);
+        return only(state.0 as u32);
+    }
+    0
 }
 
 // The cursor behind an atom that ends at `next`.

@@ -2,6 +2,7 @@
 use crate::branch_list::PatternRead;
 use crate::cursor::Cursor;
 use crate::peek::clean;
+use crate::state::State;
 use crate::summary::Summary;
 use refusal::Refusal;
 ghost use mathlib.Core.Path.{_≡_};
@@ -9,6 +10,11 @@ ghost use lib.ListN.{length};
 ghost use Rattle.pattern.specs.Reader.{counted, readBranches, readPattern};
 ghost use Rattle.pattern.specs.Cycle.{Ready};
 ghost use Rattle.pattern.specs.Automata.{ReadAs, acceptingOf, verdictFigures};
+
+// The places of the two states in a table of states.
+const LINE_START: usize = State::LINE_START.0 as usize;
+
+const MID_LINE: usize = State::MID_LINE.0 as usize;
 
 // What the moves into found and a line's end need. A word is a set of states; atom k's is 3 + k.
 pub struct Accepting {
@@ -64,8 +70,8 @@ fn read_clean(s: &[u8], keys: &mut [u64; 256], enter: &mut [u64; 32]) -> Verdict
     if atoms > 29 {
         return Verdict::Refused(Refusal::TooManyAtoms);
     }
-    entered[0] = sum.first;
-    entered[1] = sum.free;
+    entered[LINE_START] = sum.first;
+    entered[MID_LINE] = sum.free;
     *keys = keyed;
     *enter = entered;
     Verdict::Accepted(summed(sum, atoms))
