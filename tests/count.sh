@@ -105,12 +105,13 @@ expect 2 '' 'usage: *' ./count B "$small" 1 1
 expect 2 '' '*No such file or directory*' ./count B "$room/missing"
 expect 2 '' '*Not a directory*' ./count B "$small/book"
 expect 2 '' '*Is a directory*' ./count B examples
-expect 2 '' '*' ./count B ''
+expect 2 '' '*No such file or directory*' ./count B ''
 expect 2 '' '*too long*' ./count B "$(printf 'x%.0s' {1..5000})"
 for number in '' x -1 +1 1x ' 1' 0x1 1.0; do
     expect 2 '' '*decimal digits*' ./count B "$small" "$number"
 done
 expect 2 '' '*macro number is too long*' ./count B "$small" "$(printf '0%.0s' {1..5000})"
+expect 2 '' '*write error*' bash -c './count B "$1" >/dev/full' - "$small"
 head -c 133127 /dev/zero >"$room/zeros"
 expect 1 'refused 1' '*begin with MBK*' ./count B "$room/zeros"
 head -c 133128 /dev/zero >"$room/longer"
