@@ -8,6 +8,6 @@ pub use asked::Asked;
 pub use asked::macro_asked;
 pub use input::READ;
 pub use input::answer;
-pub use people::LONGEST;
+pub use people::LONGEST_BOOK;
 pub use people::count_last;
 pub use people::count_macro;

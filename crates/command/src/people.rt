@@ -6,7 +6,7 @@ ghost use mathlib.Core.Path.{_≡_};
 ghost use Rattle.command.specs.Input.{lastAnswer, macroAnswer, toldBy};
 
 // The bytes of the longest sound book: 7, and 1,024 macros of 64 items, 130 each.
-pub const LONGEST: usize = 133127;
+pub const LONGEST_BOOK: usize = 133127;
 
 // How many lines of macro m's run match the pattern, and the steps. The work words are 1,024 reports of 36.
 pub fn count_macro(book: &[u8], pattern: &[u8], m: usize) -> BookCount

@@ -6,7 +6,7 @@ mod say;
 
 use book_file::read_book;
 use command::Asked;
-use command::LONGEST;
+use command::LONGEST_BOOK;
 use command::count_last;
 use command::count_macro;
 use command::macro_asked;
@@ -57,13 +57,13 @@ fn count_in_file(pattern: &[u8]) {
         return;
     }
     // One byte more than the longest sound book, so that a longer file is seen to be longer.
-    let mut space = [0; LONGEST + 1];
+    let mut space = [0; LONGEST_BOOK + 1];
     let read = read_book(&path[..n], &mut space);
     let bytes = read.bytes;
     if read.failed {
         return;
     }
-    if bytes > LONGEST {
+    if bytes > LONGEST_BOOK {
         say::text(
             b"the book file is longer than any sound book (133,127 bytes); is it the right file?\n",
         );

@@ -2,6 +2,7 @@
 use crate::moves::Closing;
 use crate::moves::LINE_START;
 use crate::moves::advance;
+use crate::report::MOST;
 use crate::report::Report;
 use stateset::chosen;
 use stateset::meets;
@@ -15,8 +16,6 @@ ghost use lib.ListN.{getD};
 ghost use Rattle.stateset.specs.Set.{bit, word, anyBelow};
 ghost use Rattle.counter.specs.Reports.{most};
 ghost use Rattle.counter.specs.Promises.{AdvancesRows, Ended, Extended};
-
-const MOST: u64 = 0xffff_ffff_ffff_ffff;
 
 // The states below n whose rows have an accepting state.
 fn accepting_rows(rows: &[u64; 32], n: usize, accepting: u64) -> u64

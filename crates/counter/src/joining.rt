@@ -1,5 +1,6 @@
 // Joining the reports of two runs (document 01, "Reports").
 use crate::report::Joined;
+use crate::report::MOST;
 use crate::report::Report;
 use refusal::Refusal;
 use refusal::code;
@@ -16,9 +17,6 @@ ghost use Rattle.stateset.specs.Set.{bit, word};
 ghost use Rattle.counter.specs.Reports.{common, rowsOf, joinedReports};
 ghost use Rattle.counter.specs.Answers.{joinResult};
 ghost use Rattle.counter.specs.Joins.{onwardBy, closedBy, closedOf, Adds, withLines, wholeJoin, openingJoin, endingJoin, acrossJoin};
-
-// The largest count.
-const MOST: u64 = 0xffff_ffff_ffff_ffff;
 
 // The closed lines of a run with a line end, and the flag that goes with them.
 struct Closed {

@@ -1,5 +1,8 @@
 // Reports of runs.
 
+// The largest count.
+pub(crate) const MOST: u64 = 0xffff_ffff_ffff_ffff;
+
 // What a run does to the states of a pattern (document 01, "Reports").
 pub struct Report {
     // How many states there are.

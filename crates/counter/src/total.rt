@@ -1,6 +1,7 @@
 // The count of a run from its report.
 use crate::moves::Closing;
 use crate::moves::LINE_START;
+use crate::report::MOST;
 use crate::report::Report;
 use stateset::chosen;
 use stateset::meets;
@@ -35,7 +36,7 @@ pub(crate) fn total_of(r: Report, c: Closing) -> Total
         return Total::TooMany;
     }
     let ends = chosen(meets(r.heads, LINE_START), 1) + last_line(r.tail, c);
-    if u64::MAX - r.closed < ends {
+    if MOST - r.closed < ends {
         return Total::TooMany;
     }
     Total::Lines(r.closed + ends)
