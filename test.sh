@@ -44,13 +44,16 @@ second_agrees() {
     target/second answer <crates/cases/stdin | cmp - crates/cases/stdout
 }
 
+works() {
+    "$@" >/dev/null 2>&1
+}
+
 # Set-up. The second program needs rustc; Debian's is enough.
-command -v rt >/dev/null || PATH="/opt/rattle/bin:$PATH"
-command -v rustc >/dev/null || PATH="${HOME:-/root}/.cargo/bin:$PATH"
-command -v rustc >/dev/null || { apt-get update -q && apt-get install -y -q rustc; } >/dev/null 2>&1
-for tool in rt rustc; do
-    command -v "$tool" >/dev/null || { echo "FAILED: $tool is not there"; failed=1; finish; }
-done
+works rt version || PATH="/opt/rattle/bin:$PATH"
+works rustc --version || PATH="${HOME:-/root}/.cargo/bin:$PATH"
+works rustc --version || { works apt-get update && works apt-get install -y rustc && PATH="/usr/bin:$PATH"; }
+works rt version || { echo "FAILED: rt, the command of the Rattle toolchain, is not there"; failed=1; finish; }
+works rustc --version || { echo "FAILED: rustc, which compiles the second program, is not there"; failed=1; finish; }
 
 counted rt ci
 [ "$failed" -eq 0 ] || finish
