@@ -1,3 +1,4 @@
+-- `automaton::read_clean`: the branches give the tree, or 8; more than 29 atoms give 9.
 use borrow.Author.Needs.{needs}
 use Rattle.pattern.proofs.Automata as laws
 use Rattle.pattern.proofs.automaton.read_clean.Statement.{statement}

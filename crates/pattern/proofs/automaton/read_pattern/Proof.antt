@@ -1,3 +1,4 @@
+-- `automaton::read_pattern`: 7 by the length, 8 by a byte 0 or 10, and else what `read_clean` answers.
 use borrow.Author.Needs.{needs}
 use Rattle.pattern.proofs.Scans as laws
 use Rattle.pattern.proofs.automaton.read_pattern.Statement.{statement}

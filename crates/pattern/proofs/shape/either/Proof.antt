@@ -1,3 +1,4 @@
+-- `shape::either`: what one of two can begin and end with.
 use borrow.Author.Needs.{needs}
 use Rattle.pattern.proofs.shape.either.Statement.{statement}
 use Rattle.pattern.proofs.shape.either.Tie as tie

@@ -1,3 +1,4 @@
+-- `shape::in_sequence`: what two can begin and end with, one after the other.
 use borrow.Author.Needs.{needs}
 use Rattle.pattern.proofs.shape.in_sequence.Statement.{statement}
 use Rattle.pattern.proofs.shape.in_sequence.Tie as tie

@@ -1,3 +1,4 @@
+-- `shape::link`: behind the atoms of one set those of another may be entered.
 use Prim.Native.Nat.{_-_}
 use native.Mathlib.Omega.{arith}
 use denote.Ref.{now}

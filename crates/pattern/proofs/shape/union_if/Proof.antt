@@ -1,3 +1,4 @@
+-- `shape::union_if`: a union where a test holds.
 use borrow.Author.Needs.{needs}
 use Rattle.pattern.proofs.shape.union_if.Statement.{statement}
 use Rattle.pattern.proofs.shape.union_if.Tie as tie
