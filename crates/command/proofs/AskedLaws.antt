@@ -1,12 +1,14 @@
 -- Laws of the macro number that a command names.
-use Prim.Native.Nat.{ℕ, _+_, _-_, _*_, _<_, _≤_, min}
+use Prim.Native.Nat.{ℕ, suc, _+_, _-_, _*_, _^_, _<_, _≤_, min}
+use native.Mathlib.Nat.{pow-succ', mul-assoc, mul-comm, zero-mul, zero-add, add-mul, add-assoc}
 use native.Mathlib.Omega.{arith}
 use native.Mathlib.Numerals.{add-one}
 use mathlib.Core.Path.{_≡_, refl, sym, ap, _∙_}
 use mathlib.Core.Bool.{Bool, true, false, not, cond, _&&_}
 use mathlib.Core.List.{List, [], _∷_}
+use mathlib.Core.Option.{Option, none, some}
 use lib.Dec.{leb, ltb}
-use lib.ListN.{length, getD, drop, drop-of-length-le}
+use lib.ListN.{length, getD, drop, replicate, drop-of-length-le}
 use lib.Seq.{drop-cons}
 use borrow.Author.Tests.{leb-true, leb-false, le-leb, lt-leb, le-ltb, not-true, not-false}
 use Rattle.stateset.proofs.Some.{clash}
@@ -14,9 +16,10 @@ use Rattle.book.specs.Format.{Macro}
 use Rattle.book.specs.Reading.{Reading, got, refused, readBook}
 use Rattle.book.proofs.Offsets.{whole}
 use Rattle.pattern.specs.Reader as reader
-use Rattle.counter.specs.Counting.{countResult}
+use Rattle.counter.specs.Counting.{Outcome, countResult}
 use Rattle.command.specs.declared.asked.Asked.{Asked}
-use Rattle.command.specs.Asked.{isDigit, allDigits, numberFrom, isNumber, askedResult}
+use Rattle.command.specs.Input.{Told, told, macroAnswer}
+use Rattle.command.specs.Asked.{isDigit, allDigits, isNumber, decimal, namedAnswer, askedResult}
 
 never : {A : Type 0} → false ≡ true → A
 never e = clash (ap (λ (b : Bool). cond b 1 0) e)
@@ -47,6 +50,20 @@ digit-most {c} {b} e t = go (leb 48 c) (leb c 57) refl (sym e ∙ not-false b t)
     go true false l h = never h
     go false y l h = never h
 
+-- the number that digits write behind others that write v, as it is made digit by digit
+unfoldable pub numberFrom : ℕ → List ℕ → ℕ
+numberFrom v [] = v
+numberFrom v (c ∷ w) = numberFrom (10 * v + (c - 48)) w
+
+number-from : (v : ℕ) (w : List ℕ) → numberFrom v w ≡ v * 10 ^ length w + decimal w
+unfolding numberFrom decimal
+number-from v [] = omega arith
+number-from v (c ∷ w) =
+    let d = c - 48 in
+    let p = 10 ^ length w in
+    let shifted : v * 10 ^ suc (length w) ≡ 10 * v * p = rw (pow-succ' 10 (length w)) (sym (mul-assoc v 10 p) ∙ ap (λ (x : ℕ). x * p) (mul-comm v 10)) in
+    number-from (10 * v + d) w ∙ ap (λ (x : ℕ). x + decimal w) (add-mul (10 * v) d p) ∙ add-assoc (10 * v * p) (d * p) (decimal w) ∙ ap (λ (x : ℕ). x + (d * p + decimal w)) (sym shifted)
+
 -- The number never falls, so one that has reached 1,024 stays there or above.
 number-grows : (v : ℕ) (w : List ℕ) → v ≤ numberFrom v w
 unfolding numberFrom
@@ -66,10 +83,10 @@ pub record Written (w : List ℕ) (at n : ℕ) : Type 0 where
   pub small : n ≤ 1024
   pub inside : at ≤ length w
   pub digits : allDigits w ≡ allDigits (drop at w)
-  pub number : min (numberFrom 0 w) 1024 ≡ min (numberFrom n (drop at w)) 1024
+  pub number : min (decimal w) 1024 ≡ min (numberFrom n (drop at w)) 1024
 
 pub written-none : (w : List ℕ) → (length w ≡ 0 → ⊥) → Written w 0 0
-written-none w h = record { some = omega (arith, h); small = omega arith; inside = omega arith; digits = refl; number = refl }
+written-none w h = record { some = omega (arith, h); small = omega arith; inside = omega arith; digits = refl; number = ap (λ (x : ℕ). min x 1024) (sym (number-from 0 w ∙ simp (zero-mul, zero-add) refl)) }
 
 pub nothing-asked : (w : List ℕ) → length w ≡ 0 → Asked.Malformed ≡ askedResult w
 unfolding askedResult
@@ -105,7 +122,7 @@ module _ {w : List ℕ} {at n : ℕ} (x : Written w at n) where
   unfolding allDigits numberFrom askedResult
   written-all h =
       let all : allDigits w ≡ true = x .digits ∙ ap allDigits (drop-of-length-le w h) in
-      let value : min (numberFrom 0 w) 1024 ≡ n = x .number ∙ ap (λ (v : List ℕ). min (numberFrom n v) 1024) (drop-of-length-le w h) ∙ omega (arith, x .small) in
+      let value : min (decimal w) 1024 ≡ n = x .number ∙ ap (λ (v : List ℕ). min (numberFrom n v) 1024) (drop-of-length-le w h) ∙ omega (arith, x .small) in
       rw (is-number w (x .some), all, value) refl
 
 -- A number from 1,024 on is refused like 1,024: no book has such a macro.
@@ -123,3 +140,31 @@ asked-alike b p n work = go (leb n 1024) refl
     go : (x : Bool) → leb n 1024 ≡ x → countResult (readBook b) p (min n 1024) work ≡ countResult (readBook b) p n work
     go true l = let h = leb-true n 1024 l in let same : min n 1024 ≡ n = omega arith in rw same refl
     go false l = let h = leb-false n 1024 l in beyond (omega arith) (readBook b) refl p
+
+-- What is told of the macro that a text names.
+macroOf : Asked → ℕ
+macroOf (Asked.Macro n) = n
+macroOf Asked.Malformed = 0
+
+hasMacro : Asked → ℕ
+hasMacro (Asked.Macro n) = 0
+hasMacro Asked.Malformed = 1
+
+module _ (book pattern text : List ℕ) {a : Asked} (e : a ≡ askedResult text) where
+  pub named-told : {t : Told} {m : ℕ} → a ≡ Asked.Macro m → t ≡ macroAnswer book pattern m → some t ≡ namedAnswer book pattern text
+  unfolding askedResult namedAnswer macroAnswer macroOf hasMacro
+  named-told {t} {m} f g = go (isNumber text) (sym f ∙ e)
+    where
+      go : (b : Bool) → Asked.Macro m ≡ cond b (Asked.Macro (min (decimal text) 1024)) Asked.Malformed → some t ≡ cond b (some (macroAnswer book pattern (decimal text))) none
+      go true h =
+          let number : m ≡ min (decimal text) 1024 = ap macroOf h in
+          ap some (g ∙ ap (λ (n : ℕ). macroAnswer book pattern n) number ∙ ap (λ (o : Outcome). told o) (asked-alike book (reader.readPattern pattern) (decimal text) (replicate 36864 0)))
+      go false h = clash (ap hasMacro h)
+
+  pub named-none : a ≡ Asked.Malformed → none ≡ namedAnswer book pattern text
+  unfolding askedResult namedAnswer hasMacro
+  named-none f = go (isNumber text) (sym f ∙ e)
+    where
+      go : (b : Bool) → Asked.Malformed ≡ cond b (Asked.Macro (min (decimal text) 1024)) Asked.Malformed → none ≡ cond b (some (macroAnswer book pattern (decimal text))) none
+      go true h = clash (sym (ap hasMacro h))
+      go false h = refl

@@ -46,7 +46,7 @@ readFigures (refused r) = refusedFor r
 
 -- The work words of a count here: enough for every row.
 abbrev work : List ℕ
-work = 0 ∷ 0 ∷ 0 ∷ 0 ∷ 0 ∷ 0 ∷ 0 ∷ 0 ∷ 0 ∷ 0 ∷ 0 ∷ 0 ∷ 0 ∷ 0 ∷ 0 ∷ 0 ∷ 0 ∷ 0 ∷ []
+work = replicate 18 0
 
 -- What is answered, by the definitions that the contracts cite.
 pub answerTo : Question → Figures ℕ
@@ -112,5 +112,5 @@ allHold (r ∷ rs) = holds r && allHold rs
 
 -- every row is as document 01 says
 pub paper-runs : allHold table ≡ true
-unfolding table allHold answerTo classNames member atoms atomCount sameBytes findClass readElement readElements readBracket readAtom readRepeat readExpr readBranch readBranches readPattern classRanges inRanges inElement inElements named setOf repeated takes matchesFrom matches lines countIn matching readItem readItems readMacro readMacros readHeader readAll readBook expand expandTo expansion lineResult runResult countResult firstPart laterParts lastPart sumBelow pairs itemSteps steps anyBelow countBelow nothing first last follow someBranch positions.holds enters target move leads patternEnd lastResult programResult programAnswer replicate xor
+unfolding table allHold answerTo classNames member atoms atomCount sameBytes findClass readElement readElements readBracket readAtom readRepeat readExpr readBranch readBranches readPattern classRanges inRanges inElement inElements named setOf repeated takes matchesFrom matches lines countIn matching readItem readItems readMacro readMacros readHeader readAll readBook expand expandTo expansion lineResult runResult countResult firstPart laterParts lastPart sumBelow pairs itemSteps steps anyBelow countBelow nothing first last follow someBranch positions.holds enters target move leads patternEnd lastResult programResult programAnswer xor
 paper-runs = refl

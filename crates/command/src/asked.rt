@@ -4,7 +4,7 @@ ghost use Prim.Native.Nat.{_≤_, _+_, _*_, _-_, min};
 ghost use Rattle.command.specs.Asked.{askedResult, isDigit};
 
 // A macro's number; or the text is no number.
-pub enum Asked {
+pub(crate) enum Asked {
     Macro(usize),
     Malformed,
 }
@@ -33,7 +33,7 @@ fn with_digit(n: usize, c: u8) -> usize
 }
 
 // The macro that a text of decimal digits names.
-pub fn macro_asked(text: &[u8]) -> Asked
+pub(crate) fn macro_asked(text: &[u8]) -> Asked
     ensures { λ r. ⌜ r ≡ askedResult (now (text .entry)) ⌝ }
 {
     if text.len() == 0 {

@@ -5,11 +5,10 @@ mod meaning;
 mod say;
 
 use book_file::read_book;
-use command::Asked;
 use command::LONGEST_BOOK;
+use command::NamedCount;
 use command::count_last;
-use command::count_macro;
-use command::macro_asked;
+use command::count_named;
 use counter::BookCount;
 use libc::ENAMETOOLONG;
 use output::print_count;
@@ -24,25 +23,25 @@ fn show(c: BookCount) {
 }
 
 // Counts the macro that the third argument names.
-fn count_named(book: &[u8], pattern: &[u8]) {
+fn show_named(book: &[u8], pattern: &[u8]) {
     let mut digits = io::buffer();
     let n = os::arg(3, &mut digits);
     if os::errno() != 0 {
         say::text(b"the macro number is too long\n");
         return;
     }
-    match macro_asked(&digits[..n]) {
-        Asked::Malformed => {
+    match count_named(book, pattern, &digits[..n]) {
+        NamedCount::Count(c) => show(c),
+        NamedCount::NoNumber => {
             say::text(b"the macro number must be decimal digits, as 0 or 17\n");
         }
-        Asked::Macro(m) => show(count_macro(book, pattern, m)),
     }
 }
 
 // Counts the macro that the arguments name, or the last one if they name none.
 fn count(book: &[u8], pattern: &[u8]) {
     if os::arg_count() == 4 {
-        count_named(book, pattern);
+        show_named(book, pattern);
         return;
     }
     show(count_last(book, pattern));

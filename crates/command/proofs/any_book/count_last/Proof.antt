@@ -1,8 +1,8 @@
--- `people::count_last`: what `last_in` tells with 36,864 words.
+-- `any_book::count_last`: what `last_in` tells with 36,864 words.
 use borrow.Author.Needs.{needs}
 use Rattle.command.proofs.InputLaws.{last-told}
-use Rattle.command.proofs.people.count_last.Statement.{statement}
-use Rattle.command.proofs.people.count_last.Tie as tie
+use Rattle.command.proofs.any_book.count_last.Statement.{statement}
+use Rattle.command.proofs.any_book.count_last.Tie as tie
 
 slice-aggregate-last-in : tie.Need-slice-aggregate-last-in
 slice-aggregate-last-in c = search needs
