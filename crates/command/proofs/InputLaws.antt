@@ -17,7 +17,7 @@ use Rattle.book.specs.Reading.{Reading, got, refused, readBook}
 use Rattle.book.specs.Answer.{checkedFigures, checkResult}
 use Rattle.book.specs.declared.layout.Checked.{Checked}
 use Rattle.book.proofs.Offsets.{whole}
-use Rattle.counter.specs.Lines.{lineEnd}
+use Rattle.lines.specs.Lines.{lineEnd}
 use Rattle.counter.specs.Counting.{Outcome, stopped, countResult}
 use Rattle.counter.specs.Answers.{outcome}
 use Rattle.counter.specs.declared.counting.BookCount.{BookCount}

@@ -9,17 +9,19 @@ use Rattle.refusal.specs.Figures.{Figures, answered, refusedFor}
 use Rattle.stateset.specs.Set.{anyBelow, countBelow}
 use Rattle.book.specs.Reading.{readItem, readItems, readMacro, readMacros, readHeader, readAll, readBook}
 use Rattle.book.specs.Expansion.{expand, expandTo, expansion}
-use Rattle.pattern.specs.Form.{classNames, member, atoms, atomCount}
-use Rattle.pattern.specs.Sets.{classRanges, inRanges, inElement, inElements, named, setOf}
+use Rattle.brackets.specs.Form.{classNames, member, atoms, atomCount}
+use Rattle.brackets.specs.Sets.{classRanges, inRanges, inElement, inElements, named, setOf}
 use Rattle.pattern.specs.Meaning.{repeated, takes, matchesFrom, matches}
 use Rattle.pattern.specs.States.{nothing, first, last, follow, someBranch}
 use Rattle.pattern.specs.States as positions
 use Rattle.pattern.specs.Moves.{enters, target, move, leads}
-use Rattle.pattern.specs.Reader.{Read, accepted, refused, sameBytes, findClass, readElement, readElements, readBracket, readAtom, readRepeat, readExpr, readBranch, readBranches, readPattern}
-use Rattle.counter.specs.Lines.{lines, countIn, matching}
-use Rattle.counter.specs.Reports.{firstPart, laterParts, lastPart}
-use Rattle.counter.specs.Counting.{Outcome, sumBelow, pairs, itemSteps, steps, countResult}
-use Rattle.counter.specs.Answers.{lineResult, runResult}
+use Rattle.pattern.specs.Reader.{Read, accepted, refused, readAtom, readRepeat, readExpr, readBranch, readBranches, readPattern}
+use Rattle.brackets.specs.Brackets.{sameBytes, findClass, readElement, readElements, readBracket}
+use Rattle.lines.specs.Lines.{lines, countIn, matching}
+use Rattle.reports.specs.Reports.{firstPart, laterParts, lastPart}
+use Rattle.counter.specs.Counting.{Outcome, itemSteps, steps, countResult}
+use Rattle.reports.specs.Words.{sumBelow, pairs}
+use Rattle.lines.specs.Answers.{lineResult, runResult}
 use Rattle.command.specs.Input.{patternEnd, lastResult, programResult, programAnswer}
 
 -- What is asked. A pattern, a line, a run and a book are their bytes.

@@ -11,7 +11,7 @@ use borrow.Author.Tests.{leb-true}
 use Rattle.book.specs.Format.{Macro, Sound, encode, encodeItems, encodeMacros, soundItems, soundMacro, soundMacros, wellFormed}
 use Rattle.book.specs.Reading.{got, readBook}
 use Rattle.book.proofs.Offsets.{whole}
-use Rattle.pattern.specs.Form.{Pattern}
+use Rattle.brackets.specs.Form.{Pattern}
 use Rattle.pattern.specs.Moves.{states}
 use Rattle.pattern.specs.Reader.{accepted, readPattern}
 use Rattle.pattern.proofs.Readings.{accepted-few}

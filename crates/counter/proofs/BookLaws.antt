@@ -20,7 +20,7 @@ use Rattle.book.specs.Answer.{layoutFor}
 use Rattle.book.specs.declared.layout.Checked.{Checked}
 use Rattle.book.specs.declared.layout.Layout.{Layout}
 use Rattle.book.proofs.Expansion.{expansion-nonempty}
-use Rattle.pattern.specs.Form.{Pattern, atomCount}
+use Rattle.brackets.specs.Form.{Pattern, atomCount}
 use Rattle.pattern.specs.Moves.{states}
 use Rattle.pattern.specs.Reader as Pattern
 use Rattle.pattern.specs.Automata.{ReadAs, verdictFigures, accepts}
@@ -28,14 +28,15 @@ use Rattle.pattern.specs.declared.automaton.Accepting.{Accepting}
 use Rattle.pattern.specs.declared.automaton.Verdict.{Verdict}
 use Rattle.pattern.proofs.Readings.{read-accepted, read-refused}
 use Rattle.counter.specs.declared.counting.BookCount.{BookCount}
-use Rattle.counter.specs.declared.moves.Closing.{Closing}
-use Rattle.counter.specs.declared.report.Report.{Report}
-use Rattle.counter.specs.declared.total.Total.{Total}
-use Rattle.counter.specs.Lines.{matching}
-use Rattle.counter.specs.Reports.{most}
+use Rattle.lines.specs.declared.moves.Closing.{Closing}
+use Rattle.reports.specs.declared.report.Report.{Report}
+use Rattle.reports.specs.declared.total.Total.{Total}
+use Rattle.lines.specs.Lines.{matching}
+use Rattle.reports.specs.Reports.{most}
 use Rattle.counter.specs.Counting.{finished, stopped, filled, steps, needed, countResult}
 use Rattle.counter.specs.Answers.{outcome}
-use Rattle.counter.specs.Promises.{Automaton, Closes, Totals, totalOf, isOpen, loaded}
+use Rattle.lines.specs.Promises.{Automaton, Closes, isOpen}
+use Rattle.reports.specs.Promises.{Totals, totalOf, loaded}
 use Rattle.counter.specs.Items.{MacroFits, Filled, BookCounted, InBook, PatternCounted}
 use Rattle.counter.proofs.FillLaws.{well-in, expansion-run, reports-at}
 

@@ -19,12 +19,13 @@ use Rattle.book.specs.Reach.{Reaches, Alike}
 use Rattle.book.specs.Reading.{Reading, got, refused, readBook}
 use Rattle.book.proofs.Coding.{encode-read}
 use Rattle.book.proofs.Reach.{expansion-alike}
-use Rattle.pattern.specs.Form.{Pattern}
+use Rattle.brackets.specs.Form.{Pattern}
 use Rattle.pattern.specs.Moves.{states, leads}
 use Rattle.pattern.specs.Reader as reader
-use Rattle.counter.specs.Lines.{matching}
-use Rattle.counter.specs.Reports.{laterParts, lastPart, most}
-use Rattle.counter.specs.Counting.{sumBelow, pairsWith, pairs, itemSteps, stepsWithin, steps, itemsTo, Outcome, finished, stopped, filled, needed, countOf, countResult}
+use Rattle.lines.specs.Lines.{matching}
+use Rattle.reports.specs.Reports.{laterParts, lastPart, most}
+use Rattle.reports.specs.Words.{sumBelow, pairsWith, pairs}
+use Rattle.counter.specs.Counting.{itemSteps, stepsWithin, steps, itemsTo, Outcome, finished, stopped, filled, needed, countOf, countResult}
 
 -- a sound book, an accepted pattern, a macro of the book, and work space enough
 pub record Asked (b p work : List ℕ) (ms : List Macro) (t : Pattern) (m : ℕ) : Type 0 where

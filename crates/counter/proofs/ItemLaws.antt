@@ -1,16 +1,13 @@
 -- Laws of the report of a macro's items, one after another.
-use Prim.Native.Nat.{ℕ, zero, suc, _+_, _*_, _%_, _^_, _<_, _≤_}
+use Prim.Native.Nat.{ℕ, suc, _+_, _*_, _≤_}
 use native.Mathlib.Omega.{arith}
 use mathlib.Core.Path.{_≡_, refl, sym, ap, _∙_}
-use mathlib.Core.Bool.{Bool, true, false, cond, _&&_}
+use mathlib.Core.Bool.{true, _&&_}
 use mathlib.Core.List.{List, [], _∷_, _++_, append-assoc, append-nil, List·Memᴰ, List·Memᴰ·head, Memᴰ·append-right}
-use lib.Dec.{leb, eqb}
-use lib.ListN.{length, getD, take, drop, length-append, length-drop}
+use lib.Dec.{leb}
+use lib.ListN.{length, take, drop, length-append, length-drop}
 use lib.Seq.{take-append-le, take-append-seam}
-use Rattle.stateset.specs.Set.{bit, word, countBelow}
-use Rattle.stateset.proofs.Sets.{word-one}
-use Rattle.stateset.proofs.Counts.{count-le, count-word}
-use Rattle.stateset.proofs.Some.{and-both, and-fst, and-snd}
+use Rattle.stateset.proofs.Some.{and-both}
 use Rattle.book.specs.declared.item.Item.{Item}
 use Rattle.book.specs.declared.item.Item.the-variants.{Key, Call}
 use Rattle.book.specs.declared.item.ItemRead.{ItemRead}
@@ -18,78 +15,21 @@ use Rattle.book.specs.declared.item.ItemRead.the-variants.{Found, Short}
 use Rattle.book.specs.Expansion.{keysOf, expand}
 use Rattle.book.specs.Reading.{itemAt, itemsOf}
 use Rattle.book.proofs.Items.{found-long, items-on-found, items-on-short, items-end}
-use Rattle.pattern.specs.Form.{Pattern, atomCount}
-use Rattle.pattern.specs.Meaning.{matches}
-use Rattle.pattern.specs.Moves.{states, leads}
-use Rattle.counter.specs.declared.moves.Closing.{Closing}
-use Rattle.counter.specs.declared.report.Report.{Report}
-use Rattle.counter.specs.Lines.{isRun, countIn}
-use Rattle.counter.specs.Reports.{laterParts, lastPart, partsBefore, rowsOf, reportWith, report, joinedWith, joinedReports}
-use Rattle.counter.specs.Counting.{sumBelow, pairsWith, pairs, itemSteps}
-use Rattle.counter.specs.Promises.{Automaton, Extended, loaded, pairsIn}
-use Rattle.counter.specs.Items.{emptyReport, CallFits, CallsFit, Served, AfterItem, ItemsCounted}
-use Rattle.counter.proofs.JoinLaw.{row-of, flag-set, join-reports}
-use Rattle.counter.proofs.Joins.{shifted}
-use Rattle.counter.proofs.WordLaws.{sizes-le, sum-more}
-
--- the empty run
-pub empty-is : (t : Pattern) → emptyReport (states t) ≡ report t []
-unfolding report laterParts leads
-empty-is t = refl
-
--- its rows: each state is reached from itself
-pub own-row : (s q : ℕ) → q < s → s ≤ 32 → 1 * 2 ^ q % 2 ^ 64 ≡ word s (λ p. eqb q p)
-own-row s q h l = shifted q (omega arith) ∙ word-one s q h
-
--- the number of states of a report
-pub report-size : (t : Pattern) (w : List ℕ) → report t w .s ≡ states t
-unfolding report
-report-size t w = go (laterParts w)
-  where
-    go : (ls : List (List ℕ)) → reportWith t w ls .s ≡ states t
-    go [] = refl
-    go (l ∷ ls) = refl
-
-joined-size : (a b : Report) → joinedReports a b .s ≡ a .s
-unfolding joinedReports
-joined-size a b = go (eqb (a .flag) 0) (eqb (b .flag) 0)
-  where
-    go : (x y : Bool) → joinedWith (a .s) x y a b .s ≡ a .s
-    go true true = refl
-    go true false = refl
-    go false true = refl
-    go false false = refl
-
--- Pairs.
-pub sum-ext : (n : ℕ) (f g : ℕ → ℕ) → ((k : ℕ) → k < n → f k ≡ g k) → sumBelow n f ≡ sumBelow n g
-unfolding sumBelow
-sum-ext zero f g e = refl
-sum-ext (suc n) f g e = rw (sum-ext n f g (λ k h. e k (omega arith)), e n (omega arith)) refl
-
--- a report shows the pairs of its run
-pub pairs-of : (t : Pattern) → atomCount t ≤ 29 → (w : List ℕ) → pairsIn (report t w) ≡ pairs t w
-unfolding report pairs
-pairs-of t few w = go (laterParts w)
-  where
-    go : (ls : List (List ℕ)) → pairsIn (reportWith t w ls) ≡ pairsWith t w ls
-    go [] =
-        sum-ext (states t) (λ q. countBelow 64 (bit (getD (rowsOf (states t) (λ q p. leads t q w p)) q 0))) (λ q. countBelow (states t) (leads t q w))
-        (λ q h. ap (λ (x : ℕ). countBelow 64 (bit x)) (row-of (states t) (λ q p. leads t q w p) q h (omega arith)) ∙ count-word (states t) (leads t q w) (omega arith))
-    go (l ∷ ls) = rw (flag-set (countIn (matches t) (partsBefore l ls))) (count-word (states t) (leads t 0 (lastPart l ls)) (omega arith))
-
--- and no more than 32 × 64
-pub pairs-le : (r : Report) → r .s ≤ 32 → pairsIn r ≤ 2048
-pairs-le r h = go (eqb (r .flag) 0)
-  where
-    go : (b : Bool) → cond b (sumBelow (r .s) (λ q. countBelow 64 (bit (getD (r .rows) q 0)))) (countBelow 64 (bit (r .tail))) ≤ 2048
-    go true = omega (arith, sizes-le (r .rows) (r .s))
-    go false = omega (arith, count-le 64 (bit (r .tail)))
-
--- Runs.
-pub run-append : (u v : List ℕ) → isRun u ≡ true → isRun v ≡ true → isRun (u ++ v) ≡ true
-unfolding isRun
-run-append [] v g h = h
-run-append (c ∷ u) v g h = and-both (leb 1 c && leb c 255) (isRun (u ++ v)) (and-fst (leb 1 c && leb c 255) (isRun u) g) (run-append u v (and-snd (leb 1 c && leb c 255) (isRun u) g) h)
+use Rattle.brackets.specs.Form.{Pattern}
+use Rattle.pattern.specs.Moves.{states}
+use Rattle.lines.specs.declared.moves.Closing.{Closing}
+use Rattle.reports.specs.declared.report.Report.{Report}
+use Rattle.lines.specs.Lines.{isRun}
+use Rattle.reports.specs.Reports.{report, joinedReports}
+use Rattle.reports.specs.Words.{sumBelow, pairs}
+use Rattle.counter.specs.Counting.{itemSteps}
+use Rattle.lines.specs.Promises.{Automaton}
+use Rattle.reports.specs.Promises.{Extended, loaded, pairsIn}
+use Rattle.reports.specs.Empty.{emptyReport}
+use Rattle.counter.specs.Items.{CallFits, CallsFit, Served, AfterItem, ItemsCounted}
+use Rattle.reports.proofs.JoinLaw.{join-reports}
+use Rattle.reports.proofs.WordLaws.{sum-more}
+use Rattle.reports.proofs.ReportLaws.{empty-is, report-size, joined-size, sum-ext, pairs-of, pairs-le, run-append}
 
 pub expand-more : (called : ℕ → List ℕ) (is : List Item) (i : Item) → expand called (is ++ (i ∷ [])) ≡ expand called is ++ keysOf called i
 unfolding expand

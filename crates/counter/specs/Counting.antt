@@ -1,38 +1,23 @@
 -- Document 01, "States and steps", "Reports" and "Refused": the count over a book, its steps and its work words.
 use Prim.Native.Nat.{ℕ, zero, suc, _+_, _*_}
 use mathlib.Core.Bool.{cond}
-use mathlib.Core.List.{List, [], _∷_, _++_}
+use mathlib.Core.List.{List, [], _++_}
 use lib.Dec.{leb, ltb}
 use lib.ListN.{length, getD, take, drop}
 use Rattle.refusal.specs.declared.Refusal.{Refusal}
 use Rattle.refusal.specs.declared.Refusal.the-variants.{NoSuchMacro, InsufficientSpace, CountOverflow}
 use Rattle.refusal.specs.Number.{number}
-use Rattle.stateset.specs.Set.{countBelow}
 use Rattle.book.specs.Format.{Macro}
 use Rattle.book.specs.Expansion.{expand, expansion}
 use Rattle.book.specs.Reading.{Reading, got, refused}
-use Rattle.pattern.specs.Form.{Pattern}
-use Rattle.pattern.specs.Moves.{states, leads}
+use Rattle.brackets.specs.Form.{Pattern}
+use Rattle.pattern.specs.Moves.{states}
 use Rattle.pattern.specs.Reader as reader
-use Rattle.counter.specs.declared.report.Report.{Report}
-use Rattle.counter.specs.Lines.{matching}
-use Rattle.counter.specs.Reports.{laterParts, lastPart, most, report}
+use Rattle.lines.specs.Lines.{matching}
+use Rattle.reports.specs.Reports.{most, report}
+use Rattle.reports.specs.Words.{sumBelow, pairs, reportWords}
 
 -- Steps.
-
--- the sum of f over the numbers below n
-unfoldable pub sumBelow : ℕ → (ℕ → ℕ) → ℕ
-sumBelow zero f = 0
-sumBelow (suc n) f = sumBelow n f + f n
-
--- "the pairs of states (q, p) such that the items before it in that macro lead from q to p", where w is the run of those items:
--- "Before any LF in them q is every state; after one, q is line-start alone, moving since the last LF."
-abbrev pub pairsWith : Pattern → List ℕ → List (List ℕ) → ℕ
-pairsWith t w [] = sumBelow (states t) (λ q. countBelow (states t) (leads t q w))
-pairsWith t w (l ∷ ls) = countBelow (states t) (leads t 0 (lastPart l ls))
-
-unfoldable pub pairs : Pattern → List ℕ → ℕ
-pairs t w = pairsWith t w (laterParts w)
 
 -- "over each item, the pairs", where `called` gives the runs of called macros
 unfoldable pub itemSteps : Pattern → (ℕ → List ℕ) → Macro → ℕ
@@ -55,10 +40,6 @@ itemsTo ms m = sumBelow (suc m) (λ i. length (getD ms i []))
 -- "A count needs (m + 1) × (s + 4) words (64 bits) of work space."
 abbrev pub needed : Pattern → ℕ → ℕ
 needed t m = suc m * (states t + 4)
-
--- "rows, flag, heads, closed, tail"
-abbrev pub reportWords : Report → List ℕ
-reportWords r = take (r .s) (r .rows) ++ (r .flag ∷ r .heads ∷ r .closed ∷ r .tail ∷ [])
 
 -- the words of the reports of the first n macros
 unfoldable pub firstReports : Pattern → List Macro → ℕ → List ℕ

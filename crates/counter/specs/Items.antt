@@ -3,7 +3,6 @@ use Prim.Native.Nat.{ℕ, suc, _+_, _*_, _≤_}
 use mathlib.Core.Path.{_≡_}
 use mathlib.Core.Bool.{true}
 use mathlib.Core.List.{List, [], _++_, List·Memᴰ}
-use lib.Dec.{eqb}
 use lib.ListN.{length, drop}
 use Rattle.book.specs.declared.item.Item.{Item}
 use Rattle.book.specs.declared.item.Item.the-variants.{Key, Call}
@@ -12,23 +11,20 @@ use Rattle.book.specs.Steps.{Located}
 use Rattle.book.specs.Expansion.{keysOf, expand}
 use Rattle.book.specs.Reading.{itemsOf, got, readBook, macrosIn}
 use Rattle.book.specs.Answer.{layoutFor}
-use Rattle.pattern.specs.Form.{Pattern, atomCount}
+use Rattle.brackets.specs.Form.{Pattern, atomCount}
 use Rattle.pattern.specs.Automata.{keyTable, enterTable, accepts}
 use Rattle.pattern.specs.declared.automaton.Accepting.{Accepting}
 use Rattle.pattern.specs.Moves.{states}
 use Rattle.counter.specs.declared.counting.BookCount.{BookCount}
 use Rattle.counter.specs.declared.items.MacroCount.{MacroCount}
-use Rattle.counter.specs.declared.moves.Closing.{Closing}
-use Rattle.counter.specs.declared.report.Report.{Report}
-use Rattle.counter.specs.Lines.{isKey, isRun}
-use Rattle.counter.specs.Reports.{withoutEnd, report}
+use Rattle.lines.specs.declared.moves.Closing.{Closing}
+use Rattle.reports.specs.declared.report.Report.{Report}
+use Rattle.lines.specs.Lines.{isKey, isRun}
+use Rattle.reports.specs.Reports.{report}
 use Rattle.counter.specs.Counting.{itemSteps, steps, filled, countOf, countWith}
 use Rattle.counter.specs.Answers.{outcome}
-use Rattle.counter.specs.Promises.{Automaton, loaded}
-
--- the report of the empty run of a pattern with s states
-abbrev pub emptyReport : ℕ → Report
-emptyReport s = withoutEnd s (λ q p. eqb q p)
+use Rattle.lines.specs.Promises.{Automaton}
+use Rattle.reports.specs.Promises.{loaded}
 
 -- the words of a called macro's report are there
 abbrev pub CallRoom : ℕ → Item → List ℕ → Type 0

@@ -1,18 +1,18 @@
 // The count over a book.
 use crate::items::MacroCount;
 use crate::items::items_report;
-use crate::moves::Closing;
-use crate::moves::closing_of;
-use crate::total::Total;
-use crate::total::total_of;
-use crate::words::load;
-use crate::words::store;
 use book::Checked;
 use book::layout_of;
+use lines::Closing;
+use lines::closing_of;
 use pattern::Accepting;
 use pattern::Verdict;
 use pattern::read_pattern;
 use refusal::Refusal;
+use reports::Total;
+use reports::load;
+use reports::store;
+use reports::total_of;
 ghost use Prim.Native.Nat.{_≤_, _*_, _+_, suc};
 ghost use mathlib.Core.List.{[]};
 ghost use lib.ListN.{length, getD};

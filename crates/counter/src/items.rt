@@ -1,45 +1,25 @@
 // The report of a macro's items, one after another.
-use crate::extend::extended;
-use crate::joining::joined;
-use crate::moves::Closing;
-use crate::report::Report;
-use crate::words::load;
-use crate::words::pairs_in;
 use book::Item;
 use book::ItemRead;
 use book::read_item;
+use lines::Closing;
+use reports::Report;
+use reports::empty_report;
+use reports::extended;
+use reports::joined;
+use reports::load;
+use reports::pairs_in;
 ghost use Prim.Native.Nat.{_≤_};
 ghost use mathlib.Core.Path.{_≡_};
 ghost use lib.ListN.{length};
 ghost use Rattle.book.specs.Reading.{itemsOf};
-ghost use Rattle.counter.specs.Items.{AfterItem, CallFits, CallsFit, ItemsCounted, emptyReport};
+ghost use Rattle.counter.specs.Items.{AfterItem, CallFits, CallsFit, ItemsCounted};
+ghost use Rattle.reports.specs.Empty.{emptyReport};
 
 // What a macro's items come to.
 pub(crate) struct MacroCount {
     pub(crate) report: Report,
     pub(crate) steps: u64,
-}
-
-// The report of the empty run: each state is reached from itself.
-fn empty_report(s: u64) -> Report
-    requires { ⌜ s ≤ 32 ⌝ }
-    ensures { λ r. ⌜ r ≡ emptyReport s ⌝ }
-{
-    let n = s as usize;
-    let mut rows = [0; 32];
-    let mut q = 0;
-    while q < n {
-        rows[q] = 1 << q;
-        q += 1;
-    }
-    Report {
-        s: s,
-        rows: rows,
-        flag: 0,
-        heads: 0,
-        closed: 0,
-        tail: 0,
-    }
 }
 
 // One item more; a called macro's report stands in the work words.

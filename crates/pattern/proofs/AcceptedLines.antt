@@ -8,8 +8,8 @@ use mathlib.Core.List.{List, [], _∷_, _++_, append-nil}
 use lib.Dec.{eqb, eqb·suc-suc, eqb·suc-zero}
 use borrow.Author.Tests.{eqb-true, eq-eqb, not-true}
 use Rattle.stateset.proofs.Some.{torn, or-cases, or-left, or-right, and-both, and-fst, and-snd, tests-ext, Witness, any-some, any-witness}
-use Rattle.pattern.specs.Form.{Branch, Pattern, atomsIn, atomCount}
-use Rattle.pattern.specs.Sets.{lineKey, isLine}
+use Rattle.brackets.specs.Form.{Branch, Pattern, atomsIn, atomCount}
+use Rattle.brackets.specs.Sets.{lineKey, isLine}
 use Rattle.pattern.specs.Meaning.{MatchesBranch, Matches, matches}
 use Rattle.pattern.specs.States.{nothingIn, firstInBranch, firstInFree, endsFree, endsAnchored, follows, holdsKey, emptyFree}
 use Rattle.pattern.specs.Moves.{states, enters, into, intoEnd, jumps, target, move, accepting, leads, acceptedFrom}

@@ -9,9 +9,10 @@ use lib.Dec.{leb}
 use lib.ListN.{length}
 use borrow.Author.Tests.{leb-true, leb-false, le-leb, lt-leb}
 use Rattle.refusal.specs.declared.Refusal.the-variants.{PatternLength, PatternSyntax, TooManyAtoms}
-use Rattle.pattern.specs.Form.{Pattern, member, writePattern, formedPattern, atomCount}
-use Rattle.pattern.specs.Reader.{Parsed, parsed, fault, readBranches, accepted, refused, counted, readPattern}
-use Rattle.pattern.proofs.Parses.{clash, neither, Bytes, Clean, clean-of, clean-without}
+use Rattle.brackets.specs.Form.{Pattern, member, writePattern, formedPattern, atomCount}
+use Rattle.brackets.specs.Brackets.{Parsed, parsed, fault}
+use Rattle.pattern.specs.Reader.{readBranches, accepted, refused, counted, readPattern}
+use Rattle.brackets.proofs.Parses.{clash, neither, Bytes, Clean, clean-of, clean-without}
 use Rattle.pattern.proofs.Branches.{branches-from, pattern-back, pattern-clean}
 
 -- two trees of the form that are written the same are the same

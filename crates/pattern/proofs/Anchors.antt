@@ -14,8 +14,9 @@ use Rattle.pattern.specs.declared.branch.BranchRead.{BranchRead}
 use Rattle.pattern.specs.declared.cursor.Cursor.{Cursor}
 use Rattle.pattern.specs.declared.cursor.Part.{Part}
 use Rattle.pattern.specs.declared.shape.Shape.{Shape}
-use Rattle.pattern.specs.Form.{Expr, Branch, atomsIn}
-use Rattle.pattern.specs.Reader.{Parsed, parsed, fault, at, Mode, endsPieces, enough, anchored, readRest, readBranch}
+use Rattle.brackets.specs.Form.{Expr, Branch, atomsIn}
+use Rattle.brackets.specs.Brackets.{Parsed, parsed, fault, at}
+use Rattle.pattern.specs.Reader.{Mode, endsPieces, enough, anchored, readRest, readBranch}
 use Rattle.pattern.specs.Cycle.{Ready, Reads}
 use Rattle.pattern.specs.Branches.{shapeIn, keysIn, enterIn, EndDone, BranchDone}
 use Rattle.pattern.proofs.Atoms.{inside}

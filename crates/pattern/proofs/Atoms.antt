@@ -13,16 +13,17 @@ use lib.Seq.{drop-cons, drop-length, getD-drop, drop-drop}
 use lib.Pow.{pow-lt}
 use borrow.Author.Tests.{eq-eqb, ne-eqb, eqb-true, eqb-false, leb-true, leb-false}
 use Rattle.stateset.proofs.Sets.{word-one, word-ext, word-none}
-use Rattle.pattern.specs.declared.bracket.BracketRead.{BracketRead}
-use Rattle.pattern.proofs.Parses.{clash}
+use Rattle.brackets.specs.declared.bracket.BracketRead.{BracketRead}
+use Rattle.brackets.proofs.Parses.{clash}
 use Rattle.pattern.specs.declared.cursor.Cursor.{Cursor}
 use Rattle.pattern.specs.declared.cursor.Part.{Part}
-use Rattle.pattern.specs.Form.{member, marks, Atom, plain, dot, escaped}
-use Rattle.pattern.specs.Reader.{Parsed, parsed, fault, at, readAtom, readBracket}
-use Rattle.pattern.specs.Steps.{keysWith, BracketDone}
+use Rattle.brackets.specs.Form.{member, marks, Atom, plain, dot, escaped}
+use Rattle.brackets.specs.Brackets.{Parsed, parsed, fault, at, readBracket}
+use Rattle.pattern.specs.Reader.{readAtom}
+use Rattle.brackets.specs.Steps.{keysWith, BracketDone}
 use Rattle.pattern.specs.Cycle.{AtomDone}
 use Rattle.pattern.proofs.Tables.{keys-atom}
-use Rattle.pattern.specs.Sets.{setOf, named}
+use Rattle.brackets.specs.Sets.{setOf, named}
 use Rattle.pattern.specs.States.{nothing, first, last, atomState, atomWord}
 
 -- a search through a list: what is left has the byte exactly if the whole has it

@@ -9,9 +9,9 @@ use lib.Dec.{leb, eqb}
 use lib.ListN.{length, drop, length-append}
 use lib.Seq.{drop-at}
 use borrow.Author.Tests.{ltb-true, not-true}
-use Rattle.pattern.specs.Form.{Element, byte, range, class, bracket, className, member, patternByte, writeElement, writeElements, writeAtom, opening, endsOpen, formedElement, meets, formedElements, plainStart, formedAtom}
-use Rattle.pattern.specs.Reader.{parsed, at, findClass, startsRange, readElement, readElements, readBracket}
-use Rattle.pattern.proofs.Parses.{clash, both, Clean, clean-append, byte-is}
+use Rattle.brackets.specs.Form.{Element, byte, range, class, bracket, className, member, patternByte, writeElement, writeElements, writeAtom, opening, endsOpen, formedElement, meets, formedElements, plainStart, formedAtom}
+use Rattle.brackets.specs.Brackets.{parsed, at, findClass, startsRange, readElement, readElements, readBracket}
+use Rattle.brackets.proofs.Parses.{clash, both, Clean, clean-append, byte-is}
 use Rattle.pattern.proofs.BracketsFrom.{class-back, name-clean, opens, open-out, opening-front, elements-front, goes-on}
 
 -- the parts of a byte's form

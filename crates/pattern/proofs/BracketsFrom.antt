@@ -10,9 +10,9 @@ use mathlib.Core.Option.{Option, none, some}
 use lib.Dec.{leb, eqb}
 use lib.ListN.{length, take, drop, take-append-drop}
 use borrow.Author.Tests.{lt-ltb, eqb-true, leb-true, not-true}
-use Rattle.pattern.specs.Form.{Element, byte, range, class, Atom, bracket, classNames, className, member, writeElement, writeElements, writeAtom, opening, endsOpen, formedElement, formedElements, plainStart, formedAtom}
-use Rattle.pattern.specs.Reader.{Parsed, parsed, fault, next, done, at, sameBytes, isClass, findClass, startsRange, classFound, readClass, readRange, readByte, readElement, readElements, readBracket}
-use Rattle.pattern.proofs.Parses.{clash, torn, same-parsed, one-parsed, test-parsed, untest-parsed, made-parsed, more-parsed, both, front, Clean, clean-after, clean-drop, cleanBytes, clean-bytes, byte-is}
+use Rattle.brackets.specs.Form.{Element, byte, range, class, Atom, bracket, classNames, className, member, writeElement, writeElements, writeAtom, opening, endsOpen, formedElement, formedElements, plainStart, formedAtom}
+use Rattle.brackets.specs.Brackets.{Parsed, parsed, fault, next, done, at, sameBytes, isClass, findClass, startsRange, classFound, readClass, readRange, readByte, readElement, readElements, readBracket}
+use Rattle.brackets.proofs.Parses.{clash, torn, same-parsed, one-parsed, test-parsed, untest-parsed, made-parsed, more-parsed, both, front, Clean, clean-after, clean-drop, cleanBytes, clean-bytes, byte-is}
 
 -- Classes.
 

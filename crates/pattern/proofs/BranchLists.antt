@@ -17,12 +17,13 @@ use Rattle.pattern.specs.declared.branch_list.PatternRead.{PatternRead}
 use Rattle.pattern.specs.declared.cursor.Cursor.{Cursor}
 use Rattle.pattern.specs.declared.shape.Shape.{Shape}
 use Rattle.pattern.specs.declared.summary.Summary.{Summary}
-use Rattle.pattern.specs.Form.{Expr, Branch, Pattern, atomsIn, atomCount, writePieces, writeBranch, formedPieces, formedBranch}
-use Rattle.pattern.specs.Reader.{Parsed, parsed, fault, at, next, done, readBranch, readBranches}
+use Rattle.brackets.specs.Form.{Expr, Branch, Pattern, atomsIn, atomCount, writePieces, writeBranch, formedPieces, formedBranch}
+use Rattle.brackets.specs.Brackets.{Parsed, parsed, fault, at, next, done}
+use Rattle.pattern.specs.Reader.{readBranch, readBranches}
 use Rattle.pattern.specs.Cycle.{Ready}
 use Rattle.pattern.specs.Branches.{shapeIn, keysIn, enterIn, BranchDone}
 use Rattle.pattern.specs.Summaries.{branchSummary, summaryOf, through, PatternDone, ReadsBranches}
-use Rattle.pattern.proofs.Parses.{clash, clean-drop}
+use Rattle.brackets.proofs.Parses.{clash, clean-drop}
 use Rattle.pattern.proofs.Branches.{branch-from}
 use Rattle.pattern.proofs.Cycles.{atoms-some, atoms-written, peeked, past, nonzero}
 

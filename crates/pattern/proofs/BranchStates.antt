@@ -7,7 +7,7 @@ use mathlib.Core.List.{List, [], _∷_, _++_}
 use mathlib.Core.Option.{Option, none, some}
 use borrow.Author.Tests.{not-true}
 use Rattle.stateset.proofs.Some.{clash, torn, and-both, and-fst, and-snd}
-use Rattle.pattern.specs.Form.{Expr, Branch, atomsIn}
+use Rattle.brackets.specs.Form.{Expr, Branch, atomsIn}
 use Rattle.pattern.specs.Meaning.{TakesPieces, MatchesBranch}
 use Rattle.pattern.specs.States.{first, last, follow, holds, nothingIn, inPieces}
 use Rattle.pattern.proofs.Leaves.{Leaves, takes-leaves, leaves-takes}

@@ -7,9 +7,10 @@ use mathlib.Core.List.{List, [], _∷_, _++_, append-assoc, append-nil}
 use mathlib.Core.Option.{Option, none, some}
 use lib.Dec.{eqb}
 use lib.ListN.{length, drop, length-append}
-use Rattle.pattern.specs.Form.{Expr, Branch, Pattern, patternByte, write, writePieces, writeBranch, writePattern, formedPieces, formedBranch, formedBranches, formedPattern}
-use Rattle.pattern.specs.Reader.{parsed, fault, next, done, at, endsPieces, Mode, readExpr, enough, anchored, readRest, readBranch, readBranches}
-use Rattle.pattern.proofs.Parses.{clash, same-parsed, test-parsed, next-parsed, made-parsed, both, front, Clean, clean-after, clean-drop, clean-append, clean-end}
+use Rattle.brackets.specs.Form.{Expr, Branch, Pattern, patternByte, write, writePieces, writeBranch, writePattern, formedPieces, formedBranch, formedBranches, formedPattern}
+use Rattle.brackets.specs.Brackets.{parsed, fault, next, done, at}
+use Rattle.pattern.specs.Reader.{endsPieces, Mode, readExpr, enough, anchored, readRest, readBranch, readBranches}
+use Rattle.brackets.proofs.Parses.{clash, same-parsed, test-parsed, next-parsed, made-parsed, both, front, Clean, clean-after, clean-drop, clean-append, clean-end}
 use Rattle.pattern.proofs.TreesFrom.{expr-from}
 use Rattle.pattern.proofs.TreesBack.{expr-starts, expr-long, expr-back, expr-clean}
 

@@ -13,12 +13,14 @@ use Rattle.stateset.proofs.Sets.{word-lt}
 use Rattle.pattern.specs.declared.cursor.Cursor.{Cursor}
 use Rattle.pattern.specs.declared.cursor.Part.{Part}
 use Rattle.pattern.specs.declared.shape.Shape.{Shape}
-use Rattle.pattern.specs.Form.{Atom, plain, dot, escaped, bracket, Expr, atom, group, star, plus, opt, seq, alt, atoms, write, writeAtom}
-use Rattle.pattern.specs.Reader.{Parsed, parsed, fault, next, done, at, Mode, endsPieces, readAtom, readRepeat, readExpr}
+use Rattle.brackets.specs.Form.{Atom, plain, dot, escaped, bracket, Expr, atom, group, star, plus, opt, seq, alt, atoms, write, writeAtom}
+use Rattle.brackets.specs.Brackets.{Parsed, parsed, fault, next, done, at}
+use Rattle.pattern.specs.Reader.{Mode, endsPieces, readAtom, readRepeat, readExpr}
 use Rattle.pattern.specs.States.{nothing, first, last, follow, holds, atomState}
 use Rattle.pattern.specs.Tables.{keysAfter, enterAfter, linked, shapeOf, seqShape, altShape}
-use Rattle.pattern.specs.Cycle.{Clean, Ready, Done, room, Reads, AtomDone, repeatShape, repeatEnter, repeatAt}
-use Rattle.pattern.proofs.Parses.{clash, clean-drop}
+use Rattle.brackets.specs.Clean.{Clean}
+use Rattle.pattern.specs.Cycle.{Ready, Done, room, Reads, AtomDone, repeatShape, repeatEnter, repeatAt}
+use Rattle.brackets.proofs.Parses.{clash, clean-drop}
 use Rattle.pattern.proofs.TreesFrom.{expr-from, inner-group, atom-from}
 use Rattle.pattern.proofs.Atoms.{inside}
 use Rattle.pattern.proofs.Tables.{keys-seq, keys-alt, enter-seq, enter-alt, enter-again, enter-atom, first-seq, last-seq, first-alt, last-alt}

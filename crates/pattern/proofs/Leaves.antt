@@ -6,8 +6,8 @@ use mathlib.Core.Bool.{true}
 use mathlib.Core.Logic.{_⊎_, inl, inr, ⊎-elim, _↔_}
 use mathlib.Core.List.{List, [], _∷_, _++_, append-nil, append-assoc}
 use lib.ListN.{length, length-append}
-use Rattle.pattern.specs.Form.{Atom, Expr, atom, group, star, plus, opt, seq, alt}
-use Rattle.pattern.specs.Sets.{setOf}
+use Rattle.brackets.specs.Form.{Atom, Expr, atom, group, star, plus, opt, seq, alt}
+use Rattle.brackets.specs.Sets.{setOf}
 use Rattle.pattern.specs.Meaning.{Takes}
 
 -- e takes a first part of w and leaves v

@@ -8,13 +8,10 @@ pub mod SomeBranch
 pub mod BranchStates
 pub mod AcceptedLines
 pub mod Leading
-pub mod Tabled
 pub mod Readings
 pub mod Lookups
 pub mod Moving
 pub mod Tables
-pub mod Entries
-pub mod Parses
 pub mod BracketsFrom
 pub mod BracketsBack
 pub mod TreesFrom
@@ -22,9 +19,6 @@ pub mod TreesBack
 pub mod Branches
 pub mod Accepts
 pub mod Linking
-pub mod Bytes
-pub mod Adding
-pub mod Stored
 pub mod Repeats
 pub mod Atoms
 pub mod Cycles
@@ -32,11 +26,3 @@ pub mod Anchors
 pub mod BranchLists
 pub mod Automata
 pub mod Scans
-pub mod ClassTables
-pub mod Classes
-pub mod Ranges
-pub mod Elements
-pub mod Taken
-pub mod Bracketed
-pub mod Shorter
-pub mod Copies

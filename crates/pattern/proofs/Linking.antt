@@ -11,7 +11,7 @@ use lib.Bits.{bitOr}
 use Rattle.stateset.specs.Set.{bit}
 use Rattle.stateset.proofs.Sets.{bit-high}
 use Rattle.pattern.specs.Tables.{linked}
-use Rattle.pattern.proofs.Entries.{partly, entry-first, entry-set, entry-last}
+use Rattle.brackets.proofs.Entries.{partly, entry-first, entry-set, entry-last}
 
 module _ (from to : ℕ) where
   -- the entry of one state

@@ -10,8 +10,8 @@ use lib.Dec.{ltb}
 use lib.ListN.{length}
 use borrow.Author.Tests.{ltb-true, ltb-false}
 use Rattle.stateset.proofs.Some.{or-cases, or-left, or-right}
-use Rattle.pattern.specs.Form.{Expr, atom, group, star, plus, opt, seq, alt, Branch, Pattern}
-use Rattle.pattern.specs.Sets.{setOf}
+use Rattle.brackets.specs.Form.{Expr, atom, group, star, plus, opt, seq, alt, Branch, Pattern}
+use Rattle.brackets.specs.Sets.{setOf}
 use Rattle.pattern.specs.Meaning.{TakesPieces, MatchesBranch, Matches, repeated, takes, takesPieces, allowed, matchesFrom, matchesBranch, matches}
 use Rattle.pattern.specs.Meaning.Matches.{here, later}
 use Rattle.pattern.proofs.Leaves.{Leaves, leaves-takes, takes-leaves, leaves-same, plus-star, star-cases}

@@ -12,8 +12,9 @@ use Rattle.refusal.specs.declared.Refusal.{Refusal}
 use Rattle.refusal.specs.declared.Refusal.the-variants.{PatternLength, PatternSyntax, TooManyAtoms}
 use Rattle.refusal.proofs.Number.{number-positive, number-injective}
 use Rattle.pattern.specs.declared.automaton.Accepting.{Accepting}
-use Rattle.pattern.specs.Form.{Pattern, atomCount, member}
-use Rattle.pattern.specs.Reader.{Read, accepted, refused, Parsed, parsed, fault, counted, readBranches, readPattern}
+use Rattle.brackets.specs.Form.{Pattern, atomCount, member}
+use Rattle.pattern.specs.Reader.{Read, accepted, refused, counted, readBranches, readPattern}
+use Rattle.brackets.specs.Brackets.{Parsed, parsed, fault}
 use Rattle.refusal.specs.Figures.{Figures, answered}
 use Rattle.pattern.specs.Automata.{ReadAs, refusedPattern, keyTable, enterTable, accepts}
 

@@ -11,13 +11,14 @@ use lib.Seq.{take-suc, take-all}
 use borrow.Author.Tests.{le-leb, lt-leb, eq-eqb, ne-eqb}
 use Rattle.refusal.specs.declared.Refusal.the-variants.{PatternLength, PatternSyntax}
 use Rattle.pattern.specs.declared.automaton.Verdict.{Verdict}
-use Rattle.pattern.specs.Form.{member}
+use Rattle.brackets.specs.Form.{member}
 use Rattle.pattern.specs.Reader.{readBranches, counted, readPattern}
-use Rattle.pattern.specs.Cycle.{Clean, CleanDone, Ready}
+use Rattle.brackets.specs.Clean.{Clean, CleanDone}
+use Rattle.pattern.specs.Cycle.{Ready}
 use Rattle.refusal.specs.Figures.{Figures}
 use Rattle.pattern.specs.declared.automaton.Accepting.{Accepting}
 use Rattle.pattern.specs.Automata.{ReadAs, verdictFigures}
-use Rattle.pattern.proofs.Parses.{byte-of, clean-append, clean-member, clash}
+use Rattle.brackets.proofs.Parses.{byte-of, clean-append, clean-member, clash}
 
 member-at : (l : List ℕ) (i : ℕ) → i < length l → member (getD l i 0) l ≡ true
 unfolding member

@@ -6,7 +6,7 @@ use mathlib.Core.Logic.{_⊎_, inl, inr, ⊎-elim}
 use mathlib.Core.Bool.{Bool, true, false≢true}
 use mathlib.Core.List.{List, [], _∷_}
 use Rattle.stateset.proofs.Some.{or-cases, or-left, or-right}
-use Rattle.pattern.specs.Form.{Branch, Pattern, atomsIn, atomCount}
+use Rattle.brackets.specs.Form.{Branch, Pattern, atomsIn, atomCount}
 use Rattle.pattern.specs.States.{someBranch}
 use Rattle.pattern.proofs.Numbering.{Within, apart}
 use Rattle.pattern.proofs.Continuations.{Step, lifted}

@@ -8,11 +8,11 @@ use lib.Bits.{bitOr, or-zero-r}
 use borrow.Author.Tests.{ltb-true, ltb-false}
 use Rattle.stateset.specs.Set.{bit}
 use Rattle.stateset.proofs.Sets.{word-or, word-ext, word-none, word-high, bit-word, or-assoc}
-use Rattle.pattern.specs.Form.{Atom, Expr, atom, plus, seq, alt, atoms}
-use Rattle.pattern.specs.Sets.{setOf}
+use Rattle.brackets.specs.Form.{Atom, Expr, atom, plus, seq, alt, atoms}
+use Rattle.brackets.specs.Sets.{setOf}
 use Rattle.pattern.specs.States.{nothing, first, last, follow, holds, atomState, atomWord}
-use Rattle.pattern.specs.Steps.{keysWith}
-use Rattle.pattern.proofs.Entries.{with-same, with-with, with-none}
+use Rattle.brackets.specs.Steps.{keysWith}
+use Rattle.brackets.proofs.Entries.{with-same, with-with, with-none}
 use Rattle.pattern.specs.Tables.{isAtom, keysAfter, enterAfter, linked}
 
 share : (t x y : Bool) → (t && x || t && y) ≡ (t && (x || y))

@@ -7,9 +7,10 @@ use mathlib.Core.List.{List, [], _∷_, _++_, append-assoc}
 use lib.Dec.{leb, eqb}
 use lib.ListN.{length, drop, length-append}
 use borrow.Author.Tests.{eqb-true, not-true}
-use Rattle.pattern.specs.Form.{Atom, plain, dot, escaped, bracket, Expr, atom, group, star, plus, opt, seq, alt, member, patternByte, marks, writeAtom, write, formedAtom, formed}
-use Rattle.pattern.specs.Reader.{parsed, next, done, at, readAtom, readRepeat, endsPieces, Mode, readExpr}
-use Rattle.pattern.proofs.Parses.{clash, both, neither, other-than, Clean, clean-append, cleanBytes, clean-bytes, clean-member, byte-is}
+use Rattle.brackets.specs.Form.{Atom, plain, dot, escaped, bracket, Expr, atom, group, star, plus, opt, seq, alt, member, patternByte, marks, writeAtom, write, formedAtom, formed}
+use Rattle.brackets.specs.Brackets.{parsed, next, done, at}
+use Rattle.pattern.specs.Reader.{readAtom, readRepeat, endsPieces, Mode, readExpr}
+use Rattle.brackets.proofs.Parses.{clash, both, neither, other-than, Clean, clean-append, cleanBytes, clean-bytes, clean-member, byte-is}
 use Rattle.pattern.proofs.BracketsBack.{bracket-back, bracket-clean}
 
 -- What expressions begin with.

@@ -7,9 +7,10 @@ use mathlib.Core.List.{List, [], _∷_, _++_, append-assoc}
 use lib.Dec.{leb, eqb}
 use lib.ListN.{drop}
 use borrow.Author.Tests.{eqb-true, leb-true, le-leb}
-use Rattle.pattern.specs.Form.{Atom, plain, dot, escaped, Expr, atom, group, star, plus, opt, seq, alt, member, marks, writeAtom, write, formedAtom, formed}
-use Rattle.pattern.specs.Reader.{parsed, fault, next, done, at, readBracket, readAtom, readRepeat, endsPieces, Mode, readExpr}
-use Rattle.pattern.proofs.Parses.{clash, same-parsed, test-parsed, untest-parsed, next-parsed, made-parsed, both, neither, front, Clean, clean-after, clean-drop}
+use Rattle.brackets.specs.Form.{Atom, plain, dot, escaped, Expr, atom, group, star, plus, opt, seq, alt, member, marks, writeAtom, write, formedAtom, formed}
+use Rattle.brackets.specs.Brackets.{parsed, fault, next, done, at, readBracket}
+use Rattle.pattern.specs.Reader.{readAtom, readRepeat, endsPieces, Mode, readExpr}
+use Rattle.brackets.proofs.Parses.{clash, same-parsed, test-parsed, untest-parsed, next-parsed, made-parsed, both, neither, front, Clean, clean-after, clean-drop}
 use Rattle.pattern.proofs.BracketsFrom.{bracket-from}
 
 -- what an atom that was read is

@@ -9,8 +9,8 @@ use lib.ListN.{length, getD}
 use Rattle.pattern.specs.declared.branch.BranchRead.{BranchRead}
 use Rattle.pattern.specs.declared.cursor.Cursor.{Cursor}
 use Rattle.pattern.specs.declared.shape.Shape.{Shape}
-use Rattle.pattern.specs.Form.{Expr, Branch, atomsIn}
-use Rattle.pattern.specs.Reader.{Parsed, parsed, fault}
+use Rattle.brackets.specs.Form.{Expr, Branch, atomsIn}
+use Rattle.brackets.specs.Brackets.{Parsed, parsed, fault}
 use Rattle.pattern.specs.Tables.{keysAfter, enterAfter, shapeOf}
 
 -- the shape and the tables of a branch's pieces; "A branch with no pieces takes the empty part."

@@ -1,26 +1,18 @@
 -- What the readers that read each other in a cycle promise: the tree of the bytes at the cursor, in the form of its shape and tables.
 use Prim.Native.Nat.{ℕ, _+_, _-_, _*_, _≤_}
 use mathlib.Core.Path.{_≡_}
-use mathlib.Core.Bool.{Bool, true, false, _||_, cond}
-use mathlib.Core.List.{List, [], _∷_}
+use mathlib.Core.Bool.{true, _||_, cond}
+use mathlib.Core.List.{List}
 use lib.Dec.{eqb}
 use lib.ListN.{length, drop}
 use Rattle.pattern.specs.declared.cursor.Cursor.{Cursor}
 use Rattle.pattern.specs.declared.cursor.Part.{Part}
 use Rattle.pattern.specs.declared.shape.Shape.{Shape}
-use Rattle.pattern.specs.Form.{Atom, Expr, atom, atoms, member, patternByte}
-use Rattle.pattern.specs.Reader.{Parsed, parsed, fault, Mode, readExpr}
+use Rattle.brackets.specs.Form.{Atom, Expr, atom, atoms}
+use Rattle.brackets.specs.Brackets.{Parsed, parsed, fault}
+use Rattle.pattern.specs.Reader.{Mode, readExpr}
 use Rattle.pattern.specs.Tables.{keysAfter, enterAfter, linked, shapeOf}
-
--- no byte is 0, 10 or above 255
-abbrev pub Clean : List ℕ → Type 0
-Clean [] = Unit
-Clean (b ∷ bs) = (patternByte b ≡ true) × Clean bs
-
--- what a test for such bytes says
-unfoldable pub CleanDone : List ℕ → Bool → Type 0
-CleanDone l true = Clean l
-CleanDone l false = (member 0 l || member 10 l) ≡ true
+use Rattle.brackets.specs.Clean.{Clean}
 
 -- a cursor inside a pattern that has such bytes alone, and no more atoms before it than bytes
 pub record Ready (s : List ℕ) (c : Cursor) : Type 0 where

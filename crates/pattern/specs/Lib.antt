@@ -1,6 +1,4 @@
 -- The patterns of document 01: form, sets, meaning, reader, states, moves and tables; and what private functions promise each other.
-pub mod Form
-pub mod Sets
 pub mod Meaning
 pub mod Reader
 pub mod States
@@ -10,4 +8,3 @@ pub mod Cycle
 pub mod Branches
 pub mod Summaries
 pub mod Automata
-pub mod Steps

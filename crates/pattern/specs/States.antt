@@ -1,13 +1,13 @@
 -- Document 01, "States and steps": what can come first, follow, end or match nothing, "by the pattern's form alone, as if every
 -- set held some key". Atoms are "numbered left to right": those of an expression have the numbers from b on.
-use Prim.Native.Nat.{ℕ, zero, suc, _+_, _-_}
+use Prim.Native.Nat.{ℕ, _+_, _-_}
 use mathlib.Core.Bool.{Bool, true, false, not, _&&_, _||_}
-use mathlib.Core.List.{List, [], _∷_}
+use mathlib.Core.List.{[], _∷_}
 use mathlib.Core.Option.{Option, none, some}
 use lib.Dec.{leb, eqb}
 use Rattle.stateset.specs.Set.{word}
-use Rattle.pattern.specs.Form.{Expr, atom, group, star, plus, opt, seq, alt, Branch, Pattern, atoms, atomsIn}
-use Rattle.pattern.specs.Sets.{setOf}
+use Rattle.brackets.specs.Form.{Expr, atom, group, star, plus, opt, seq, alt, Branch, Pattern, atoms, atomsIn}
+use Rattle.brackets.specs.Sets.{setOf}
 
 -- the expression can match nothing
 unfoldable pub nothing : Expr → Bool
@@ -107,8 +107,3 @@ atomState X p = leb 3 p && X (p - 3)
 -- the word of the states of the atoms that have X
 abbrev pub atomWord : (ℕ → Bool) → ℕ
 atomWord X = word 32 (λ p. atomState X p)
-
--- n entries as a rule gives them, from i on
-unfoldable pub tabled : (ℕ → ℕ) → ℕ → ℕ → List ℕ
-tabled f zero i = []
-tabled f (suc n) i = f i ∷ tabled f n (suc i)

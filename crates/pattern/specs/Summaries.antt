@@ -10,8 +10,9 @@ use Rattle.pattern.specs.declared.branch_list.PatternRead.{PatternRead}
 use Rattle.pattern.specs.declared.cursor.Cursor.{Cursor}
 use Rattle.pattern.specs.declared.shape.Shape.{Shape}
 use Rattle.pattern.specs.declared.summary.Summary.{Summary}
-use Rattle.pattern.specs.Form.{Expr, Pattern, atomsIn, atomCount}
-use Rattle.pattern.specs.Reader.{Parsed, parsed, fault, readBranches}
+use Rattle.brackets.specs.Form.{Expr, Pattern, atomsIn, atomCount}
+use Rattle.brackets.specs.Brackets.{Parsed, parsed, fault}
+use Rattle.pattern.specs.Reader.{readBranches}
 use Rattle.pattern.specs.Branches.{shapeIn, keysIn, enterIn}
 
 -- a summary with one branch more

@@ -1,20 +1,20 @@
 // An atom (document 01, "Patterns"): a plain byte, `.`, an escaped mark or a bracket.
-use crate::bracket::BracketRead;
-use crate::bracket::read_bracket;
 use crate::cursor::Cursor;
 use crate::cursor::Part;
-use crate::peek::peek;
-use crate::set::store_dot;
-use crate::set::store_key;
 use crate::shape::Shape;
 use crate::state::State;
+use brackets::BracketRead;
+use brackets::peek;
+use brackets::read_bracket;
+use brackets::store_dot;
+use brackets::store_key;
 use stateset::only;
 ghost use mathlib.Core.Path.{_≡_};
 ghost use Prim.Native.Nat.{_+_, _≤_};
 ghost use mathlib.Core.Bool.{false};
 ghost use lib.Dec.{eqb};
 ghost use lib.ListN.{drop, length};
-ghost use Rattle.pattern.specs.Form.{marks, member};
+ghost use Rattle.brackets.specs.Form.{marks, member};
 ghost use Rattle.pattern.specs.Reader.{readAtom};
 ghost use Rattle.pattern.specs.States.{atomWord};
 ghost use Rattle.pattern.specs.Cycle.{AtomDone};

@@ -1,7 +1,7 @@
 // What reading a pattern yields: the tables of its automaton (document 01, "States and steps").
 use crate::branch_list::PatternRead;
+use crate::clean::clean;
 use crate::cursor::Cursor;
-use crate::peek::clean;
 use crate::state::State;
 use crate::summary::Summary;
 use refusal::Refusal;

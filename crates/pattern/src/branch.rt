@@ -2,8 +2,8 @@
 use crate::cursor::Cursor;
 use crate::cursor::Part;
 use crate::cursor::ends_pieces;
-use crate::peek::peek;
 use crate::shape::Shape;
+use brackets::peek;
 ghost use mathlib.Core.Path.{_≡_};
 ghost use mathlib.Core.Bool.{Bool};
 ghost use lib.ListN.{drop, length};

@@ -1,9 +1,9 @@
 // The branches of a pattern (document 01, "Patterns"): one or more, parted by `|`.
 use crate::branch::BranchRead;
 use crate::cursor::Cursor;
-use crate::peek::peek;
 use crate::summary::Summary;
 use crate::summary::with_branch;
+use brackets::peek;
 ghost use mathlib.Core.Path.{_≡_};
 ghost use lib.ListN.{drop, length};
 ghost use Rattle.pattern.specs.Cycle.{Ready};

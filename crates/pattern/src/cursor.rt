@@ -1,10 +1,10 @@
 // The readers of what stands inside a branch: alternative list, branch, piece and group read each other in a cycle, and the
 // bytes left fall. Tables of keys and states are lent; the cursor and an expression's shape go by value.
-use crate::peek::peek;
 use crate::shape::Shape;
 use crate::shape::either;
 use crate::shape::in_sequence;
 use crate::shape::link;
+use brackets::peek;
 ghost use mathlib.Core.Path.{_≡_};
 ghost use Prim.Native.Nat.{_^_, _≤_, _<_};
 ghost use lib.ListN.{getD, length};

@@ -1,14 +1,10 @@
 // The patterns of document 01: their form, their meaning and their reader.
 mod atom;
 mod automaton;
-mod bracket;
 mod branch;
 mod branch_list;
-mod class;
+mod clean;
 mod cursor;
-mod element;
-mod peek;
-mod set;
 mod shape;
 mod state;
 mod summary;

@@ -3,7 +3,8 @@ use borrow.Author.Needs.{needs}
 use Prim.Native.Nat.{_-_, _≤_}
 use native.Mathlib.Omega.{arith}
 use lib.ListN.{length}
-use Rattle.counter.proofs.ItemLaws.{ItemsSoFar, items-start, items-short, item-fits, items-on, items-stop, pairs-le}
+use Rattle.counter.proofs.ItemLaws.{ItemsSoFar, items-start, items-short, item-fits, items-on, items-stop}
+use Rattle.reports.proofs.ReportLaws.{pairs-le}
 use Rattle.counter.proofs.items.items_report.Statement.{statement}
 use Rattle.counter.proofs.items.items_report.Tie as tie
 

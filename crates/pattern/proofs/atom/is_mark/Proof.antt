@@ -4,7 +4,7 @@ use native.Mathlib.Omega.{arith}
 use mathlib.Core.Path.{_≡_, refl}
 use lib.ListN.{drop}
 use borrow.Author.Needs.{needs}
-use Rattle.pattern.specs.Form.{marks, member}
+use Rattle.brackets.specs.Form.{marks, member}
 use Rattle.pattern.proofs.Atoms.{search-here, search-on, search-end}
 use Rattle.pattern.proofs.atom.is_mark.Statement.{statement}
 use Rattle.pattern.proofs.atom.is_mark.Tie as tie

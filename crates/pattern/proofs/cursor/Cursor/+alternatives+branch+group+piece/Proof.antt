@@ -24,7 +24,7 @@ use Rattle.pattern.proofs.cursor.Cursor.+alternatives+branch+group+piec
 use Rattle.pattern.proofs.cursor.Cursor.atom.Reads as atom-reads
 use Rattle.pattern.proofs.cursor.Cursor.repetition.Reads as repetition-reads
 use Rattle.pattern.proofs.cursor.ends_pieces.Reads as ends-pieces-reads
-use Rattle.pattern.proofs.peek.peek.Reads as peek-reads
+use Rattle.brackets.proofs.peek.Reads as peek-reads
 use Rattle.pattern.proofs.shape.either.Reads as either-reads
 use Rattle.pattern.proofs.shape.in_sequence.Reads as in-sequence-reads
 use Rattle.pattern.proofs.shape.link.Reads as link-reads

@@ -9,7 +9,7 @@ use Rattle.pattern.proofs.cursor.Cursor.branches.Reads as branches
 use Rattle.pattern.proofs.cursor.Cursor.branches.Kinds as branches-kinds
 use Rattle.pattern.proofs.cursor.Cursor.+branches.Lts-branches as branches-lts
 use Rattle.pattern.proofs.cursor.Cursor.anchored_branch.Reads as anchored-branch-reads
-use Rattle.pattern.proofs.peek.peek.Reads as peek-reads
+use Rattle.brackets.proofs.peek.Reads as peek-reads
 use Rattle.pattern.proofs.summary.with_branch.Reads as with-branch-reads
 use Rattle.pattern.proofs.cursor.Cursor.+branches.{statement}
 use Rattle.pattern.proofs.cursor.Cursor.+branches.Tie.{close}

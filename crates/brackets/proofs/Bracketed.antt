@@ -1,0 +1,128 @@
+-- The reading of a bracket: one law for each way out of the code.
+use Prim.Native.Nat.{ℕ, zero, suc, _+_, _-_, _<_, _≤_}
+use native.Mathlib.Omega.{arith}
+use native.Mathlib.Nat.{add-zero}
+use mathlib.Core.Path.{_≡_, refl, sym, ap, _∙_}
+use mathlib.Core.Bool.{Bool, true, false, not, _&&_, cond, xor, and-false, or-false, or-assoc}
+use mathlib.Core.List.{List, [], _∷_}
+use lib.Dec.{eqb}
+use lib.ListN.{length, getD, drop, replicate, length-drop, drop-of-length-le}
+use lib.Seq.{getD-drop}
+use borrow.Author.Tests.{eq-eqb, ne-eqb}
+use Rattle.brackets.specs.declared.bracket.BracketRead.{BracketRead}
+use Rattle.brackets.specs.declared.bracket.BracketRead.the-variants.{At, Fault}
+use Rattle.brackets.specs.declared.element.Element as declared
+use Rattle.brackets.specs.declared.element.ElementRead as element
+use Rattle.brackets.specs.Form.{Element, bracket}
+use Rattle.brackets.specs.Sets.{inElement, inElements, named}
+use Rattle.brackets.specs.Brackets.{Parsed, parsed, fault, next, done, readElement, readElements, readBracket}
+use Rattle.brackets.specs.Steps.{mapWith, withElement, withElements, withKey, elementOf, elementShown, elementsFrom, bracketFrom, ElementsDone, BracketDone}
+use Rattle.brackets.proofs.Parses.{clash}
+use Rattle.brackets.proofs.Entries.{with-same, with-with, with-none}
+use Rattle.brackets.proofs.Stored.{set-stored, filled-set}
+use Rattle.brackets.proofs.Taken.{Shown, shown-fault, shown-found, none-read}
+
+pub closes-later : (first : Bool) (b : ℕ) → first ≡ false → eqb b 93 ≡ not first && eqb b 93
+closes-later first b h = rw h
+
+-- one element and then others
+module _ (set : List Bool) where
+  elements-none : set ≡ mapWith (withElements []) 0 set
+  unfolding withElements inElements
+  elements-none = sym (with-none (withElements []) (λ k x. or-false x) 0 set)
+
+  elements-more : (e : Element) (es : List Element) → mapWith (withElements es) 0 (mapWith (withElement e) 0 set) ≡ mapWith (withElements (e ∷ es)) 0 set
+  unfolding withElements withElement inElements
+  elements-more e es = with-with (withElement e) (withElements es) 0 set ∙ with-same (λ k x. withElements es k (withElement e k x)) (withElements (e ∷ es)) (λ k x. or-assoc x (inElement k e) (inElements k es)) 0 set
+
+-- there are no elements where nothing is
+elements-empty : (f : ℕ) (first : Bool) → readElements f first [] ≡ fault
+unfolding readElements
+elements-empty zero first = refl
+elements-empty (suc f) first = rw (and-false, none-read first)
+
+-- what is done from here is done from the start; `bound` is what the definition counts down
+pub record Going (s : List ℕ) (start : ℕ) (before : List Bool) (at : ℕ) (first : Bool) (now : List Bool) : Type 0 where
+  pub bound : ℕ
+  pub enough : length s ≤ bound + at
+  pub whole : (after : List Bool) (r : BracketRead) → ElementsDone (length s) (readElements bound first (drop at s)) now after r → ElementsDone (length s) (elementsFrom start s) before after r
+
+pub going-first : (s : List ℕ) (start : ℕ) (before : List Bool) → Going s start before start true before
+unfolding elementsFrom
+going-first s start before = record { bound = length s; enough = omega arith; whole = λ after r h. h }
+
+module _ (s : List ℕ) (start : ℕ) (before : List Bool) (p : ℕ) (first : Bool) (now : List Bool) (g : Going s start before p first now) where
+  pub going-end : length s ≤ p → ElementsDone (length s) (elementsFrom start s) before now Fault
+  unfolding ElementsDone
+  going-end h = g .whole now Fault (rw (drop-of-length-le s h, elements-empty (g .bound) first) refl)
+
+  module _ (low : p < length s) (b : ℕ) (q : b ≡ getD s p 0) (t : Bool) (e : t ≡ not first && eqb b 93) where
+    less : g .bound ≡ suc (g .bound - 1)
+    less = let h : length s ≤ g .bound + p = g .enough in omega arith
+
+    turn-at : (n f : ℕ) → n ≡ suc f → readElements n first (drop p s) ≡ cond t (parsed [] (drop 1 (drop p s))) (next (readElement first (drop p s)) (λ x m. next (readElements f false m) (λ es. done (x ∷ es))))
+    unfolding readElements
+    turn-at n f h = rw (h, getD-drop p s 0 0, add-zero p, ← q, ← e)
+
+    turn : readElements (g .bound) first (drop p s) ≡ cond t (parsed [] (drop 1 (drop p s))) (next (readElement first (drop p s)) (λ x m. next (readElements (g .bound - 1) false m) (λ es. done (x ∷ es))))
+    turn = turn-at (g .bound) (g .bound - 1) less
+
+    pub going-closed : t ≡ true → ElementsDone (length s) (elementsFrom start s) before now (At (p + 1))
+    unfolding ElementsDone
+    going-closed h = g .whole now (At (p + 1)) (rw (turn, h) (ap At place, elements-none now))
+      where
+        place : p + 1 ≡ length s - length (drop 1 (drop p s))
+        place = rw (length-drop 1 (drop p s), length-drop p s) (omega arith)
+
+    module _ (h : t ≡ false) (r : element.ElementRead) (k : r ≡ elementShown p (readElement first (drop p s))) where
+      pub going-fault : r ≡ element.ElementRead.Fault → ElementsDone (length s) (elementsFrom start s) before now Fault
+      unfolding ElementsDone
+      going-fault f = g .whole now Fault (rw (turn, h, shown-fault first s p r k f) refl)
+
+      pub going-on : (d : declared.Element) (n : ℕ) (after : List Bool) → r ≡ element.ElementRead.Found d n → after ≡ mapWith (withElement (elementOf d)) 0 now → Going s start before n false after
+      unfolding ElementsDone
+      going-on d n after f m = record { bound = g .bound - 1; enough = room; whole = λ last a done. g .whole last a (rw (onward) (more (readElements (g .bound - 1) false (drop n s)) last a done)) }
+        where
+          shown : Shown first s p d n
+          shown = shown-found first s p r k d n f
+
+          room : length s ≤ g .bound - 1 + n
+          room = let w : length s ≤ g .bound + p = g .enough in let x : p < n = shown .further in omega arith
+
+          onward : readElements (g .bound) first (drop p s) ≡ next (readElements (g .bound - 1) false (drop n s)) (λ es. done (elementOf d ∷ es))
+          onward = rw (turn, h, shown .parse, shown .same)
+
+          more : (a : Parsed (List Element)) (last : List Bool) (b : BracketRead) → ElementsDone (length s) a after last b → ElementsDone (length s) (next a (λ es. done (elementOf d ∷ es))) now last b
+          more (parsed es rest) last b (x, y) = (x, y ∙ rw m (elements-more now (elementOf d) es))
+          more fault last b x = x
+
+-- a set that was filled, and what it puts into the table
+module _ (l : List ℕ) (start bit : ℕ) (negated : Bool) (s : List Bool) (before : List ℕ) (r : BracketRead) (d : ElementsDone (length l) (elementsFrom start l) (replicate 256 false) s r) where
+  pub set-done : (end : ℕ) (after : List ℕ) → r ≡ At end → after ≡ mapWith (withKey s negated bit) 0 before → BracketDone (length l) (bracketFrom negated start l) bit before after (At end)
+  unfolding ElementsDone BracketDone bracketFrom withElements named
+  set-done end after h e = go (elementsFrom start l) d
+    where
+      same : (es : List Element) → s ≡ mapWith (withElements es) 0 (replicate 256 false) → (k : ℕ) → k < 256 → xor negated (getD s k false) ≡ named (bracket negated es) k
+      same es f k l = rw (f, filled-set (withElements es) k l)
+
+      go : (a : Parsed (List Element)) → ElementsDone (length l) a (replicate 256 false) s r → BracketDone (length l) (next a (λ es. done (bracket negated es))) bit before after (At end)
+      go (parsed es rest) (f, g) = (sym h ∙ f, e ∙ set-stored (bracket negated es) s negated (same es g) bit before)
+      go fault f = clash (cc)
+
+  pub set-fault : r ≡ Fault → BracketDone (length l) (bracketFrom negated start l) bit before before Fault
+  unfolding ElementsDone BracketDone bracketFrom
+  set-fault h = go (elementsFrom start l) d
+    where
+      go : (a : Parsed (List Element)) → ElementsDone (length l) a (replicate 256 false) s r → BracketDone (length l) (next a (λ es. done (bracket negated es))) bit before before Fault
+      go (parsed es rest) (f, g) = clash (cc)
+      go fault f = (refl, refl)
+
+-- the bytes after `[`
+module _ (l : List ℕ) (b : ℕ) (e : b ≡ getD l 0 0) (n bit : ℕ) (before after : List ℕ) (r : BracketRead) where
+  pub text-negated : b ≡ 94 → BracketDone n (bracketFrom true 1 l) bit before after r → BracketDone n (readBracket l) bit before after r
+  unfolding readBracket bracketFrom elementsFrom
+  text-negated h d = rw (← e, eq-eqb b 94 h) d
+
+  pub text-plain : (b ≡ 94 → ⊥) → BracketDone n (bracketFrom false 0 l) bit before after r → BracketDone n (readBracket l) bit before after r
+  unfolding readBracket bracketFrom elementsFrom
+  text-plain h d = rw (← e, ne-eqb b 94 h) d

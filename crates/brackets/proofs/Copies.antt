@@ -1,0 +1,84 @@
+-- The copy that a bracket is read from.
+use Prim.Native.Nat.{ℕ, _+_, _-_, _<_, _≤_}
+use native.Mathlib.Omega.{arith}
+use mathlib.Core.Path.{_≡_, refl, sym, ap, _∙_}
+use mathlib.Core.Bool.{cond}
+use mathlib.Core.List.{List}
+use lib.Dec.{ltb}
+use lib.ListN.{length, getD, set, take, drop, replicate, length-drop, length-replicate}
+use lib.Seq.{ext-getD, getD-take, getD-drop, length-take-le}
+use borrow.Author.Tests.{lt-ltb}
+use mir.Syntax.{w64}
+use mir.Val.{Fits}
+use Rattle.brackets.specs.declared.bracket.BracketRead.{BracketRead}
+use Rattle.brackets.specs.declared.bracket.BracketRead.the-variants.{At, Fault}
+use Rattle.brackets.specs.Form.{Atom}
+use Rattle.brackets.specs.Brackets.{Parsed, parsed, fault, readBracket}
+use Rattle.brackets.specs.Steps.{BracketDone}
+use Rattle.brackets.proofs.Parses.{clash}
+use Rattle.brackets.proofs.Entries.{partly, entry-none, entry-set, with-length, with-getD}
+use Rattle.brackets.proofs.Shorter.{bracket-shorter}
+
+-- the entry that a byte is copied to
+unfoldable pub copiedByte : List ℕ → ℕ → ℕ → ℕ → ℕ
+copiedByte s p k x = getD s (p + k) 0
+
+module _ (s : List ℕ) (p : ℕ) where
+  pub copy-first : (l : List ℕ) → l ≡ partly (copiedByte s p) 0 l
+  copy-first l = entry-none (copiedByte s p) l
+
+  pub copy-on : (k : ℕ) (now before : List ℕ) → now ≡ partly (copiedByte s p) k before → set now k (getD s (p + k) 0) ≡ partly (copiedByte s p) (k + 1) before
+  unfolding copiedByte
+  copy-on k now before inv = entry-set 0 (copiedByte s p) k now before inv (getD s (p + k) 0) refl
+
+  module _ (low : p ≤ length s) (most : length s ≤ 128) (k : ℕ) (now : List ℕ) (inv : now ≡ partly (copiedByte s p) k (replicate 128 0)) (some : k ≤ length s - p) (all : length s - p ≤ k) where
+    size : length now ≡ 128
+    size = rw (inv, with-length, length-replicate)
+
+    entry : (j : ℕ) → j < k → getD now j 0 ≡ getD s (p + j) 0
+    unfolding copiedByte
+    entry j h =
+        let g : j < 128 = omega arith in
+        rw (inv, with-getD (λ i x. cond (ltb i k) (copiedByte s p i x) x) 0 (replicate 128 0) j (rw length-replicate g), lt-ltb j k h)
+
+    pub copy-last : take (length s - p) now ≡ drop p s
+    copy-last = ext-getD 0 (take (length s - p) now) (drop p s) (whole ∙ sym (length-drop p s)) (λ j h. at j (rw whole at h))
+      where
+        whole : length (take (length s - p) now) ≡ length s - p
+        whole = length-take-le (length s - p) now (rw size (omega arith))
+
+        at : (j : ℕ) → j < length s - p → getD (take (length s - p) now) j 0 ≡ getD (drop p s) j 0
+        at j h = rw (getD-take (length s - p) now j 0 h, getD-drop p s j 0) (entry j (omega arith))
+
+  -- what was done with the copy
+  module _ (copy : List ℕ) (e : take (length s - p) copy ≡ drop p s) where
+    pub copy-size : length s - p ≡ length (take (length s - p) copy)
+    copy-size = sym (ap length e ∙ length-drop p s)
+
+    module _ (bit : ℕ) (before after : List ℕ) (r : BracketRead) (d : BracketDone (length (take (length s - p) copy)) (readBracket (take (length s - p) copy)) bit before after r) where
+      read : BracketDone (length s - p) (readBracket (drop p s)) bit before after r
+      read = rw (e, length-drop p s) at d
+
+      pub copy-fault : r ≡ Fault → BracketDone (length s) (readBracket (drop p s)) bit before after Fault
+      unfolding BracketDone
+      copy-fault h = go (readBracket (drop p s)) read
+        where
+          go : (a : Parsed Atom) → BracketDone (length s - p) a bit before after r → BracketDone (length s) a bit before after Fault
+          go (parsed a rest) (f, g) = clash (cc)
+          go fault (f, g) = (refl, g)
+
+      module _ (low : p ≤ length s) (end : ℕ) (h : r ≡ At end) where
+        shift : (a : Parsed Atom) → readBracket (drop p s) ≡ a → BracketDone (length s - p) a bit before after r → (p + end ≤ length s) × BracketDone (length s) a bit before after (At (p + end))
+        unfolding BracketDone
+        shift (parsed a rest) q (f, g) =
+            let short : length rest ≤ length s - p = rw length-drop at (bracket-shorter (drop p s) a rest q) in
+            let place : end ≡ length s - p - length rest = cc in
+            let sum : p + end ≡ length s - length rest = omega arith in
+            (omega arith, (ap At sum, g))
+        shift fault q (f, g) = clash (cc)
+
+        pub copy-fits : length s ≤ 128 → Fits w64 (p + end)
+        copy-fits most = let fits : p + end ≤ length s = shift (readBracket (drop p s)) refl read .0 in omega arith
+
+        pub copy-at : BracketDone (length s) (readBracket (drop p s)) bit before after (At (p + end))
+        copy-at = shift (readBracket (drop p s)) refl read .1

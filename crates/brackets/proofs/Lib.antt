@@ -1,0 +1,15 @@
+-- Laws.
+pub mod Adding
+pub mod Bracketed
+pub mod Bytes
+pub mod ClassTables
+pub mod Classes
+pub mod Copies
+pub mod Elements
+pub mod Entries
+pub mod Parses
+pub mod Ranges
+pub mod Shorter
+pub mod Stored
+pub mod Tabled
+pub mod Taken

@@ -1,0 +1,44 @@
+-- What an atom puts into the table of keys by way of a set of bytes.
+use Prim.Native.Nat.{ℕ, _<_, _≤_}
+use native.Mathlib.Omega.{arith}
+use mathlib.Core.Path.{_≡_, refl, _∙_}
+use mathlib.Core.Bool.{Bool, true, false, not, _&&_, cond, xor, Bool·not-not, and-false}
+use mathlib.Core.List.{List}
+use lib.Bits.{bitOr}
+use lib.Dec.{leb, eqb}
+use lib.ListN.{getD, replicate, length-replicate, getD-replicate}
+use borrow.Author.Tests.{leb-true}
+use Rattle.brackets.specs.Form.{Atom, plain, dot, byte}
+use Rattle.brackets.specs.Sets.{inElement, named, setOf}
+use Rattle.brackets.specs.Steps.{mapWith, keysWith, withElement, hasKey, withKey}
+use Rattle.brackets.proofs.Entries.{with-same, with-getD}
+
+-- a set that says of every byte what an atom says puts the atom's states into the table
+module _ (a : Atom) (s : List Bool) (negated : Bool) (same : (k : ℕ) → k < 256 → xor negated (getD s k false) ≡ named a k) where
+  key-same : (k : ℕ) → hasKey s negated k ≡ setOf a k
+  unfolding hasKey setOf
+  key-same k = go (leb k 255) refl
+    where
+      go : (t : Bool) → leb k 255 ≡ t → (leb 1 k && (leb k 255 && not (eqb k 10))) && xor negated (getD s k false) ≡ (leb 1 k && (leb k 255 && not (eqb k 10))) && named a k
+      go true h = let g : k ≤ 255 = leb-true k 255 h in rw (same k (omega arith))
+      go false h = rw (h, and-false)
+
+  pub set-stored : (bit : ℕ) (keys : List ℕ) → mapWith (withKey s negated bit) 0 keys ≡ keysWith a bit keys
+  unfolding withKey
+  set-stored bit keys = with-same (withKey s negated bit) (λ k x. cond (setOf a k) (bitOr x bit) x) (λ k x. rw (key-same k)) 0 keys
+
+-- a set that starts empty
+empty-set : (k : ℕ) → k < 256 → getD (replicate 256 false) k false ≡ false
+empty-set k h = getD-replicate 256 k false false h
+
+pub filled-set : (f : ℕ → Bool → Bool) (k : ℕ) → k < 256 → getD (mapWith f 0 (replicate 256 false)) k false ≡ f k false
+filled-set f k h = with-getD f false (replicate 256 false) k (rw (length-replicate 256 false) h) ∙ rw (empty-set k h)
+
+pub key-stored : (b bit : ℕ) (s : List Bool) (keys after : List ℕ) → s ≡ mapWith (withElement (byte b)) 0 (replicate 256 false) → after ≡ mapWith (withKey s false bit) 0 keys → after ≡ keysWith (plain b) bit keys
+unfolding named xor withElement inElement
+key-stored b bit s keys after e f =
+    f ∙ set-stored (plain b) s false (λ k h. rw (e, filled-set (withElement (byte b)) k h) (Bool·not-not (eqb k b))) bit keys
+
+pub dot-stored : (bit : ℕ) (keys after : List ℕ) → after ≡ mapWith (withKey (replicate 256 false) true bit) 0 keys → after ≡ keysWith dot bit keys
+unfolding named xor
+dot-stored bit keys after e = e ∙ set-stored dot (replicate 256 false) true (λ k h. rw (empty-set k h)) bit keys

@@ -1,0 +1,50 @@
+-- `read_bracket`: what is read from the copy is read from the bytes behind the place.
+use borrow.Author.Needs.{needs}
+use Rattle.brackets.proofs.Copies.{copy-size, copy-fits, copy-at, copy-fault}
+use Rattle.brackets.proofs.bracket.read_bracket.Statement.{statement}
+use Rattle.brackets.proofs.bracket.read_bracket.Tie as tie
+
+copied-requires : tie.Need-copied-requires
+copied-requires c κs = search needs
+
+sub-n : tie.Need-sub-n
+sub-n c = search needs
+
+array-share-prefix-copy : tie.Need-array-share-prefix-copy
+array-share-prefix-copy c = search needs
+
+slice-aggregate-read-text : tie.Need-slice-aggregate-read-text
+slice-aggregate-read-text c = search copy-size
+
+read-text-requires : tie.Need-read-text-requires
+read-text-requires c κs = search needs
+
+enum-known-end : tie.Need-enum-known-end
+enum-known-end c = search needs
+
+add-t15 : tie.Need-add-t15
+add-t15 c = search copy-fits
+
+enum-told : tie.Need-enum-told
+enum-told c = search needs
+
+returns : tie.Need-returns
+returns c = search copy-at
+
+returns-2 : tie.Need-returns-2
+returns-2 c = search copy-fault
+
+pub read-bracket-spec : {M : Type 1} → statement M
+read-bracket-spec =
+    tie.close
+    (tie.spec
+    copied-requires
+    sub-n
+    array-share-prefix-copy
+    slice-aggregate-read-text
+    read-text-requires
+    enum-known-end
+    add-t15
+    enum-told
+    returns
+    returns-2)

@@ -1,0 +1,25 @@
+-- `class::name_byte`: the rule of the table of classes.
+use borrow.Author.Needs.{needs}
+use Rattle.brackets.specs.Form.{classNames}
+use Rattle.brackets.specs.Sets.{classRanges}
+use Rattle.brackets.specs.Tabled.{tabled}
+use Rattle.brackets.proofs.ClassTables.{nameByte, rangeByte, classRow, classRows, name-entry}
+use Rattle.brackets.proofs.class.name_byte.Statement.{statement}
+use Rattle.brackets.proofs.class.name_byte.Tie as tie
+
+mul-class : tie.Need-mul-class
+mul-class c = search needs
+
+array-copy-out-class : tie.Need-array-copy-out-class
+array-copy-out-class c = search needs
+
+element-copy-out-result : tie.Need-element-copy-out-result
+element-copy-out-result c = search needs
+
+returns : tie.Need-returns
+unfolding tabled nameByte rangeByte classRow classRows classNames classRanges
+returns c = name-entry _ _ _ (c .before .before .pre .0) (c .before .before .pre .1)
+
+pub name-byte-spec : {M : Type 1} → statement M
+name-byte-spec =
+    tie.close (tie.spec mul-class array-copy-out-class element-copy-out-result returns)

@@ -1,0 +1,32 @@
+-- `class::range_last`: the rule of the table of classes.
+use borrow.Author.Needs.{needs}
+use Rattle.brackets.specs.Form.{classNames}
+use Rattle.brackets.specs.Sets.{classRanges}
+use Rattle.brackets.specs.Tabled.{tabled}
+use Rattle.brackets.proofs.ClassTables.{nameByte, rangeByte, classRow, classRows, last-entry}
+use Rattle.brackets.proofs.class.range_last.Statement.{statement}
+use Rattle.brackets.proofs.class.range_last.Tie as tie
+
+mul-class : tie.Need-mul-class
+mul-class c = search needs
+
+array-copy-out-class : tie.Need-array-copy-out-class
+array-copy-out-class c = search needs
+
+mul-result : tie.Need-mul-result
+mul-result c = search needs
+
+add-result : tie.Need-add-result
+add-result c = search needs
+
+element-copy-out-result : tie.Need-element-copy-out-result
+element-copy-out-result c = search needs
+
+returns : tie.Need-returns
+unfolding tabled nameByte rangeByte classRow classRows classNames classRanges
+returns c = last-entry _ _ _ (c .before .before .pre .0) (c .before .before .pre .1)
+
+pub range-last-spec : {M : Type 1} → statement M
+range-last-spec =
+    tie.close
+    (tie.spec mul-class array-copy-out-class mul-result add-result element-copy-out-result returns)

@@ -1,0 +1,93 @@
+-- What private functions promise each other; no public contract cites these.
+use Prim.Native.Nat.{ℕ, suc, _+_, _-_, _<_}
+use mathlib.Core.Path.{_≡_}
+use mathlib.Core.Bool.{Bool, true, false, _&&_, _||_, cond, xor}
+use mathlib.Core.List.{List, [], _∷_, _++_}
+use mathlib.Core.Option.{Option, none, some}
+use lib.Bits.{bitOr}
+use lib.ListN.{length, getD, drop}
+use Rattle.brackets.specs.declared.bracket.BracketRead.{BracketRead}
+use Rattle.brackets.specs.declared.class.ClassRead.{ClassRead}
+use Rattle.brackets.specs.declared.element.Element as declared
+use Rattle.brackets.specs.declared.element.ElementRead.{ElementRead}
+use Rattle.brackets.specs.Form.{Element, byte, range, class, Atom, bracket, className, writeElement}
+use Rattle.brackets.specs.Brackets.{Parsed, parsed, fault, next, done, readElements}
+use Rattle.brackets.specs.Sets.{Range, to, classRanges, inElement, inElements, lineKey, setOf}
+
+-- each entry of a list changed by its place, counted from i
+unfoldable pub mapWith : {A : Type 0} → (ℕ → A → A) → ℕ → List A → List A
+mapWith f i [] = []
+mapWith f i (x ∷ xs) = f i x ∷ mapWith f (suc i) xs
+
+-- the table that has for each key a word of atoms, with the states of `bit` put into the words of an atom's keys
+abbrev pub keysWith : Atom → ℕ → List ℕ → List ℕ
+keysWith a bit keys = mapWith (λ k x. cond (setOf a k) (bitOr x bit) x) 0 keys
+
+-- an entry of a set, with the bytes of an element added, or of some elements
+unfoldable pub withElement : Element → ℕ → Bool → Bool
+withElement e k x = x || inElement k e
+
+unfoldable pub withElements : List Element → ℕ → Bool → Bool
+withElements es k x = x || inElements k es
+
+-- "Every set says no for 0 and for LF": a key of a set of bytes, or of all others if it is negated
+unfoldable pub hasKey : List Bool → Bool → ℕ → Bool
+hasKey set negated k = lineKey k && xor negated (getD set k false)
+
+-- a key's word, with the states of `bit` put into it if the key is in the set
+unfoldable pub withKey : List Bool → Bool → ℕ → ℕ → ℕ → ℕ
+withKey set negated bit k x = cond (hasKey set negated k) (bitOr x bit) x
+
+-- a class's name and the `:]` behind it
+abbrev pub classText : ℕ → List ℕ
+classText c = className c ++ (58 ∷ 93 ∷ [])
+
+-- range j of a class, or an empty one, from `1` to `0`, if the class has no more
+abbrev pub classRange : ℕ → ℕ → Range
+classRange c j = getD (getD classRanges c []) j (to 49 48)
+
+-- the answer of the search for a class
+abbrev pub classShown : Option ℕ → ClassRead
+classShown (some c) = ClassRead.Found c
+classShown none = ClassRead.Unknown
+
+-- an element as the code has it
+abbrev pub shownElement : Element → declared.Element
+shownElement (byte b) = declared.Element.Byte b
+shownElement (range a b) = declared.Element.Range a b
+shownElement (class c) = declared.Element.Class c
+
+-- and the other way
+abbrev pub elementOf : declared.Element → Element
+elementOf (declared.Element.Byte b) = byte b
+elementOf (declared.Element.Range a b) = range a b
+elementOf (declared.Element.Class c) = class c
+
+-- the answer of the reading of an element at a place
+abbrev pub elementShown : ℕ → Parsed Element → ElementRead
+elementShown at (parsed e rest) = ElementRead.Found (shownElement e) (at + length (writeElement e))
+elementShown at fault = ElementRead.Fault
+
+-- a class is one of the twelve
+abbrev pub Known : Element → Type 0
+Known (byte b) = Unit
+Known (range a b) = Unit
+Known (class c) = c < 12
+
+-- the elements from a place on, up to the `]` that closes the bracket
+unfoldable pub elementsFrom : ℕ → List ℕ → Parsed (List Element)
+elementsFrom start l = readElements (length l) true (drop start l)
+
+-- and the bracket that they make
+unfoldable pub bracketFrom : Bool → ℕ → List ℕ → Parsed Atom
+bracketFrom negated start l = next (elementsFrom start l) (λ es. done (bracket negated es))
+
+-- the reading of a bracket's elements from n bytes: the set before and after, and the answer
+unfoldable pub ElementsDone : ℕ → Parsed (List Element) → List Bool → List Bool → BracketRead → Type 0
+ElementsDone n (parsed es rest) before after r = (r ≡ BracketRead.At (n - length rest)) × (after ≡ mapWith (withElements es) 0 before)
+ElementsDone n fault before after r = r ≡ BracketRead.Fault
+
+-- the reading of a bracket from n bytes: the table of keys before and after, and the answer
+unfoldable pub BracketDone : ℕ → Parsed Atom → ℕ → List ℕ → List ℕ → BracketRead → Type 0
+BracketDone n (parsed a rest) bit before after r = (r ≡ BracketRead.At (n - length rest)) × (after ≡ keysWith a bit before)
+BracketDone n fault bit before after r = (r ≡ BracketRead.Fault) × (after ≡ before)

@@ -1,0 +1,95 @@
+// The set of an atom's keys: it "says yes or no for every byte value from 0 to 255" (document 01, "Patterns").
+use crate::class::range_first;
+use crate::class::range_last;
+use crate::element::Element;
+ghost use mathlib.Core.Path.{_≡_};
+ghost use Prim.Native.Nat.{_<_};
+ghost use Rattle.brackets.specs.Form.{byte, class, dot, plain, range};
+ghost use Rattle.brackets.specs.Steps.{Known, elementOf, hasKey, keysWith, mapWith, withElement, withKey};
+
+// Adds one byte.
+pub fn add_byte(set: &mut [bool; 256], b: u8)
+    ensures { λ _. ⌜ now (set .exit) ≡ mapWith (withElement (byte b)) 0 (now (set .entry)) ⌝ }
+{
+    set[b as usize] = true;
+}
+
+// Adds the bytes from `first` to `last`, both included.
+pub fn add_range(set: &mut [bool; 256], first: u8, last: u8)
+    ensures { λ _. ⌜ now (set .exit) ≡ mapWith (withElement (range first last)) 0 (now (set .entry)) ⌝ }
+{
+    let end = last as usize;
+    let mut k = first as usize;
+    while k <= end {
+        set[k] = true;
+        k += 1;
+    }
+}
+
+// Adds the bytes of a class.
+pub fn add_class(set: &mut [bool; 256], c: u8)
+    requires { ⌜ c < 12 ⌝ }
+    ensures { λ _. ⌜ now (set .exit) ≡ mapWith (withElement (class c)) 0 (now (set .entry)) ⌝ }
+{
+    let mut j = 0;
+    while j < 4 {
+        add_range(set, range_first(c, j), range_last(c, j));
+        j += 1;
+    }
+}
+
+// Adds the bytes of an element.
+pub fn add_element(set: &mut [bool; 256], e: Element)
+    requires { ⌜ Known (elementOf e) ⌝ }
+    ensures { λ _. ⌜ now (set .exit) ≡ mapWith (withElement (elementOf e)) 0 (now (set .entry)) ⌝ }
+{
+    match e {
+        Element::Byte(b) => add_byte(set, b),
+        Element::Range(first, last) => add_range(set, first, last),
+        Element::Class(c) => add_class(set, c),
+    }
+}
+
+// Whether a key is in the set. "Every set says no for 0 and for LF", also a negated one.
+fn has_key(set: &[bool; 256], negated: bool, k: usize) -> bool
+    requires { ⌜ k < 256 ⌝ }
+    ensures { λ r. ⌜ r ≡ hasKey (now (set .entry)) negated k ⌝ }
+{
+    if k == 0 {
+        return false;
+    }
+    if k == 10 {
+        return false;
+    }
+    set[k] != negated
+}
+
+// Puts the states of `bit` into the words of the set's keys.
+pub fn store(set: &[bool; 256], negated: bool, bit: u64, keys: &mut [u64; 256])
+    ensures { λ _. ⌜ now (keys .exit) ≡ mapWith (withKey (now (set .entry)) negated bit) 0 (now (keys .entry)) ⌝ }
+{
+    let mut k = 0;
+    while k < 256 {
+        if has_key(set, negated, k) {
+            keys[k] |= bit;
+        }
+        k += 1;
+    }
+}
+
+// The same for the set of one byte.
+pub fn store_key(b: u8, bit: u64, keys: &mut [u64; 256])
+    ensures { λ _. ⌜ now (keys .exit) ≡ keysWith (plain b) bit (now (keys .entry)) ⌝ }
+{
+    let mut set = [false; 256];
+    add_byte(&mut set, b);
+    store(&set, false, bit, keys);
+}
+
+// The same for `.`, "every key but LF": all bytes but those of an empty set.
+pub fn store_dot(bit: u64, keys: &mut [u64; 256])
+    ensures { λ _. ⌜ now (keys .exit) ≡ keysWith dot bit (now (keys .entry)) ⌝ }
+{
+    let set = [false; 256];
+    store(&set, true, bit, keys);
+}

@@ -1,0 +1,6 @@
+-- Laws.
+pub mod LineLaws
+pub mod Reaching
+pub mod Testing
+pub mod Tallying
+pub mod Answering

@@ -1,0 +1,169 @@
+-- Laws of the count over a plain run: what is known after some of its keys, and what it comes to.
+use Prim.Native.Nat.{ℕ, _+_, _<_, _≤_}
+use native.Mathlib.Omega.{arith}
+use native.Mathlib.Nat.{zero-add}
+use native.Mathlib.Numerals.{add-one}
+use mathlib.Core.Path.{_≡_, refl, sym, ap, _∙_}
+use mathlib.Core.Bool.{Bool, true, false, cond, _&&_}
+use mathlib.Core.List.{List, [], _∷_, _++_, append-nil, append-assoc}
+use lib.Dec.{eqb}
+use lib.ListN.{length, getD, take, drop, drop-of-length-le}
+use lib.Seq.{take-all, take-suc, drop-cons}
+use borrow.Author.Tests.{eqb-true, ne-eqb}
+use Rattle.refusal.specs.declared.Refusal.the-variants.{InvalidKey}
+use Rattle.brackets.specs.Form.{Pattern, member}
+use Rattle.brackets.specs.Sets.{lineKey, isLine}
+use Rattle.pattern.specs.Meaning.{matches}
+use Rattle.pattern.proofs.Moving.{common}
+use Rattle.lines.specs.declared.moves.Closing.{Closing}
+use Rattle.lines.specs.declared.run.RunCount.{RunCount}
+use Rattle.lines.specs.declared.run.Tally.{Tally}
+use Rattle.lines.specs.Lines.{lineEnd, matching}
+use Rattle.refusal.specs.Figures.{answered}
+use Rattle.lines.specs.Answers.{runResult}
+use Rattle.lines.specs.Promises.{Automaton, Advances, AfterKey, CountsRun, tallyAfter, isOpen, reached}
+use Rattle.lines.proofs.LineLaws.{member-first, member-rest, matching-closed, matching-open}
+use Rattle.lines.proofs.Reaching.{reached-none, reached-more, reached-matches}
+use Rattle.lines.proofs.Testing.{key-test, line-more, line-without, member-at}
+
+-- two tallies of closed lines
+same-tally : {x y m n : ℕ} → x ≡ y → m ≡ n → _≡_ {A = Tally} (record { set = x; pending = false; lines = m }) (record { set = y; pending = false; lines = n })
+same-tally e f = rw (e, f)
+
+-- a key more, which is not k
+member-more : (k : ℕ) (w : List ℕ) (c : ℕ) → member k w ≡ false → eqb k c ≡ false → member k (w ++ (c ∷ [])) ≡ false
+unfolding member
+member-more k [] c g h = rw h refl
+member-more k (d ∷ w) c g h = rw (member-first k d w g) (member-more k w c (member-rest k d w g) h)
+
+-- and it makes a line that has a key
+open-more : (w : List ℕ) (c : ℕ) → isOpen (w ++ (c ∷ [])) ≡ true
+open-more [] c = refl
+open-more (d ∷ w) c = refl
+
+-- a line counts at most once, and only if it has a key
+pub at-most-one : (m : Bool) {x : ℕ} → x ≡ cond m 1 0 → x ≤ 1
+at-most-one true e = omega arith
+at-most-one false e = omega arith
+
+pub last-small : (p m : Bool) {x y : ℕ} → x ≡ cond m 1 0 → y ≡ cond p x 0 → y ≤ cond p 1 0
+last-small true m e f = omega (arith, at-most-one m e)
+last-small false m e f = omega arith
+
+-- One more key.
+module _ {keys enter : List ℕ} {c : Closing} {a : Tally} {k : ℕ} where
+  pub after-end : {m : Bool} {x : ℕ} → k ≡ lineEnd → m ≡ common (a .set) (c .accepting) → x ≡ cond m 1 0 → AfterKey keys enter c a k (record { set = 1; pending = false; lines = a .lines + x })
+  unfolding tallyAfter
+  after-end {m} {x} e f g =
+      record {
+        small = omega (arith, at-most-one m g);
+        tallies = λ t h w l i z. rw e (same-tally (reached-none t) (rw (g, f, reached-matches h (a .set) w i l) refl));
+      }
+
+  pub after-other : {y : ℕ} → k < 256 → (k ≡ lineEnd → ⊥) → Advances keys enter c (a .set) k y → AfterKey keys enter c a k (record { set = y; pending = true; lines = a .lines })
+  unfolding tallyAfter Advances
+  after-other {y} b n g =
+      record {
+        small = omega arith;
+        tallies = λ t h w l i z.
+            let no : eqb k lineEnd ≡ false = ne-eqb k lineEnd n in
+            let key : lineKey k ≡ true = sym (key-test k b z) ∙ rw no refl in
+            rw (no, g t h key, i, reached-more t (h .few) w k) refl;
+      }
+
+-- the tally of the first `at` keys of a run
+pub record Tallied (t : Pattern) (run : List ℕ) (at : ℕ) (a : Tally) : Type 0 where
+  pub line : List ℕ
+  pub clean : isLine line ≡ true
+  pub leads : a .set ≡ reached t line
+  pub has-key : a .pending ≡ isOpen line
+  pub count : a .lines + matching t (line ++ drop at run) ≡ matching t run
+
+pub record RunSoFar (keys enter : List ℕ) (c : Closing) (run : List ℕ) (a : Tally) (at : ℕ) : Type 0 where
+  pub inside : at ≤ length run
+  pub small : a .lines + cond (a .pending) 1 0 ≤ at
+  pub clean : member 0 (take at run) ≡ false
+  pub tallied : (t : Pattern) → Automaton t keys enter c → Tallied t run at a
+
+module _ {keys enter : List ℕ} {c : Closing} {run : List ℕ} where
+  pub run-start : RunSoFar keys enter c run (record { set = 1; pending = false; lines = 0 }) 0
+  unfolding member isLine
+  run-start =
+      record {
+        inside = omega arith;
+        small = omega arith;
+        clean = refl;
+        tallied = λ t h. record { line = []; clean = refl; leads = reached-none t; has-key = refl; count = zero-add (matching t run) };
+      }
+
+  module _ {a : Tally} {at : ℕ} (s : RunSoFar keys enter c run a at) where
+    pub run-refused : at < length run → getD run at 0 ≡ 0 → CountsRun keys enter c run (RunCount.Refused InvalidKey)
+    unfolding runResult CountsRun
+    run-refused h e t i = rw (member-at 0 run at h e) refl
+
+    pub run-on : {b : Tally} → at < length run → getD run at 0 < 256 → (getD run at 0 ≡ 0 → ⊥) → AfterKey keys enter c a (getD run at 0) b → RunSoFar keys enter c run b (at + 1)
+    unfolding tallyAfter isLine
+    run-on {b} h i n g =
+        record {
+          inside = omega arith;
+          small = omega (arith, g .small, s .small);
+          clean = rw (add-one at, take-suc run at 0 h) (member-more 0 (take at run) k (s .clean) (ne-eqb 0 k (λ e. n (sym e))));
+          tallied = λ t j. go t j (s .tallied t j) (eqb k lineEnd) refl;
+        }
+      where
+        k : ℕ
+        k = getD run at 0
+
+        rest : drop at run ≡ k ∷ drop (at + 1) run
+        rest = drop-cons run at 0 h ∙ ap (λ (m : ℕ). k ∷ drop m run) (sym (add-one at))
+
+        closed : (t : Pattern) (w : List ℕ) → isLine w ≡ true → k ≡ lineEnd → b .lines ≡ a .lines + cond (matches t w) 1 0 → a .lines + matching t (w ++ drop at run) ≡ matching t run → b .lines + matching t (drop (at + 1) run) ≡ matching t run
+        closed t w l e f r =
+            omega
+            (arith, ap (λ (v : List ℕ). matching t (w ++ v)) (rest ∙ ap (λ (x : ℕ). x ∷ drop (at + 1) run) e), matching-closed t w (drop (at + 1) run) (line-without w lineEnd refl l))
+
+        longer : (t : Pattern) (w : List ℕ) → b .lines ≡ a .lines → a .lines + matching t (w ++ drop at run) ≡ matching t run → b .lines + matching t ((w ++ (k ∷ [])) ++ drop (at + 1) run) ≡ matching t run
+        longer t w f r = rw (append-assoc, f, ← rest) r
+
+        go : (t : Pattern) → Automaton t keys enter c → Tallied t run at a → (x : Bool) → eqb k lineEnd ≡ x → Tallied t run (at + 1) b
+        go t j u true e =
+            let w = u .line in
+            let f : b ≡ record { set = reached t []; pending = false; lines = a .lines + cond (matches t w) 1 0 } = rw e at (g .tallies t j w (u .clean) (u .leads) (ne-eqb k 0 n)) in
+            record {
+              line = [];
+              clean = refl;
+              leads = ap (λ (d : Tally). d .set) f;
+              has-key = ap (λ (d : Tally). d .pending) f;
+              count = closed t w (u .clean) (eqb-true k lineEnd e) (ap (λ (d : Tally). d .lines) f) (u .count);
+            }
+        go t j u false e =
+            let w = u .line in
+            let f : b ≡ record { set = reached t (w ++ (k ∷ [])); pending = true; lines = a .lines } = rw e at (g .tallies t j w (u .clean) (u .leads) (ne-eqb k 0 n)) in
+            record {
+              line = w ++ (k ∷ []);
+              clean = line-more w k (u .clean) (sym (key-test k i (ne-eqb k 0 n)) ∙ rw e refl);
+              leads = ap (λ (d : Tally). d .set) f;
+              has-key = ap (λ (d : Tally). d .pending) f ∙ sym (open-more w k);
+              count = longer t w (ap (λ (d : Tally). d .lines) f) (u .count);
+            }
+
+    pub run-done : {m : Bool} {x y : ℕ} → length run ≤ at → m ≡ common (a .set) (c .accepting) → x ≡ cond m 1 0 → y ≡ cond (a .pending) x 0 → CountsRun keys enter c run (RunCount.Lines (a .lines + y))
+    unfolding runResult CountsRun
+    run-done {m} {x} {y} h e f g t i = rw none (ap answered total)
+      where
+        none : member 0 run ≡ false
+        none = rw (take-all at run h) at (s .clean)
+
+        total : a .lines + y ≡ matching t run
+        total =
+            let u = s .tallied t i in
+            let w = u .line in
+            omega
+            (arith, u .count, ap (λ (v : List ℕ). matching t (w ++ v)) (drop-of-length-le run h), ap (matching t) (append-nil w), matching-open t w (line-without w lineEnd refl (u .clean)), last (u .has-key) (e ∙ reached-matches i (a .set) w (u .leads) (u .clean)))
+          where
+            last : {p q : Bool} → a .pending ≡ p → m ≡ q → y ≡ cond (p && q) 1 0
+            last {p} {q} d k = g ∙ rw (d, f, k) (both p q)
+              where
+                both : (p q : Bool) → _≡_ {A = ℕ} (cond p (cond q 1 0) 0) (cond (p && q) 1 0)
+                both true q = refl
+                both false q = refl

@@ -1,0 +1,33 @@
+-- What each operation of the counter answers.
+use Prim.Native.Nat.{ℕ}
+use mathlib.Core.Bool.{cond, _||_}
+use mathlib.Core.List.{List}
+use Rattle.refusal.specs.declared.Refusal.the-variants.{InvalidKey}
+use Rattle.refusal.specs.Figures.{Figures, answered, refusedFor}
+use Rattle.brackets.specs.Form.{member}
+use Rattle.pattern.specs.Meaning.{matches}
+use Rattle.pattern.specs.Reader.{Read, accepted, refused}
+use Rattle.lines.specs.declared.line.LineTest.{LineTest}
+use Rattle.lines.specs.declared.run.RunCount.{RunCount}
+use Rattle.lines.specs.Lines.{lineEnd, matching}
+
+-- the one-line test: 1 if the line matches, or 0
+abbrev pub lineFigures : LineTest → Figures ℕ
+lineFigures LineTest.Matches = answered 1
+lineFigures LineTest.NoMatch = answered 0
+lineFigures (LineTest.Refused r) = refusedFor r
+
+-- the count over a plain run: how many lines match
+abbrev pub runFigures : RunCount → Figures ℕ
+runFigures (RunCount.Lines n) = answered n
+runFigures (RunCount.Refused r) = refusedFor r
+
+-- "Plain runs and single lines are tested after the pattern": then 5 for a "byte 0 or 10 in the one-line test"
+unfoldable pub lineResult : Read → List ℕ → Figures ℕ
+lineResult (refused r) w = refusedFor r
+lineResult (accepted t) w = cond (member 0 w || member lineEnd w) (refusedFor InvalidKey) (answered (cond (matches t w) 1 0))
+
+-- and for a "byte 0 in a plain run"
+unfoldable pub runResult : Read → List ℕ → Figures ℕ
+runResult (refused r) w = refusedFor r
+runResult (accepted t) w = cond (member 0 w) (refusedFor InvalidKey) (answered (matching t w))

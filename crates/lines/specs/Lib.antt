@@ -1,0 +1,4 @@
+-- Lines.
+pub mod Lines
+pub mod Answers
+pub mod Promises

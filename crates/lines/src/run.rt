@@ -1,0 +1,80 @@
+// The count over a plain run.
+use crate::moves::Closing;
+use crate::moves::LINE_START;
+use crate::moves::advance;
+use crate::moves::closing_of;
+use pattern::Verdict;
+use pattern::read_pattern;
+use refusal::Refusal;
+use stateset::chosen;
+use stateset::meets;
+ghost use Prim.Native.Nat.{_<_, _+_};
+ghost use mathlib.Core.Path.{_≡_};
+ghost use Rattle.pattern.specs.Reader.{readPattern};
+ghost use Rattle.lines.specs.Answers.{runFigures, runResult};
+ghost use Rattle.lines.specs.Promises.{AfterKey, CountsRun};
+
+pub enum RunCount {
+    Lines(u64),
+    Refused(Refusal),
+}
+
+// What is known of a run after some of its keys.
+pub struct Tally {
+    // The states that the keys of the last line lead to.
+    set: u64,
+    // Whether the last line has a key.
+    pending: bool,
+    // How many of the lines before it match.
+    lines: u64,
+}
+
+fn after_key(a: Tally, key: u8, keys: &[u64; 256], enter: &[u64; 32], c: Closing) -> Tally
+    requires { ⌜ a .lines + 1 < 18446744073709551616 ⌝ }
+    ensures { λ r. ⌜ AfterKey (now (keys .entry)) (now (enter .entry)) c a key r ⌝ }
+{
+    if key == 10 {
+        return Tally {
+            set: LINE_START,
+            pending: false,
+            lines: a.lines + chosen(meets(a.set, c.accepting), 1),
+        };
+    }
+    Tally {
+        set: advance(a.set, key, keys, enter, c),
+        pending: true,
+        lines: a.lines,
+    }
+}
+
+fn counted(run: &[u8], keys: &[u64; 256], enter: &[u64; 32], c: Closing) -> RunCount
+    ensures { λ r. ⌜ CountsRun (now (keys .entry)) (now (enter .entry)) c (now (run .entry)) r ⌝ }
+{
+    let mut a = Tally {
+        set: LINE_START,
+        pending: false,
+        lines: 0,
+    };
+    let mut at = 0;
+    while at < run.len() {
+        let key = run[at];
+        if key == 0 {
+            return RunCount::Refused(Refusal::InvalidKey);
+        }
+        a = after_key(a, key, keys, enter, c);
+        at += 1;
+    }
+    RunCount::Lines(a.lines + chosen(a.pending, chosen(meets(a.set, c.accepting), 1)))
+}
+
+// How many lines of a run match a pattern. Refused with 7, 8, 9 for the pattern, then with 5 for a byte 0 in the run.
+pub fn count_run(pattern: &[u8], run: &[u8]) -> RunCount
+    ensures { λ r. ⌜ runFigures r ≡ runResult (readPattern (now (pattern .entry))) (now (run .entry)) ⌝ }
+{
+    let mut keys = [0; 256];
+    let mut enter = [0; 32];
+    match read_pattern(pattern, &mut keys, &mut enter) {
+        Verdict::Refused(r) => RunCount::Refused(r),
+        Verdict::Accepted(a) => counted(run, &keys, &enter, closing_of(a)),
+    }
+}

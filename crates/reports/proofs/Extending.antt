@@ -1,0 +1,278 @@
+-- Laws of the report of a run with one key more.
+use Prim.Native.Nat.{ℕ, _+_, _-_, _%_, _^_, _<_, _≤_}
+use native.Mathlib.Omega.{arith}
+use native.Mathlib.Nat.{mod-eq-of-lt, add-zero}
+use mathlib.Core.Path.{_≡_, refl, sym, ap, _∙_}
+use mathlib.Core.Bool.{Bool, true, false, cond, _&&_}
+use mathlib.Core.List.{List, [], _∷_, _++_, append-nil}
+use lib.Dec.{leb, ltb, eqb}
+use lib.Bits.{bitOr}
+use lib.Pow.{pow-lt}
+use lib.ListN.{getD, set, replicate}
+use borrow.Author.Tests.{ltb-true, ltb-false, leb-true, leb-false, le-leb, lt-leb, eq-eqb, ne-eqb}
+use Rattle.stateset.specs.Set.{bit, word}
+use Rattle.stateset.proofs.Sets.{word-ext, word-one, bit-word, word-high, bits-ext}
+use Rattle.stateset.proofs.Some.{torn, and-snd, tests-ext}
+use Rattle.brackets.specs.Form.{Pattern, atomCount}
+use Rattle.pattern.specs.Meaning.{matches}
+use Rattle.pattern.specs.Moves.{states, accepting, leads, acceptedFrom}
+use Rattle.brackets.specs.Tabled.{tabled}
+use Rattle.pattern.proofs.Moving.{common}
+use Rattle.pattern.proofs.AcceptedLines.{states-match}
+use Rattle.brackets.proofs.Tabled.{tabled-same}
+use Rattle.lines.specs.declared.moves.Closing.{Closing}
+use Rattle.reports.specs.declared.report.Report.{Report}
+use Rattle.lines.specs.Lines.{lineEnd, isRun, countIn}
+use Rattle.reports.specs.Reports.{firstPart, laterParts, lastPart, partsBefore, most, rowsOf, noRows, withoutEnd, withEnd, reportWith, report}
+use Rattle.lines.specs.Promises.{Automaton, Advances, closingOf, moved}
+use Rattle.reports.specs.Promises.{AdvancesRows, Extended, Ended}
+use Rattle.reports.proofs.Joins.{filled-none, filled-more, gathered-more}
+use Rattle.lines.proofs.Reaching.{leads-high, leads-more, leads-accepts}
+use Rattle.reports.proofs.PartLaws.{first-into, later-into, first-kept, later-kept, last-open, before-open, last-closed, before-closed, key-of-line, later-lines, last-line}
+use Rattle.reports.proofs.JoinLaw.{row-of}
+
+-- The states whose rows accept, gathered one by one.
+
+-- whether a row has a state of z
+abbrev pub rowMeets : List ℕ → ℕ → ℕ → Bool
+rowMeets rows z q = common (getD rows q 0) z
+
+-- one row more
+pub row-gathered : (rows : List ℕ) (z q : ℕ) {a o x r : ℕ} {m : Bool} → q < 32 → a ≡ word q (rowMeets rows z) → m ≡ common (getD rows q 0) z → o ≡ 2 ^ q % 2 ^ 64 → x ≡ cond m o 0 → r ≡ bitOr a x → r ≡ word (q + 1) (rowMeets rows z)
+row-gathered rows z q h e f g i j =
+    let low : q < 64 = omega arith in
+    rw (j, i, g, f, e, mod-eq-of-lt (pow-lt low)) (gathered-more (rowMeets rows z) q)
+
+-- Rows that move one by one.
+
+module _ (keys enter : List ℕ) (c : Closing) (rows : List ℕ) (k : ℕ) where
+  -- no row has moved yet
+  pub rows-none : AdvancesRows keys enter c rows 0 k (replicate 32 0)
+  unfolding AdvancesRows
+  rows-none t h l = filled-none (λ q. moved t (getD rows q 0) k)
+
+  -- one row more
+  pub rows-more : (q : ℕ) (r : List ℕ) (x : ℕ) → q < 32 → AdvancesRows keys enter c rows q k r → Advances keys enter c (getD rows q 0) k x → AdvancesRows keys enter c rows (q + 1) k (set r q x)
+  unfolding AdvancesRows Advances
+  rows-more q r x h f g t i l = rw (f t i l, g t i l) (filled-more (λ p. moved t (getD rows p 0) k) q h)
+
+-- A count with a limit.
+
+-- it has gone beyond the largest
+pub fits-never : (closed line : ℕ) {flag : ℕ} → (flag ≡ 1 → ⊥) → false ≡ (eqb flag 1 && leb (closed + line) most)
+fits-never closed line n = rw (ne-eqb _ 1 n) refl
+
+-- it has not
+pub fits-below : (closed line : ℕ) {flag : ℕ} → flag ≡ 1 → closed ≤ most → leb line (most - closed) ≡ (eqb flag 1 && leb (closed + line) most)
+fits-below closed line e l = rw (eq-eqb _ 1 e) (tests-ext (leb line (most - closed)) (leb (closed + line) most) (λ h. le-leb (closed + line) most (omega (arith, leb-true line (most - closed) h))) (λ h. le-leb line (most - closed) (omega (arith, leb-true (closed + line) most h))))
+
+-- then a line more is no more than the largest
+pub fits-sum : (flag closed line : ℕ) {b : Bool} → b ≡ (eqb flag 1 && leb (closed + line) most) → b ≡ true → closed + line ≤ most
+fits-sum flag closed line e f = leb-true (closed + line) most (and-snd (eqb flag 1) (leb (closed + line) most) (sym e ∙ f))
+
+-- What the words of a report come to.
+module _ (t : Pattern) (few : atomCount t ≤ 29) (q : ℕ) (inside : q < states t) where
+  -- a word has no more states than the pattern
+  row-wide : (w : List ℕ) → word (states t) (leads t q w) ≡ word 32 (leads t q w)
+  row-wide w = bits-ext (word (states t) (leads t q w)) (word 32 (leads t q w)) (λ p. go p (ltb p (states t)) refl)
+    where
+      high : (p : ℕ) → states t ≤ p → (b : Bool) → ltb p 32 ≡ b → bit (word 32 (leads t q w)) p ≡ false
+      high p h true e = bit-word 32 (leads t q w) p (ltb-true p 32 e) ∙ leads-high t few q inside w p h
+      high p h false e = word-high 32 (leads t q w) p (ltb-false p 32 e)
+
+      go : (p : ℕ) (b : Bool) → ltb p (states t) ≡ b → bit (word (states t) (leads t q w)) p ≡ bit (word 32 (leads t q w)) p
+      go p true e =
+          let h : p < states t = ltb-true p (states t) e in
+          bit-word (states t) (leads t q w) p h ∙ sym (bit-word 32 (leads t q w) p (omega arith))
+      go p false e =
+          let h : states t ≤ p = ltb-false p (states t) e in
+          word-high (states t) (leads t q w) p h ∙ sym (high p h (ltb p 32) refl)
+
+  -- the keys lead to a state that accepts
+  pub row-accepts : (w : List ℕ) → common (word (states t) (leads t q w)) (closingOf t .accepting) ≡ acceptedFrom t q w
+  row-accepts w = rw (row-wide w) (leads-accepts t few q inside w)
+
+  -- a row moves on one key more
+  pub row-moves : (w : List ℕ) (k : ℕ) → moved t (word (states t) (leads t q w)) k ≡ word (states t) (leads t q (w ++ (k ∷ [])))
+  row-moves w k = rw (row-wide w, row-wide (w ++ (k ∷ []))) (leads-more t few q inside w k)
+
+-- line-start alone
+start-word : (t : Pattern) → 1 ≡ word (states t) (leads t 0 [])
+unfolding leads
+start-word t = word-one (states t) 0 (omega arith)
+
+-- The count of closed lines that a report shows, with x lines more.
+shown-more : (n x : ℕ) → (eqb (cond (leb n most) 1 2) 1 && leb (cond (leb n most) n 0 + x) most) ≡ true → (_≡_ {A = ℕ} 1 (cond (leb (n + x) most) 1 2)) × (cond (leb n most) n 0 + x ≡ cond (leb (n + x) most) (n + x) 0)
+shown-more n x = go (leb n most)
+  where
+    go : (b : Bool) → (eqb (cond b 1 2) 1 && leb (cond b n 0 + x) most) ≡ true → (_≡_ {A = ℕ} 1 (cond (leb (n + x) most) 1 2)) × (cond b n 0 + x ≡ cond (leb (n + x) most) (n + x) 0)
+    go true h = (rw h refl, rw h refl)
+    go false h = torn false h refl
+
+shown-over : (n x : ℕ) → (eqb (cond (leb n most) 1 2) 1 && leb (cond (leb n most) n 0 + x) most) ≡ false → (_≡_ {A = ℕ} 2 (cond (leb (n + x) most) 1 2)) × (_≡_ {A = ℕ} 0 (cond (leb (n + x) most) (n + x) 0))
+shown-over n x = go (leb n most) refl
+  where
+    go : (b : Bool) → leb n most ≡ b → (eqb (cond b 1 2) 1 && leb (cond b n 0 + x) most) ≡ false → (_≡_ {A = ℕ} 2 (cond (leb (n + x) most) 1 2)) × (_≡_ {A = ℕ} 0 (cond (leb (n + x) most) (n + x) 0))
+    go true e h = (rw h refl, rw h refl)
+    go false e h = let over : leb (n + x) most ≡ false = lt-leb (n + x) most (omega (arith, leb-false n most e)) in (rw over refl, rw over refl)
+
+-- a report with a line end has another flag than 0
+flag-of : (n : ℕ) → _≡_ {A = ℕ} (cond (leb n most) 1 2) 0 → ⊥
+flag-of n = go (leb n most)
+  where
+    go : (b : Bool) → _≡_ {A = ℕ} (cond b 1 2) 0 → ⊥
+    go true e = omega arith
+    go false e = omega arith
+
+-- the parts of one key
+end-part : laterParts (lineEnd ∷ []) ≡ [] ∷ []
+unfolding laterParts firstPart
+end-part = refl
+
+end-first : firstPart (lineEnd ∷ []) ≡ []
+unfolding firstPart
+end-first = refl
+
+end-last : lastPart [] [] ≡ []
+unfolding lastPart
+end-last = refl
+
+end-count : (X : List ℕ → Bool) → countIn X (partsBefore [] []) ≡ 0
+unfolding countIn partsBefore
+end-count X = refl
+
+key-part : (k : ℕ) → eqb lineEnd k ≡ false → laterParts (k ∷ []) ≡ []
+unfolding laterParts
+key-part k f = rw f refl
+
+-- The report of a run with one key more, by what the run and the key are.
+module _ (t : Pattern) (w : List ℕ) where
+  -- a first line end
+  first-end : laterParts w ≡ [] → report t (w ++ (lineEnd ∷ [])) ≡ record { s = states t; rows = noRows; flag = 1; heads = word (states t) (λ q. acceptedFrom t q w); closed = 0; tail = 1 }
+  unfolding report laterParts firstPart lastPart partsBefore countIn
+  first-end e = rw (later-into w (lineEnd ∷ []) e, first-into w (lineEnd ∷ []) e, append-nil w, ← start-word t) refl
+
+  -- a key of the first line
+  first-on : (k : ℕ) → eqb lineEnd k ≡ false → laterParts w ≡ [] → report t (w ++ (k ∷ [])) ≡ withoutEnd (states t) (λ q p. leads t q (w ++ (k ∷ [])) p)
+  unfolding report laterParts
+  first-on k f e = rw (later-into w (k ∷ []) e, f) refl
+
+  module _ {l : List ℕ} {ls : List (List ℕ)} (e : laterParts w ≡ l ∷ ls) where
+    -- a later line end
+    later-end : report t (w ++ (lineEnd ∷ [])) ≡ withEnd (states t) (λ q. acceptedFrom t q (firstPart w)) (countIn (matches t) (partsBefore l ls) + cond (matches t (lastPart l ls)) 1 0) (leads t 0 [])
+    unfolding report
+    later-end =
+        let v = lineEnd ∷ [] in
+        rw (later-kept w v e, first-kept w v e, before-closed l ls v (matches t) end-part, last-closed l ls v end-part, end-last, end-first, end-count (matches t), append-nil (lastPart l ls), add-zero) refl
+
+    -- a key of a later line
+    later-on : (k : ℕ) → eqb lineEnd k ≡ false → report t (w ++ (k ∷ [])) ≡ withEnd (states t) (λ q. acceptedFrom t q (firstPart w)) (countIn (matches t) (partsBefore l ls)) (leads t 0 (lastPart l ls ++ (k ∷ [])))
+    unfolding report
+    later-on k f =
+        let v = k ∷ [] in
+        rw (later-kept w v e, first-kept w v e, before-open l ls v (matches t) (key-part k f), last-open l ls v (key-part k f)) refl
+
+-- two reports with the same words
+same-report : {s s' : ℕ} {rows rows' : List ℕ} {flag flag' heads heads' closed closed' tail tail' : ℕ} → s ≡ s' → rows ≡ rows' → flag ≡ flag' → heads ≡ heads' → closed ≡ closed' → tail ≡ tail' →
+    _≡_ {A = Report} (record { s = s; rows = rows; flag = flag; heads = heads; closed = closed; tail = tail }) (record { s = s'; rows = rows'; flag = flag'; heads = heads'; closed = closed'; tail = tail' })
+same-report e f g h i j = rw (e, f, g, h, i, j) refl
+
+-- One line end more.
+module _ (c : Closing) (a : Report) where
+  -- the first
+  pub ended-first : {h : ℕ} → a .flag ≡ 0 → h ≡ word (a .s) (rowMeets (a .rows) (c .accepting)) → Ended c a (record { s = a .s; rows = noRows; flag = 1; heads = h; closed = 0; tail = 1 })
+  unfolding Ended report
+  ended-first {h} z e keys enter = record { size = refl; extends = λ t m w r k f. go t m w (laterParts w) refl f }
+    where
+      heads : (t : Pattern) → Automaton t keys enter c → (w : List ℕ) → a ≡ withoutEnd (states t) (λ q p. leads t q w p) → h ≡ word (states t) (λ q. acceptedFrom t q w)
+      heads t m w f =
+          let few = m .few in
+          e
+          ∙ rw (f, m .closing)
+          (word-ext (states t) (rowMeets (rowsOf (states t) (λ q p. leads t q w p)) (closingOf t .accepting)) (λ q. acceptedFrom t q w)
+          (λ q l. rw (row-of (states t) (λ q p. leads t q w p) q l (omega arith)) (row-accepts t few q l w)))
+
+      go : (t : Pattern) → Automaton t keys enter c → (w : List ℕ) (ls : List (List ℕ)) → laterParts w ≡ ls → a ≡ reportWith t w ls → record { s = a .s; rows = noRows; flag = 1; heads = h; closed = 0; tail = 1 } ≡ report t (w ++ (lineEnd ∷ []))
+      go t m w [] i f = same-report (ap (λ (b : Report). b .s) f) refl refl (heads t m w f) refl refl ∙ sym (first-end t w i)
+      go t m w (l ∷ ls) i f = absurd (flag-of (countIn (matches t) (partsBefore l ls)) (sym (ap (λ (b : Report). b .flag) f) ∙ z))
+
+  module _ {m : Bool} {x : ℕ} (e : m ≡ common (a .tail) (c .accepting)) (f : x ≡ cond m 1 0) where
+    -- the line that is closed
+    line-closed : {t : Pattern} {keys enter : List ℕ} → Automaton t keys enter c → (w l : List ℕ) (ls : List (List ℕ)) → isRun w ≡ true → laterParts w ≡ l ∷ ls → a ≡ reportWith t w (l ∷ ls) → x ≡ cond (matches t (lastPart l ls)) 1 0
+    line-closed {t} h w l ls r i j =
+        rw (f, e, ap (λ (b : Report). b .tail) j, h .closing, row-accepts t (h .few) 0 (omega arith) (lastPart l ls), states-match t (lastPart l ls) (last-line l ls (rw i at (later-lines w r)))) refl
+
+    -- the report then
+    ended-as : {t : Pattern} {keys enter : List ℕ} → Automaton t keys enter c → (w l : List ℕ) (ls : List (List ℕ)) → isRun w ≡ true → laterParts w ≡ l ∷ ls → a ≡ reportWith t w (l ∷ ls) → report t (w ++ (lineEnd ∷ [])) ≡ withEnd (states t) (λ q. acceptedFrom t q (firstPart w)) (countIn (matches t) (partsBefore l ls) + x) (leads t 0 [])
+    ended-as {t} h w l ls r i j = rw (line-closed h w l ls r i j) (later-end t w i)
+
+    -- another, while the count fits
+    pub ended-more : {b : Bool} → (a .flag ≡ 0 → ⊥) → b ≡ (eqb (a .flag) 1 && leb (a .closed + x) most) → b ≡ true → Ended c a (record { s = a .s; rows = a .rows; flag = 1; heads = a .heads; closed = a .closed + x; tail = 1 })
+    unfolding Ended report
+    ended-more z d y keys enter = record { size = refl; extends = λ t h w r k i. go t h w r (laterParts w) refl i }
+      where
+        go : (t : Pattern) → Automaton t keys enter c → (w : List ℕ) → isRun w ≡ true → (ls : List (List ℕ)) → laterParts w ≡ ls → a ≡ reportWith t w ls → record { s = a .s; rows = a .rows; flag = 1; heads = a .heads; closed = a .closed + x; tail = 1 } ≡ report t (w ++ (lineEnd ∷ []))
+        go t h w r [] i j = absurd (z (ap (λ (b : Report). b .flag) j))
+        go t h w r (l ∷ ls) i j =
+            let both = shown-more (countIn (matches t) (partsBefore l ls)) x (rw j at (sym d ∙ y)) in
+            same-report (ap (λ (b : Report). b .s) j) (ap (λ (b : Report). b .rows) j) (both .0) (ap (λ (b : Report). b .heads) j) (ap (λ (b : Report). b .closed + x) j ∙ both .1) (start-word t)
+            ∙ sym (ended-as h w l ls r i j)
+
+    -- another, beyond the largest count
+    pub ended-over : {b : Bool} → (a .flag ≡ 0 → ⊥) → b ≡ (eqb (a .flag) 1 && leb (a .closed + x) most) → b ≡ false → Ended c a (record { s = a .s; rows = a .rows; flag = 2; heads = a .heads; closed = 0; tail = 1 })
+    unfolding Ended report
+    ended-over z d y keys enter = record { size = refl; extends = λ t h w r k i. go t h w r (laterParts w) refl i }
+      where
+        go : (t : Pattern) → Automaton t keys enter c → (w : List ℕ) → isRun w ≡ true → (ls : List (List ℕ)) → laterParts w ≡ ls → a ≡ reportWith t w ls → record { s = a .s; rows = a .rows; flag = 2; heads = a .heads; closed = 0; tail = 1 } ≡ report t (w ++ (lineEnd ∷ []))
+        go t h w r [] i j = absurd (z (ap (λ (b : Report). b .flag) j))
+        go t h w r (l ∷ ls) i j =
+            let both = shown-over (countIn (matches t) (partsBefore l ls)) x (rw j at (sym d ∙ y)) in
+            same-report (ap (λ (b : Report). b .s) j) (ap (λ (b : Report). b .rows) j) (both .0) (ap (λ (b : Report). b .heads) j) (both .1) (start-word t)
+            ∙ sym (ended-as h w l ls r i j)
+
+-- One key more.
+module _ {keys enter : List ℕ} {c : Closing} {a : Report} {k : ℕ} where
+  -- a line end
+  pub extended-end : {b : Report} → k ≡ lineEnd → Ended c a b → Extended keys enter c a k b
+  unfolding Ended
+  extended-end e f = rw e (f keys enter)
+
+  -- a key of a later line
+  pub extended-tail : {y : ℕ} → (k ≡ lineEnd → ⊥) → (a .flag ≡ 0 → ⊥) → Advances keys enter c (a .tail) k y → Extended keys enter c a k (record { s = a .s; rows = a .rows; flag = a .flag; heads = a .heads; closed = a .closed; tail = y })
+  unfolding Advances report
+  extended-tail {y} n z g = record { size = refl; extends = λ t h w r i e. go t h w i (laterParts w) refl e }
+    where
+      other : eqb lineEnd k ≡ false
+      other = ne-eqb lineEnd k (λ e. n (sym e))
+
+      go : (t : Pattern) → Automaton t keys enter c → (w : List ℕ) → (leb 1 k && leb k 255) ≡ true → (ls : List (List ℕ)) → laterParts w ≡ ls → a ≡ reportWith t w ls → record { s = a .s; rows = a .rows; flag = a .flag; heads = a .heads; closed = a .closed; tail = y } ≡ report t (w ++ (k ∷ []))
+      go t h w i [] j e = absurd (z (ap (λ (b : Report). b .flag) e))
+      go t h w i (l ∷ ls) j e =
+          same-report (ap (λ (b : Report). b .s) e) (ap (λ (b : Report). b .rows) e) (ap (λ (b : Report). b .flag) e) (ap (λ (b : Report). b .heads) e) (ap (λ (b : Report). b .closed) e)
+          (g t h (key-of-line k i other) ∙ rw (ap (λ (b : Report). b .tail) e) (row-moves t (h .few) 0 (omega arith) (lastPart l ls) k))
+          ∙ sym (later-on t w j k other)
+
+  -- a key of the first line
+  pub extended-rows : {r : List ℕ} → (k ≡ lineEnd → ⊥) → a .flag ≡ 0 → AdvancesRows keys enter c (a .rows) (a .s) k r → Extended keys enter c a k (record { s = a .s; rows = r; flag = 0; heads = 0; closed = 0; tail = 0 })
+  unfolding AdvancesRows report
+  extended-rows {r} n z g = record { size = refl; extends = λ t h w u i e. go t h w i (laterParts w) refl e }
+    where
+      other : eqb lineEnd k ≡ false
+      other = ne-eqb lineEnd k (λ e. n (sym e))
+
+      rows : (t : Pattern) → atomCount t ≤ 29 → (w : List ℕ) → tabled (λ q. cond (ltb q (states t)) (moved t (getD (rowsOf (states t) (λ q p. leads t q w p)) q 0) k) 0) 32 0 ≡ rowsOf (states t) (λ q p. leads t q (w ++ (k ∷ [])) p)
+      rows t few w =
+          tabled-same (λ q. cond (ltb q (states t)) (moved t (getD (rowsOf (states t) (λ q p. leads t q w p)) q 0) k) 0) (λ q. cond (ltb q (states t)) (word (states t) (λ p. leads t q (w ++ (k ∷ [])) p)) 0) 32 0
+          (λ q l m. each q (ltb q (states t)) refl)
+        where
+          each : (q : ℕ) (b : Bool) → ltb q (states t) ≡ b → cond b (moved t (getD (rowsOf (states t) (λ q p. leads t q w p)) q 0) k) 0 ≡ cond b (word (states t) (λ p. leads t q (w ++ (k ∷ [])) p)) 0
+          each q true e =
+              let l : q < states t = ltb-true q (states t) e in
+              rw (row-of (states t) (λ q p. leads t q w p) q l (omega arith)) (row-moves t few q l w k)
+          each q false e = refl
+
+      go : (t : Pattern) → Automaton t keys enter c → (w : List ℕ) → (leb 1 k && leb k 255) ≡ true → (ls : List (List ℕ)) → laterParts w ≡ ls → a ≡ reportWith t w ls → record { s = a .s; rows = r; flag = 0; heads = 0; closed = 0; tail = 0 } ≡ report t (w ++ (k ∷ []))
+      go t h w i [] j e =
+          same-report (ap (λ (b : Report). b .s) e) (g t h (key-of-line k i other) ∙ rw e (rows t (h .few) w)) refl refl refl refl
+          ∙ sym (first-on t w k other j)
+      go t h w i (l ∷ ls) j e = absurd (flag-of (countIn (matches t) (partsBefore l ls)) (sym (ap (λ (b : Report). b .flag) e) ∙ z))

@@ -1,0 +1,285 @@
+-- Laws of joining reports.
+use Prim.Native.Nat.{ℕ, zero, suc, _+_, _-_, _*_, _%_, _^_, _<_, _≤_}
+use native.Mathlib.Omega.{arith}
+use native.Mathlib.Nat.{lt-of-lt-of-le, mod-lt, mod-eq-of-lt}
+use mathlib.Core.Path.{_≡_, refl, sym, ap, _∙_}
+use mathlib.Core.Bool.{Bool, true, false, not, cond, _&&_, _||_, or-false, and-false}
+use mathlib.Core.List.{List}
+use lib.Dec.{eqb, leb, ltb}
+use lib.Pow.{pow-lt, pow-pos}
+use lib.ListN.{length, getD, set, replicate, length-set, List·getD-eq-default}
+use lib.Seq.{ext-getD, getD-set-same, getD-set-other}
+use lib.Bits.{bitAnd, bitOr, or-lt, and-mask}
+use borrow.Author.Tests.{ltb-true, ltb-false, lt-ltb, le-ltb, leb-true, leb-false, le-leb, lt-leb, eqb-true, eqb-false, eq-eqb, ne-eqb, not-true, not-false}
+use Rattle.stateset.specs.Set.{bit, word, anyBelow, imageOf}
+use Rattle.stateset.proofs.Sets.{bit-zero, bit-or, bit-mod, bit-word, bit-chosen, word-ext, word-high, word-lt, word-unique}
+use Rattle.stateset.proofs.Some.{and-snd, any-ext, any-widen}
+use Rattle.stateset.proofs.Images.{bit-image}
+use Rattle.brackets.specs.Tabled.{tabled}
+use Rattle.brackets.proofs.Tabled.{tabled-length, tabled-at, tabled-same}
+use Rattle.reports.specs.declared.joining.Closed.{Closed}
+use Rattle.reports.specs.declared.report.Report.{Report}
+use Rattle.reports.specs.Reports.{most, common, rowsOf, alike, joinedReports, noReport}
+use Rattle.reports.specs.Answers.{joinResult}
+use Rattle.reports.specs.Joins.{onwardBy, closedBy, closedOf, Adds, withLines, wholeJoin, openingJoin, endingJoin, acrossJoin}
+
+-- Sets of states below s.
+
+-- a set of one state of a pattern, by a shift
+pub shifted : (s : ℕ) → s ≤ 32 → 1 * 2 ^ s % 2 ^ 64 ≡ 2 ^ s
+shifted s h = let l : 2 ^ s < 2 ^ 64 = pow-lt {i = s} {j = 64} (omega arith) in let e : 1 * 2 ^ s ≡ 2 ^ s = omega arith in rw e (mod-eq-of-lt l)
+
+-- a shift leaves more than nothing
+pub shifted-some : (s : ℕ) → s ≤ 32 → 1 ≤ 1 * 2 ^ s % 2 ^ 64
+shifted-some s h = rw (shifted s h) (pow-pos s)
+
+-- a mask keeps the members below s
+pub masked : (s x : ℕ) → s ≤ 32 → bitAnd x (1 * 2 ^ s % 2 ^ 64 - 1) ≡ word s (bit x)
+masked s x h = rw (shifted s h, and-mask x s) (word-unique s (x % 2 ^ s) (bit x) (mod-lt x (pow-pos s)) (λ p l. bit-mod s x p l))
+
+module _ (s x : ℕ) (h : s ≤ 32) where
+  -- the states that rows reach from those of x below s
+  pub onward-made : (rows : List ℕ) {w i r : ℕ} → w ≡ word s (bit x) → i ≡ imageOf rows w → r ≡ word s (bit i) → r ≡ word s (onwardBy s x rows)
+  onward-made rows w i r = rw (r, i, w) (word-ext s (bit (imageOf rows (word s (bit x)))) (onwardBy s x rows) same)
+    where
+      step : ℕ → ℕ → Bool
+      step p q = bit (word s (bit x)) q && bit (getD rows q 0) p
+
+      far : (p : ℕ) (b : Bool) → ltb (length rows) s ≡ b → anyBelow (length rows) (step p) ≡ anyBelow s (step p)
+      far p true e =
+          let l = ltb-true (length rows) s e in
+          sym (any-widen (length rows) s (step p) (omega arith) (λ q k. rw (List·getD-eq-default rows 0 k, bit-zero p) (and-false (bit (word s (bit x)) q))))
+      far p false e = any-widen s (length rows) (step p) (ltb-false (length rows) s e) (λ q k. rw (word-high s (bit x) q k))
+
+      same : (p : ℕ) → p < s → bit (imageOf rows (word s (bit x))) p ≡ onwardBy s x rows p
+      same p g =
+          bit-image rows (word s (bit x)) p (omega arith)
+          ∙ far p (ltb (length rows) s) refl
+          ∙ any-ext s (step p) (λ q. bit x q && bit (getD rows q 0) p) (λ q k. rw (bit-word s (bit x) q k))
+
+  -- two sets have a state below s in common
+  pub meeting-made : (y : ℕ) {w : ℕ} {r : Bool} → w ≡ word s (bit x) → r ≡ anyBelow 64 (λ p. bit w p && bit y p) → r ≡ common s x y
+  meeting-made y w r =
+      rw (r, w)
+      (any-widen s 64 (λ q. bit (word s (bit x)) q && bit y q) (omega arith) (λ q k. rw (word-high s (bit x) q k))
+      ∙ any-ext s (λ q. bit (word s (bit x)) q && bit y q) (λ q. bit x q && bit y q) (λ q k. rw (bit-word s (bit x) q k)))
+
+-- Rows, one after the other.
+
+-- the first q of 32 entries as f gives them, and zeros
+abbrev pub filled : (ℕ → ℕ) → ℕ → List ℕ
+filled f q = tabled (λ k. cond (ltb k q) (f k) 0) 32 0
+
+tabled-zeros : (n i : ℕ) → tabled (λ k. 0) n i ≡ replicate n 0
+unfolding tabled
+tabled-zeros zero i = refl
+tabled-zeros (suc n) i = rw (tabled-zeros n (suc i)) refl
+
+-- no entry yet
+pub filled-none : (f : ℕ → ℕ) → replicate 32 0 ≡ filled f 0
+filled-none f =
+    sym (tabled-same (λ k. cond (ltb k 0) (f k) 0) (λ k. 0) 32 0 (λ k g h. rw (le-ltb k 0 (omega arith))) ∙ tabled-zeros 32 0)
+
+-- one entry more
+pub filled-more : (f : ℕ → ℕ) (q : ℕ) → q < 32 → set (filled f q) q (f q) ≡ filled f (q + 1)
+filled-more f q h =
+    ext-getD 0 (set (filled f q) q (f q)) (filled f (q + 1))
+    (length-set (filled f q) q (f q) ∙ long q ∙ sym (long (q + 1)))
+    (λ i l. at i (omega (arith, length-set (filled f q) q (f q), long q)) (eqb i q) refl)
+  where
+    long : (q : ℕ) → length (filled f q) ≡ 32
+    long q = tabled-length (λ k. cond (ltb k q) (f k) 0) 32 0
+
+    entry : (q i : ℕ) → i < 32 → getD (filled f q) i 0 ≡ cond (ltb i q) (f i) 0
+    entry q i l = tabled-at (λ k. cond (ltb k q) (f k) 0) 32 i l
+
+    same : (i : ℕ) (b : Bool) → ltb i q ≡ b → (i ≡ q → ⊥) → ltb i (q + 1) ≡ b
+    same i true e n = let g = ltb-true i q e in lt-ltb i (q + 1) (omega arith)
+    same i false e n = let g = ltb-false i q e in le-ltb i (q + 1) (omega (arith, apart i n g))
+      where
+        apart : (i : ℕ) → (i ≡ q → ⊥) → q ≤ i → q < i
+        apart i n g = omega arith
+
+    at : (i : ℕ) → i < 32 → (b : Bool) → eqb i q ≡ b → getD (set (filled f q) q (f q)) i 0 ≡ getD (filled f (q + 1)) i 0
+    at i l true e =
+        let s : i ≡ q = eqb-true i q e in
+        rw (s, entry (q + 1) q h, lt-ltb q (q + 1) (omega arith)) (getD-set-same (filled f q) q (f q) 0 (omega (arith, long q)))
+    at i l false e =
+        let n = eqb-false i q e in
+        getD-set-other (filled f q) q i (f q) 0 n
+        ∙ entry q i l
+        ∙ ap (λ (b : Bool). cond b (f i) 0) (sym (same i (ltb i q) refl n))
+        ∙ sym (entry (q + 1) i l)
+
+-- A set, one member after the other.
+
+-- no member yet
+pub gathered-none : (X : ℕ → Bool) → 0 ≡ word 0 X
+unfolding word
+gathered-none X = refl
+
+-- one member more, if it has X
+pub gathered-more : (X : ℕ → Bool) (q : ℕ) → bitOr (word q X) (cond (X q) (2 ^ q) 0) ≡ word (q + 1) X
+gathered-more X q =
+    word-unique (q + 1) (bitOr (word q X) (cond (X q) (2 ^ q) 0)) X
+    (or-lt (q + 1) (word q X) (cond (X q) (2 ^ q) 0) (lt-of-lt-of-le (word-lt q X) (omega (arith, up))) (one (X q)))
+    (λ p l. bit-or (word q X) (cond (X q) (2 ^ q) 0) p ∙ rw (bit-chosen (X q) q p) (at p l (ltb p q) refl))
+  where
+    up : 2 ^ q < 2 ^ (q + 1)
+    up = pow-lt (omega arith)
+
+    one : (b : Bool) → cond b (2 ^ q) 0 < 2 ^ (q + 1)
+    one true = up
+    one false = pow-pos (q + 1)
+
+    and-one : (b : Bool) → (b && true) ≡ b
+    and-one true = refl
+    and-one false = refl
+
+    at : (p : ℕ) → p < q + 1 → (b : Bool) → ltb p q ≡ b → (bit (word q X) p || (X q && eqb q p)) ≡ X p
+    at p l true e =
+        let g = ltb-true p q e in
+        rw (bit-word q X p g, ne-eqb q p (λ i. omega arith), and-false) (or-false (X p))
+    at p l false e =
+        let s : p ≡ q = omega (arith, ltb-false p q e) in
+        rw (s, word-high q X q (omega arith), eq-eqb q q refl) (and-one (X q))
+
+-- the next number, from what each word of the step is
+pub gathered-next : (X : ℕ → Bool) (q : ℕ) {w v r : ℕ} {b : Bool} → q < 32 → w ≡ word q X → b ≡ X q → v ≡ cond b (1 * 2 ^ q % 2 ^ 64) 0 → r ≡ bitOr w v → r ≡ word (q + 1) X
+gathered-next X q h w b v r = rw (r, v, b, w, shifted q (omega arith)) (gathered-more X q)
+
+-- Closed lines.
+
+-- a count within the largest, and one beyond it
+few : (n : ℕ) → n ≤ most → closedOf n ≡ record { flag = 1; lines = n }
+few n h = rw (le-leb n most h) refl
+
+many : (n : ℕ) → most < n → closedOf n ≡ record { flag = 2; lines = 0 }
+many n h = rw (lt-leb n most h) refl
+
+-- a report's closed lines, where they are counted
+pub closed-few : (flag lines : ℕ) → flag < 2 → lines < 2 ^ 64 → record { flag = 1; lines = lines } ≡ closedOf (closedBy flag lines)
+closed-few flag lines h l = rw (lt-leb 2 flag h) (sym (few lines (omega arith)))
+
+-- and where they are not
+pub closed-many : (flag lines : ℕ) → 2 ≤ flag → record { flag = 2; lines = 0 } ≡ closedOf (closedBy flag lines)
+closed-many flag lines h = rw (le-leb 2 flag h) (sym (many (suc most) (omega arith)))
+
+-- what a count is known to be by its flag
+record Counted (a : Closed) (m : ℕ) : Type 0 where
+  small : m ≤ most
+  same : a .lines ≡ m
+
+counted : (a : Closed) (m : ℕ) → a ≡ closedOf m → a .flag ≡ 1 → Counted a m
+counted a m e f = go (leb m most) refl
+  where
+    go : (b : Bool) → leb m most ≡ b → Counted a m
+    go true i = record { small = leb-true m most i; same = ap (λ (c : Closed). c .lines) (e ∙ few m (leb-true m most i)) }
+    go false i = absurd (omega (arith, f, ap (λ (c : Closed). c .flag) (e ∙ many m (leb-false m most i))))
+
+beyond : (a : Closed) (m : ℕ) → a ≡ closedOf m → (a .flag ≡ 1 → ⊥) → most < m
+beyond a m e f = go (leb m most) refl
+  where
+    go : (b : Bool) → leb m most ≡ b → most < m
+    go true i = absurd (f (ap (λ (c : Closed). c .flag) (e ∙ few m (leb-true m most i))))
+    go false i = leb-false m most i
+
+module _ (a b : Closed) where
+  -- a left count beyond the largest stays so
+  pub adds-left : (a .flag ≡ 1 → ⊥) → Adds a b a
+  unfolding Adds
+  adds-left f m n e g = let h = beyond a m e f in e ∙ many m h ∙ sym (many (m + n) (omega arith))
+
+  -- the right count, too
+  pub adds-right : (b .flag ≡ 1 → ⊥) → Adds a b b
+  unfolding Adds
+  adds-right f m n e g = let h = beyond b n g f in g ∙ many n h ∙ sym (many (m + n) (omega arith))
+
+  module _ (f : a .flag ≡ 1) (g : b .flag ≡ 1) where
+    -- a sum beyond the largest count
+    pub adds-over : most - a .lines < b .lines → Adds a b (record { flag = 2; lines = 0 })
+    unfolding Adds
+    adds-over h m n d e = let x = counted a m d f in let y = counted b n e g in sym (many (m + n) (omega (arith, x .small, x .same, y .same)))
+
+    -- a sum that fits
+    pub adds-fits : b .lines ≤ most - a .lines → a .lines < 2 ^ 64 → Adds a b (record { flag = 1; lines = a .lines + b .lines })
+    unfolding Adds
+    adds-fits h l m n d e =
+        let x = counted a m d f in
+        let y = counted b n e g in
+        rw (x .same, y .same) (sym (few (m + n) (omega (arith, x .same, y .same))))
+
+-- Reports.
+
+module _ (a b : Report) where
+  -- two reports without a line end
+  pub whole-made : {rows : List ℕ} → rows ≡ rowsOf (a .s) (λ q. onwardBy (a .s) (getD (a .rows) q 0) (b .rows))
+      → record { s = a .s; rows = rows; flag = 0; heads = 0; closed = 0; tail = 0 } ≡ wholeJoin a b
+  whole-made e = rw e refl
+
+  -- one without, then one with
+  pub opening-made : {h t : ℕ} {c : Closed} {r : Report} → h ≡ word (a .s) (λ q. common (a .s) (getD (a .rows) q 0) (b .heads)) → c ≡ closedOf (closedBy (b .flag) (b .closed))
+      → t ≡ word (a .s) (bit (b .tail)) → r ≡ withLines (a .s) h c t → r ≡ openingJoin a b
+  opening-made h c t r = rw (r, t, c, h) refl
+
+  -- one with, then one without
+  pub ending-made : {h t : ℕ} {c : Closed} {r : Report} → t ≡ word (a .s) (onwardBy (a .s) (a .tail) (b .rows)) → h ≡ word (a .s) (bit (a .heads)) → c ≡ closedOf (closedBy (a .flag) (a .closed))
+      → r ≡ withLines (a .s) h c t → r ≡ endingJoin a b
+  ending-made t h c r = rw (r, t, c, h) refl
+
+  -- two with
+  pub across-made : (e g : Closed) {m : Bool} {n h t : ℕ} {c d f : Closed} {r : Report} → m ≡ common (a .s) (a .tail) (b .heads) → n ≡ cond m 1 0
+      → c ≡ closedOf (closedBy (a .flag) (a .closed)) → d ≡ closedOf (closedBy (b .flag) (b .closed)) → Adds c d e → f ≡ closedOf (closedBy 1 n) → Adds e f g
+      → h ≡ word (a .s) (bit (a .heads)) → t ≡ word (a .s) (bit (b .tail)) → r ≡ withLines (a .s) h g t → r ≡ acrossJoin a b
+  unfolding Adds
+  across-made e g {n = n} m i c d p f q h t r =
+      let x = closedBy (a .flag) (a .closed) in
+      let y = closedBy (b .flag) (b .closed) in
+      rw (r, t, h, q (x + y) n (p x y c d) f, i, m) refl
+
+  -- neither flag is set
+  pub joined-whole : {r : Report} → a .flag ≡ 0 → b .flag ≡ 0 → r ≡ wholeJoin a b → r ≡ joinedReports a b
+  unfolding joinedReports
+  joined-whole f g r = rw (eq-eqb (a .flag) 0 f, eq-eqb (b .flag) 0 g) r
+
+  -- the right flag alone is set
+  pub joined-opening : {r : Report} → a .flag ≡ 0 → (b .flag ≡ 0 → ⊥) → r ≡ openingJoin a b → r ≡ joinedReports a b
+  unfolding joinedReports
+  joined-opening f g r = rw (eq-eqb (a .flag) 0 f, ne-eqb (b .flag) 0 g) r
+
+  -- the left flag alone is set
+  pub joined-ending : {r : Report} → (a .flag ≡ 0 → ⊥) → b .flag ≡ 0 → r ≡ endingJoin a b → r ≡ joinedReports a b
+  unfolding joinedReports
+  joined-ending f g r = rw (ne-eqb (a .flag) 0 f, eq-eqb (b .flag) 0 g) r
+
+  -- both flags are set
+  pub joined-across : {r : Report} → (a .flag ≡ 0 → ⊥) → (b .flag ≡ 0 → ⊥) → r ≡ acrossJoin a b → r ≡ joinedReports a b
+  unfolding joinedReports
+  joined-across f g r = rw (ne-eqb (a .flag) 0 f, ne-eqb (b .flag) 0 g) r
+
+  -- reports of one size are joined
+  pub join-made : {t : Bool} {r : Report} → t ≡ alike a b → not t ≡ false → r ≡ joinedReports a b → record { refused = 0; report = r } ≡ joinResult a b
+  join-made {t = u} t e r = rw (← t, not-false u e, r) refl
+
+  -- reports of sizes that differ, or of no pattern's size, are refused
+  pub join-refused : {t : Bool} {n : ℕ} → t ≡ alike a b → not t ≡ true → n ≡ 13 → record { refused = n; report = noReport } ≡ joinResult a b
+  join-refused {t = u} t e n = rw (← t, not-true u e, n) refl
+
+-- The numbers of states.
+
+module _ (s t : ℕ) where
+  -- two sizes that differ
+  pub sizes-differ : (s ≡ t → ⊥) → false ≡ (eqb s t && (leb 3 s && leb s 32))
+  sizes-differ f = rw (ne-eqb s t f) refl
+
+  -- a size under the three fixed states
+  pub sizes-low : s ≡ t → s < 3 → false ≡ (eqb s t && (leb 3 s && leb s 32))
+  sizes-low e h = rw (eq-eqb s t e, lt-leb 3 s h) refl
+
+  -- a size that only the upper limit is left to tell
+  pub sizes-high : s ≡ t → 3 ≤ s → leb s 32 ≡ (eqb s t && (leb 3 s && leb s 32))
+  sizes-high e h = rw (eq-eqb s t e, le-leb 3 s h) refl
+
+  -- a size that is accepted is at most 32
+  pub sizes-fit : {b : Bool} → b ≡ (eqb s t && (leb 3 s && leb s 32)) → not b ≡ false → s ≤ 32
+  sizes-fit {b = u} b e = leb-true s 32 (and-snd (leb 3 s) (leb s 32) (and-snd (eqb s t) (leb 3 s && leb s 32) (sym b ∙ not-false u e)))

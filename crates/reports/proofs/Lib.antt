@@ -1,0 +1,9 @@
+-- Laws.
+pub mod Joins
+pub mod PartLaws
+pub mod JoinLaw
+pub mod WordLaws
+pub mod TotalLaws
+pub mod Extending
+pub mod ReportLaws
+pub mod StoredLaws

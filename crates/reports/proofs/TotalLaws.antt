@@ -1,0 +1,198 @@
+-- The count of a run from its report.
+use Prim.Native.Nat.{ℕ, _+_, _-_, _<_, _≤_}
+use native.Mathlib.Omega.{arith}
+use native.Mathlib.Nat.{zero-add, add-assoc}
+use mathlib.Core.Path.{_≡_, refl, sym, ap, _∙_}
+use mathlib.Core.Bool.{Bool, true, false, not, cond, _&&_, and-comm, false≢true}
+use mathlib.Core.List.{List, [], _∷_}
+use lib.Dec.{leb, eqb}
+use lib.ListN.{getD}
+use borrow.Author.Tests.{not-true, not-false, eq-eqb, le-leb, lt-leb, leb-true, leb-false}
+use Rattle.stateset.specs.Set.{bit, word}
+use Rattle.stateset.proofs.Sets.{bit-word, bit-one}
+use Rattle.stateset.proofs.Some.{any-ext, any-at}
+use Rattle.brackets.specs.Form.{Pattern, atomCount}
+use Rattle.brackets.specs.Sets.{isLine}
+use Rattle.pattern.specs.Moves.{states, leads, acceptedFrom}
+use Rattle.pattern.proofs.Moving.{common}
+use Rattle.pattern.proofs.AcceptedLines.{states-match}
+use Rattle.pattern.proofs.Leading.{leads-start}
+use Rattle.pattern.specs.Meaning.{matches}
+use Rattle.lines.specs.declared.moves.Closing.{Closing}
+use Rattle.reports.specs.declared.report.Report.{Report}
+use Rattle.reports.specs.declared.total.Total.{Total}
+use Rattle.lines.specs.Lines.{isRun, lineEnd, onto, lines, countIn, matching}
+use Rattle.reports.specs.Reports.{firstPart, laterParts, lastPart, partsBefore, most, withoutEnd, withEnd, reportWith, report}
+use Rattle.lines.specs.Promises.{closingOf, isOpen}
+use Rattle.reports.specs.Promises.{LastLine, Totals, totalOf}
+use Rattle.reports.proofs.PartLaws.{first-whole, first-line, later-lines, last-line}
+use Rattle.reports.proofs.JoinLaw.{row-of, flag-set}
+use Rattle.lines.proofs.Tallying.{at-most-one}
+use Rattle.reports.proofs.Extending.{row-accepts}
+
+-- the lines of a run, by its parts: the last part is a line if it has a key
+abbrev lastOnly : List ℕ → List (List ℕ)
+lastOnly [] = []
+lastOnly (c ∷ l) = (c ∷ l) ∷ []
+
+abbrev linesOf : List ℕ → List (List ℕ) → List (List ℕ)
+linesOf l [] = lastOnly l
+linesOf l (m ∷ ms) = l ∷ linesOf m ms
+
+lines-parts : (w : List ℕ) → lines w ≡ linesOf (firstPart w) (laterParts w)
+unfolding lines firstPart laterParts
+lines-parts [] = refl
+lines-parts (c ∷ w) = go (eqb lineEnd c) (firstPart w) (laterParts w) (lines-parts w)
+  where
+    go : (b : Bool) (f : List ℕ) (ls : List (List ℕ)) → lines w ≡ linesOf f ls → cond b ([] ∷ lines w) (onto c (lines w)) ≡ linesOf (cond b [] (c ∷ f)) (cond b (f ∷ ls) ls)
+    go true f ls e = ap (λ (l : List (List ℕ)). [] ∷ l) e
+    go false [] [] e = rw e refl
+    go false (d ∷ f) [] e = rw e refl
+    go false f (m ∷ ms) e = rw e refl
+
+count-parts : (X : List ℕ → Bool) (l : List ℕ) (ls : List (List ℕ)) → countIn X (linesOf l ls) ≡ countIn X (partsBefore l ls) + cond (isOpen (lastPart l ls) && X (lastPart l ls)) 1 0
+unfolding countIn partsBefore lastPart
+count-parts X [] [] = refl
+count-parts X (c ∷ l) [] = omega arith
+count-parts X l (m ∷ ms) = ap (λ (n : ℕ). cond (X l) 1 0 + n) (count-parts X m ms) ∙ sym (add-assoc (cond (X l) 1 0) (countIn X (partsBefore m ms)) _)
+
+module _ (t : Pattern) (w : List ℕ) where
+  -- a run without a line end is one line, if it has a key
+  pub matching-whole : laterParts w ≡ [] → matching t w ≡ cond (isOpen w && matches t w) 1 0
+  unfolding matching countIn partsBefore lastPart
+  matching-whole e = ap (countIn (matches t)) (rw e at (lines-parts w) ∙ ap lastOnly (first-whole w e)) ∙ count-parts (matches t) w [] ∙ zero-add _
+
+  -- with line ends: the first line, those between, and the last part if it has a key
+  pub matching-parts : {l : List ℕ} {ls : List (List ℕ)} → laterParts w ≡ l ∷ ls → matching t w ≡ cond (matches t (firstPart w)) 1 0 + (countIn (matches t) (partsBefore l ls) + cond (isOpen (lastPart l ls) && matches t (lastPart l ls)) 1 0)
+  unfolding matching countIn
+  matching-parts {l} {ls} e = ap (countIn (matches t)) (rw e at (lines-parts w)) ∙ ap (λ (n : ℕ). cond (matches t (firstPart w)) 1 0 + n) (count-parts (matches t) l ls)
+
+-- Words.
+
+-- a set that has line-start
+common-start : (x : ℕ) → common x 1 ≡ bit x 0
+common-start x =
+    any-ext 64 (λ p. bit x p && bit 1 p) (λ p. eqb 0 p && bit x p) (λ p h. ap (λ (b : Bool). bit x p && b) (bit-one 0 p) ∙ and-comm (bit x p) (eqb 0 p))
+    ∙ any-at 64 0 (bit x) (omega arith)
+
+module _ (t : Pattern) (few : atomCount t ≤ 29) where
+  -- the states that a line leads to accept exactly if it matches
+  pub tail-accepts : (l : List ℕ) → isLine l ≡ true → common (word (states t) (leads t 0 l)) (closingOf t .accepting) ≡ matches t l
+  tail-accepts l h = row-accepts t few 0 (omega arith) l ∙ states-match t l h
+
+  -- and have left line-start exactly if it has a key
+  pub tail-start : (l : List ℕ) → common (word (states t) (leads t 0 l)) 1 ≡ not (isOpen l)
+  unfolding leads
+  tail-start l = common-start (word (states t) (leads t 0 l)) ∙ bit-word (states t) (leads t 0 l) 0 (omega arith) ∙ go l
+    where
+      go : (l : List ℕ) → leads t 0 l 0 ≡ not (isOpen l)
+      go [] = refl
+      go (c ∷ l) = leads-start t l c 0
+
+-- whether a line has a key, by the states that it leads to
+opened : {tail : ℕ} {m : Bool} → m ≡ common tail 1 → (t : Pattern) → atomCount t ≤ 29 → (l : List ℕ) → tail ≡ word (states t) (leads t 0 l) → not (isOpen l) ≡ m
+opened start t few l f = sym (start ∙ ap (λ (x : ℕ). common x 1) f ∙ tail-start t few l)
+
+-- the last part of a run
+module _ {c : Closing} {tail : ℕ} {m : Bool} (start : m ≡ common tail 1) where
+  pub last-none : m ≡ true → LastLine c tail 0
+  last-none h =
+      record {
+        small = omega arith;
+        counts = λ t few e l i f. let shut : isOpen l ≡ false = not-true (isOpen l) (opened start t few l f ∙ h) in rw shut refl;
+      }
+
+  pub last-some : m ≡ false → {k : Bool} {x : ℕ} → k ≡ common tail (c .accepting) → x ≡ cond k 1 0 → LastLine c tail x
+  last-some h {k} {x} a f =
+      record {
+        small = at-most-one k f;
+        counts = λ t few e l i g.
+            let open' : isOpen l ≡ true = not-false (isOpen l) (opened start t few l g ∙ h) in
+            let same : k ≡ matches t l = a ∙ rw (g, e) (tail-accepts t few l i) in
+            rw (f, open', same) refl;
+      }
+
+-- a count within the limit, and one beyond
+lines-shown : {x n : ℕ} → x ≡ n → x ≤ most → Total.Lines x ≡ totalOf n
+lines-shown {x} {n} e h = rw (le-leb n most (omega arith), e) refl
+
+many-shown : (n : ℕ) → most < n → Total.TooMany ≡ totalOf n
+many-shown n h = rw (lt-leb n most h) refl
+
+flag-over : (n : ℕ) → 1 < cond (leb n most) 1 2 → most < n
+flag-over n = go (leb n most) refl
+  where
+    go : (b : Bool) → leb n most ≡ b → 1 < cond b 1 2 → most < n
+    go true e h = absurd (omega arith)
+    go false e h = leb-false n most e
+
+flag-fine : (n : ℕ) → cond (leb n most) 1 2 ≤ 1 → n ≤ most
+flag-fine n = go (leb n most) refl
+  where
+    go : (b : Bool) → leb n most ≡ b → cond b 1 2 ≤ 1 → n ≤ most
+    go true e h = leb-true n most e
+    go false e h = absurd (omega arith)
+
+-- The whole count, by the two kinds of report.
+module _ (c : Closing) (r : Report) where
+  -- the report of a run without a line end, and of one with line ends
+  abbrev WithoutEnd : (Pattern → List ℕ → Type 0) → Type 0
+  WithoutEnd P = (t : Pattern) → atomCount t ≤ 29 → c ≡ closingOf t → (w : List ℕ) → isLine w ≡ true → isOpen w ≡ true → laterParts w ≡ [] → r ≡ withoutEnd (states t) (λ q p. leads t q w p) → P t w
+
+  abbrev WithEnd : (Pattern → List ℕ → Type 0) → Type 0
+  WithEnd P = (t : Pattern) → atomCount t ≤ 29 → c ≡ closingOf t → (w : List ℕ) → isRun w ≡ true → (l : List ℕ) (ls : List (List ℕ)) → laterParts w ≡ l ∷ ls → r ≡ withEnd (states t) (λ q. acceptedFrom t q (firstPart w)) (countIn (matches t) (partsBefore l ls)) (leads t 0 (lastPart l ls)) → P t w
+
+  by-parts : (x : Total) → WithoutEnd (λ t w. x ≡ totalOf (matching t w)) → WithEnd (λ t w. x ≡ totalOf (matching t w)) → Totals c r x
+  unfolding Totals report
+  by-parts x f g t few e w h o i = go (laterParts w) refl i
+    where
+      go : (ls : List (List ℕ)) → laterParts w ≡ ls → r ≡ reportWith t w ls → x ≡ totalOf (matching t w)
+      go [] d j = f t few e w (rw (first-whole w d) at (first-line w h)) o d j
+      go (l ∷ ls) d j = g t few e w h l ls d j
+
+  -- a report with line ends has a flag
+  flag-of : (n : ℕ) → r .flag ≡ cond (leb n most) 1 2 → r .flag ≡ 0 → ⊥
+  flag-of n j z = false≢true (sym (flag-set n) ∙ eq-eqb (cond (leb n most) 1 2) 0 (sym j ∙ z))
+
+  pub total-open : {m : Bool} {x : ℕ} → r .flag ≡ 0 → m ≡ common (getD (r .rows) 0 0) (c .accepting) → x ≡ cond m 1 0 → Totals c r (Total.Lines x)
+  total-open {m} {x} z a f =
+      by-parts (Total.Lines x)
+      (λ t few e w h o d j.
+      let row : getD (r .rows) 0 0 ≡ word (states t) (leads t 0 w) = ap (λ (b : Report). getD (b .rows) 0 0) j ∙ row-of (states t) (λ q p. leads t q w p) 0 (omega arith) (omega arith) in
+      let same : m ≡ matches t w = a ∙ rw (row, e) (tail-accepts t few w h) in
+      let all : x ≡ matching t w = f ∙ rw (same, matching-whole t w d, o) refl in
+      lines-shown all (omega (arith, at-most-one m f)))
+      (λ t few e w h l ls d j. absurd (flag-of (countIn (matches t) (partsBefore l ls)) (ap (λ (a : Report). a .flag) j) z))
+
+  pub total-over : 1 < r .flag → Totals c r Total.TooMany
+  total-over z =
+      by-parts Total.TooMany
+      (λ t few e w h o d j. let none : r .flag ≡ 0 = ap (λ (a : Report). a .flag) j in absurd (omega arith))
+      (λ t few e w h l ls d j.
+      many-shown (matching t w)
+      (omega
+      (arith, flag-over (countIn (matches t) (partsBefore l ls)) (rw (ap (λ (a : Report). a .flag) j) at z), matching-parts t w d)))
+
+  -- flag 1: the first line, those between, and the last part
+  module _ {k : Bool} {x y : ℕ} (some : r .flag ≡ 0 → ⊥) (fine : r .flag ≤ 1) (head : k ≡ common (r .heads) 1) (first : x ≡ cond k 1 0) (last : LastLine c (r .tail) y) where
+    sum-of : WithEnd (λ t w. (r .closed + (x + y) ≡ matching t w) × (r .closed ≤ most))
+    sum-of t few e w h l ls d j =
+        let n = countIn (matches t) (partsBefore l ls) in
+        let kept = flag-fine n (rw (ap (λ (a : Report). a .flag) j) at fine) in
+        let shut : r .closed ≡ n = ap (λ (a : Report). a .closed) j ∙ rw (le-leb n most kept) refl in
+        let front : k ≡ matches t (firstPart w) = head ∙ common-start (r .heads) ∙ rw (ap (λ (a : Report). a .heads) j) (bit-word (states t) (λ q. acceptedFrom t q (firstPart w)) 0 (omega arith)) ∙ states-match t (firstPart w) (first-line w h) in
+        let back = last .counts t few e (lastPart l ls) (last-line l ls (rw d at (later-lines w h))) (ap (λ (a : Report). a .tail) j) in
+        let ahead : x ≡ cond (matches t (firstPart w)) 1 0 = first ∙ rw front refl in
+        (omega (arith, matching-parts t w d), omega arith)
+
+    pub total-lines : x + y ≤ most - r .closed → Totals c r (Total.Lines (r .closed + (x + y)))
+    total-lines b =
+        by-parts (Total.Lines (r .closed + (x + y)))
+        (λ t few e w h o d j. absurd (some (ap (λ (a : Report). a .flag) j)))
+        (λ t few e w h l ls d j. let a = sum-of t few e w h l ls d j in lines-shown (a .0) (omega arith))
+
+    pub total-many : most - r .closed < x + y → Totals c r Total.TooMany
+    total-many b =
+        by-parts Total.TooMany
+        (λ t few e w h o d j. absurd (some (ap (λ (a : Report). a .flag) j)))
+        (λ t few e w h l ls d j. let a = sum-of t few e w h l ls d j in many-shown (matching t w) (omega arith))

@@ -1,0 +1,26 @@
+// Reports of runs.
+
+// The largest count.
+pub const MOST: u64 = 0xffff_ffff_ffff_ffff;
+
+// What a run does to the states of a pattern (document 01, "Reports").
+pub struct Report {
+    // How many states there are.
+    pub s: u64,
+    // The states reached from each state, without a line end in the run.
+    pub rows: [u64; 32],
+    // 0 without a line end, 1 with one, 2 with one and more closed lines than 64 bits count.
+    pub flag: u64,
+    // The states from which the first line is accepted.
+    pub heads: u64,
+    // How many lines match between the first line end and the last.
+    pub closed: u64,
+    // The states reached from line-start since the last line end.
+    pub tail: u64,
+}
+
+// What joining two reports answers: the refusal's number, 0 if there is none, and the report, zeros if it is refused.
+pub struct Joined {
+    pub refused: u8,
+    pub report: Report,
+}

@@ -1,0 +1,97 @@
+// The work words of reports (document 01, "Reports"): rows, flag, heads, closed, tail.
+use crate::report::Report;
+use stateset::size;
+ghost use Prim.Native.Nat.{_+_, _-_, _≤_};
+ghost use mathlib.Core.Path.{_≡_};
+ghost use mathlib.Core.List.{_++_};
+ghost use lib.ListN.{length, getD, take, drop, replicate};
+ghost use lib.Seq.{paste};
+ghost use Rattle.stateset.specs.Set.{bit, countBelow};
+ghost use Rattle.reports.specs.Words.{reportWords, sumBelow};
+ghost use Rattle.reports.specs.Promises.{loaded, pairsIn};
+
+// The rows whose words start at `at`, and zeros for the states that there are not.
+fn load_rows(work: &[u64], at: usize, s: usize) -> [u64; 32]
+    requires { ⌜ (s ≤ 32) × (at + s ≤ length (now work)) ⌝ }
+    ensures { λ r. ⌜ r ≡ take s (drop at (now (work .entry))) ++ replicate (32 - s) 0 ⌝ }
+{
+    let mut rows: [u64; 32] = [0; 32];
+    let mut q = 0;
+    while q < s {
+        rows[q] = work[at + q];
+        q += 1;
+    }
+    rows
+}
+
+// The report whose words start at `at`.
+pub fn load(work: &[u64], at: usize, s: usize) -> Report
+    requires { ⌜ (s ≤ 32) × (at + s + 4 ≤ length (now work)) ⌝ }
+    ensures { λ r. ⌜ r ≡ loaded s (drop at (now (work .entry))) ⌝ }
+{
+    let rows = load_rows(work, at, s);
+    let end = at + s;
+    Report {
+        s: s as u64,
+        rows: rows,
+        flag: work[end],
+        heads: work[end + 1],
+        closed: work[end + 2],
+        tail: work[end + 3],
+    }
+}
+
+// Writes the first s rows from `at` on.
+fn store_rows(work: &mut [u64], at: usize, rows: &[u64; 32], s: usize)
+    requires { ⌜ (s ≤ 32) × (at + s ≤ length (now work)) ⌝ }
+    ensures { λ _. ⌜ now (work .exit) ≡ paste (now (work .entry)) at (now (rows .entry)) s ⌝ }
+{
+    let all: &[u64] = rows;
+    let mut q = 0;
+    while q < s {
+        work[at + q] = all[q];
+        q += 1;
+    }
+}
+
+// Writes a report's words from `at` on.
+pub fn store(work: &mut [u64], at: usize, r: Report)
+    requires { ⌜ (r .s ≤ 32) × (at + (r .s + 4) ≤ length (now work)) ⌝ }
+    ensures { λ _. ⌜ now (work .exit) ≡ take at (now (work .entry)) ++ (reportWords r ++ drop (at + (r .s + 4)) (now (work .entry))) ⌝ }
+{
+    let rows = r.rows;
+    let s = r.s as usize;
+    store_rows(work, at, &rows, s);
+    let end = at + s;
+    work[end] = r.flag;
+    work[end + 1] = r.heads;
+    work[end + 2] = r.closed;
+    work[end + 3] = r.tail;
+}
+
+// How many members the first s rows have together.
+fn sizes(rows: &[u64; 32], s: usize) -> u64
+    requires { ⌜ s ≤ 32 ⌝ }
+    ensures { λ r. ⌜ r ≡ sumBelow s (λ q. countBelow 64 (bit (getD (now (rows .entry)) q 0))) ⌝ }
+{
+    let all: &[u64] = rows;
+    let mut sum = 0;
+    let mut q = 0;
+    while q < s {
+        sum += size(all[q]);
+        q += 1;
+    }
+    sum
+}
+
+// How many pairs of states a report shows.
+pub fn pairs_in(r: Report) -> u64
+    requires { ⌜ r .s ≤ 32 ⌝ }
+    ensures { λ n. ⌜ n ≡ pairsIn r ⌝ }
+{
+    if r.flag == 0 {
+        let rows = r.rows;
+        return sizes(&rows, r.s as usize);
+    }
+    size(r.tail)
+}
