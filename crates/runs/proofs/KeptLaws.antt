@@ -1,0 +1,59 @@
+-- Laws of what is kept for each macro of a book, in words one after another, and of repeated runs: stated once, over what is kept.
+use Prim.Native.Nat.{ℕ, zero, suc, _+_, _*_, _<_, _≤_}
+use native.Mathlib.Omega.{arith}
+use native.Mathlib.Numerals.{add-one}
+use mathlib.Core.Path.{_≡_, refl, sym, ap, _∙_}
+use mathlib.Core.Bool.{Bool, true, false}
+use mathlib.Core.List.{List, [], _++_, append-assoc, append-nil}
+use lib.Dec.{ltb}
+use borrow.Author.Tests.{ltb-true, ltb-false}
+use lib.ListN.{length, take, drop, length-append}
+use lib.Seq.{take-at, drop-at, drop-drop}
+use Rattle.runs.specs.Kept.{firstWords, times}
+
+module _ (W : ℕ → List ℕ) (k : ℕ) (wide : (i : ℕ) → length (W i) ≡ k) where
+  pub words-length : (n : ℕ) → length (firstWords W n) ≡ n * k
+  unfolding firstWords
+  words-length zero = omega arith
+  words-length (suc n) = rw (length-append, words-length n, wide n) (omega arith)
+
+  -- the words of macro j stand at its place
+  pub words-at : (n j : ℕ) → j < n → (rest : List ℕ) → (behind : List ℕ) × (drop (j * k) (firstWords W n ++ rest) ≡ W j ++ behind)
+  unfolding firstWords
+  words-at zero j h rest = absurd (omega arith)
+  words-at (suc n) j h rest = rw (append-assoc (firstWords W n) (W n) rest) (go (λ l. words-at n j l (W n ++ rest)) (ltb j n) refl)
+    where
+      go : (j < n → (behind : List ℕ) × (drop (j * k) (firstWords W n ++ (W n ++ rest)) ≡ W j ++ behind)) → (b : Bool) → ltb j n ≡ b → (behind : List ℕ) × (drop (j * k) (firstWords W n ++ (W n ++ rest)) ≡ W j ++ behind)
+      go f true e = f (ltb-true j n e)
+      go f false e =
+          let same : j ≡ n = omega (arith, ltb-false j n e) in
+          (rest, rw same (drop-at (firstWords W n) (W n ++ rest) (n * k) (words-length n)))
+
+  -- and those of one macro more are stored behind the first i
+  pub words-stored : (i : ℕ) (before work after : List ℕ) → work ≡ firstWords W i ++ drop (i * k) before → after ≡ take (i * k) work ++ (W i ++ drop (i * k + k) work) → after ≡ firstWords W (i + 1) ++ drop ((i + 1) * k) before
+  unfolding firstWords
+  words-stored i before work after e f =
+      let at = i * k in
+      let front : take at work ≡ firstWords W i = ap (take at) e ∙ take-at (firstWords W i) (drop at before) at (words-length i) in
+      let behind : drop at work ≡ drop at before = ap (drop at) e ∙ drop-at (firstWords W i) (drop at before) at (words-length i) in
+      let more : drop (at + k) work ≡ drop (at + k) before = sym (drop-drop k at work) ∙ ap (drop k) behind ∙ drop-drop k at before in
+      let place : at + k ≡ (i + 1) * k = omega arith in
+      f
+      ∙ ap (λ (l : List ℕ). l ++ (W i ++ drop (at + k) work)) front
+      ∙ ap (λ (l : List ℕ). firstWords W i ++ (W i ++ l)) (more ∙ ap (λ (n : ℕ). drop n before) place)
+      ∙ sym (append-assoc (firstWords W i) (W i) (drop ((i + 1) * k) before))
+      ∙ ap (λ (n : ℕ). firstWords W n ++ drop ((i + 1) * k) before) (sym (add-one i))
+
+
+pub times-add : (m n : ℕ) (w : List ℕ) → times (m + n) w ≡ times m w ++ times n w
+unfolding times
+times-add zero n w = let e : 0 + n ≡ n = omega arith in rw e refl
+times-add (suc m) n w = let e : suc m + n ≡ suc (m + n) = omega arith in rw e (ap (λ (l : List ℕ). w ++ l) (times-add m n w) ∙ sym (append-assoc w (times m w) (times n w)))
+
+-- Repetition by doubling, for whatever is kept of a run and joins as runs follow each other.
+module _ {A : Type 0} (of : List ℕ → A) (join : A → A → A) (fine : List ℕ → Type 0) (joins : (u v : List ℕ) → fine u → fine v → join (of u) (of v) ≡ of (u ++ v)) (w : List ℕ) (all : (n : ℕ) → fine (times n w)) where
+  pub twice : {a : A} (n : ℕ) → a ≡ of (times n w) → join a a ≡ of (times (n + n) w)
+  twice {a} n e = rw e (joins (times n w) (times n w) (all n) (all n) ∙ ap of (sym (times-add n n w)))
+
+  pub added : {a b : A} (m n : ℕ) → a ≡ of (times m w) → b ≡ of (times n w) → join a b ≡ of (times (m + n) w)
+  added {a} {b} m n e f = rw (e, f) (joins (times m w) (times n w) (all m) (all n) ∙ ap of (sym (times-add m n w)))

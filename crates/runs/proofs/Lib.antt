@@ -1,0 +1,5 @@
+-- Laws, which the other crates cite.
+pub mod Tests
+pub mod KeyLaws
+pub mod CountLaws
+pub mod KeptLaws

@@ -1,0 +1,13 @@
+-- What is kept for each macro of a book, in words one after another; and a run repeated.
+use Prim.Native.Nat.{ℕ, zero, suc}
+use mathlib.Core.List.{List, [], _++_}
+
+-- the words of the first n macros, where W gives those of one
+unfoldable pub firstWords : (ℕ → List ℕ) → ℕ → List ℕ
+firstWords W zero = []
+firstWords W (suc n) = firstWords W n ++ W n
+
+-- a run n times
+unfoldable pub times : ℕ → List ℕ → List ℕ
+times zero w = []
+times (suc n) w = w ++ times n w
