@@ -17,7 +17,7 @@ use Rattle.book.specs.Reach.{ReachList}
 use Rattle.refusal.specs.Figures.{answered, refusedFor}
 use Rattle.book.specs.Answer.{ReachAnswer, layoutFor, requireMacro, requireEntries, bodyOf, bodyAt, refusalOf}
 use Rattle.book.specs.Steps.{Located}
-use Rattle.book.proofs.Readings.{clash}
+use Rattle.runs.proofs.Tests.{clash}
 
 -- the answer of a layout says how the book was read
 answer-refused : (g : Reading (List Macro)) (r : Refusal) → (layoutFor g) .answer ≡ Checked.Refused r → g ≡ refused r

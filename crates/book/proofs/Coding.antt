@@ -12,11 +12,12 @@ use borrow.Author.Tests.{ltb-true, ltb-false, leb-true, eqb-true, lt-ltb, le-ltb
 use Rattle.book.specs.declared.item.Item.{Item}
 use Rattle.book.specs.declared.item.Item.the-variants.{Key, Call}
 use Rattle.book.specs.Reading.{got, itemOf, le16, readItem, readItems, readMacro, readMacros, hasMagic, readHeader, readAll, readBook}
-use Rattle.book.specs.Format.{Sound, Macro, Bytes, le16Bytes, code, magic, encodeItems, encodeMacros, encode, soundItem, soundItems, soundMacro, soundMacros, wellFormed}
+use Rattle.book.specs.Format.{Sound, Macro, le16Bytes, code, magic, encodeItems, encodeMacros, encode, soundItem, soundItems, soundMacro, soundMacros, wellFormed}
 use Rattle.book.specs.Offset.{size, offset, bodyPart}
 use Rattle.book.proofs.Readings.{more-got}
 use Rattle.book.proofs.Walks.{item-got}
 use Rattle.book.proofs.Offsets.{items-got, macro-parts, item-is, macro-got, whole, book-at}
+use Rattle.runs.specs.Keys.{Bytes}
 
 -- items that were read are sound
 items-sound : (n k : ℕ) (b rest : List ℕ) (is : List Item) → readItems n k b ≡ got is rest → soundItems n is ≡ true

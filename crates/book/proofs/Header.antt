@@ -12,7 +12,8 @@ use Rattle.refusal.specs.declared.Refusal.the-variants.{BadMagic, UnsupportedVe
 use Rattle.book.specs.declared.layout.Header.{Header}
 use Rattle.book.specs.Reading.{Reading, got, refused, hasMagic, le16, readHeader}
 use Rattle.book.specs.Steps.{headerOf}
-use Rattle.book.proofs.Readings.{clash, test-got, same-got}
+use Rattle.book.proofs.Readings.{test-got, same-got}
+use Rattle.runs.proofs.Tests.{clash}
 
 module _ (s : List ℕ) where
   pub magic-first : (getD s 0 0 ≡ 0x4D → ⊥) → false ≡ hasMagic s

@@ -13,7 +13,7 @@ use Rattle.book.specs.declared.item.Item.the-variants.{Key, Call}
 use Rattle.book.specs.declared.item.ItemRead.{ItemRead}
 use Rattle.book.specs.declared.item.ItemRead.the-variants.{Found, Short}
 use Rattle.book.specs.Reading.{itemAt, itemOf, itemsOf, le16}
-use Rattle.book.proofs.Readings.{clash}
+use Rattle.runs.proofs.Tests.{clash}
 
 -- an item that was found has its two bytes
 pub found-long : (b : List ℕ) (i : Item) → itemAt b ≡ Found i → 2 ≤ length b

@@ -14,9 +14,9 @@ use Rattle.book.specs.Reach.{Calls, Reaches, itself, reaches, ReachList}
 use Rattle.book.specs.Steps.{markCalls, Located}
 use Rattle.book.specs.Reading.{Reading, got, refused, readBook, macrosIn}
 use Rattle.book.proofs.Coding.{read-well}
-use Rattle.book.proofs.Readings.{clash}
 use Rattle.book.proofs.Marks.{marks-length, marks-stay, marks-calls, marks-from, set-from}
 use Rattle.book.proofs.Reach.{calls-lower, reach-calls, reach-last, reach-lower, reaches-sound, reaches-complete, down, down-none, down-in, down-out, down-short, reach-listed}
+use Rattle.runs.proofs.Tests.{clash}
 
 unmarked : (n j : ℕ) → getD (replicate n false) j false ≡ false
 unmarked zero j = refl

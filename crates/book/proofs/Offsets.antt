@@ -17,8 +17,9 @@ use Rattle.book.specs.Reading.{got, next, itemOf, itemsOf, le16, checkIt
 use Rattle.book.specs.Format.{Macro, soundItem}
 use Rattle.book.specs.Offset.{size, starts, offset, bodyPart}
 use Rattle.book.proofs.Header.{header-got}
-use Rattle.book.proofs.Readings.{clash, test-got, untest-got, next-got, more-got}
+use Rattle.book.proofs.Readings.{test-got, untest-got, next-got, more-got}
 use Rattle.book.proofs.Walks.{item-got}
+use Rattle.runs.proofs.Tests.{clash}
 
 -- k items take two bytes each
 pub items-got : (n k : ℕ) (b rest : List ℕ) (is : List Item) → readItems n k b ≡ got is rest → (length is ≡ k) × (rest ≡ drop (2 * k) b) × (2 * k ≤ length b)

@@ -14,10 +14,11 @@ use borrow.Author.Tests.{eqb-true, eq-eqb}
 use Rattle.book.specs.declared.item.Item.the-variants.{Key, Call}
 use Rattle.book.specs.Format.{Macro, wellFormed}
 use Rattle.book.specs.Expansion.{expand, expandTo, expansion}
-use Rattle.book.specs.Reach.{Calls, Reaches, Alike, anyCall, reachesTo, reaches, countBelow, reachCount, ReachList}
+use Rattle.book.specs.Reach.{Calls, Reaches, Alike, anyCall, reachesTo, reaches, reachCount, ReachList}
 use Rattle.book.specs.Reach.Reaches.{itself, through}
 use Rattle.book.proofs.Expansion.{expand-same}
 pub use Rattle.book.proofs.Expansion.{calls-lower}
+use Rattle.runs.specs.Counts.{countBelow}
 
 module _ {ms : List Macro} where
   -- what a reached macro reaches is reached

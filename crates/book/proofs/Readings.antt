@@ -6,13 +6,7 @@ use mathlib.Core.Bool.{Bool, true, false, cond}
 use mathlib.Core.List.{List, _∷_}
 use Rattle.refusal.specs.declared.Refusal.{Refusal}
 use Rattle.book.specs.Reading.{Reading, Reader, got, refused, next, done}
-
--- two constructors that are equal prove anything
-pub clash : {A : Type 0} → _≡_ {A = ℕ} 0 1 → A
-clash z = absurd (no-less z)
-  where
-    no-less : _≡_ {A = ℕ} 0 1 → ⊥
-    no-less z = omega arith
+use Rattle.runs.proofs.Tests.{clash}
 
 -- what was read behind a test passed it
 pub test-got : {A : Type 0} (t : Bool) (g : Reading A) (r : Refusal) (a : A) (rest : List ℕ) → cond t g (refused r) ≡ got a rest → (t ≡ true) × (g ≡ got a rest)

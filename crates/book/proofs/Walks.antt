@@ -20,7 +20,7 @@ use Rattle.book.specs.Reading.{Reading, got, refused, next, done, itemAt
 use Rattle.book.specs.Format.{Macro}
 use Rattle.book.specs.Steps.{walkOf}
 use Rattle.book.proofs.Items.{found-long}
-use Rattle.book.proofs.Readings.{clash}
+use Rattle.runs.proofs.Tests.{clash}
 
 module _ (s : List ℕ) (at n : ℕ) (r : ItemRead) (e : r ≡ itemAt (drop at s)) where
   judged : (v : ItemRead) → r ≡ v → readItem n (drop at s) ≡ checkItem n v (drop 2 (drop at s))

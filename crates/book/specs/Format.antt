@@ -12,10 +12,6 @@ use Rattle.book.specs.declared.item.Item.the-variants.{Key, Call}
 abbrev pub Macro : Type 0
 Macro = List Item
 
--- every number of the list is a byte
-abbrev pub Bytes : List ℕ → Type 0
-Bytes b = (i : ℕ) → getD b i 0 < 256
-
 -- "two-byte numbers have the low byte first"
 abbrev pub le16Bytes : ℕ → List ℕ
 le16Bytes n = n % 256 ∷ n / 256 ∷ []

@@ -7,6 +7,7 @@ use lib.Dec.{eqb}
 use lib.ListN.{length, getD, drop}
 use Rattle.book.specs.declared.item.Item.the-variants.{Key, Call}
 use Rattle.book.specs.Format.{Macro}
+use Rattle.runs.specs.Counts.{countBelow}
 
 -- macro m calls macro j
 abbrev pub Calls : List Macro → ℕ → ℕ → Type 0
@@ -37,11 +38,6 @@ reachesTo (suc d) ms m j = eqb m j || anyCall (λ i. reachesTo d ms i j) (getD m
 -- there are (`reaches-iff`).
 unfoldable pub reaches : List Macro → ℕ → ℕ → Bool
 reaches ms m j = reachesTo (suc m) ms m j
-
--- how many numbers below n have p
-unfoldable pub countBelow : ℕ → (ℕ → Bool) → ℕ
-countBelow zero p = 0
-countBelow (suc n) p = cond (p n) 1 0 + countBelow n p
 
 -- how many macros m reaches: all are m or lower
 unfoldable pub reachCount : List Macro → ℕ → ℕ

@@ -17,10 +17,10 @@ use Rattle.brackets.specs.Form.{Element, bracket}
 use Rattle.brackets.specs.Sets.{inElement, inElements, named}
 use Rattle.brackets.specs.Brackets.{Parsed, parsed, fault, next, done, readElement, readElements, readBracket}
 use Rattle.brackets.specs.Steps.{mapWith, withElement, withElements, withKey, elementOf, elementShown, elementsFrom, bracketFrom, ElementsDone, BracketDone}
-use Rattle.brackets.proofs.Parses.{clash}
 use Rattle.brackets.proofs.Entries.{with-same, with-with, with-none}
 use Rattle.brackets.proofs.Stored.{set-stored, filled-set}
 use Rattle.brackets.proofs.Taken.{Shown, shown-fault, shown-found, none-read}
+use Rattle.runs.proofs.Tests.{clash}
 
 pub closes-later : (first : Bool) (b : ℕ) → first ≡ false → eqb b 93 ≡ not first && eqb b 93
 closes-later first b h = rw h

@@ -9,10 +9,10 @@ use mathlib.Core.List.{List, [], _∷_}
 use lib.Dec.{eqb}
 use lib.ListN.{length, getD}
 use Rattle.brackets.specs.declared.class.Class.{Class}
-use Rattle.brackets.specs.Tabled.{tabled}
-use Rattle.brackets.proofs.Parses.{both}
-use Rattle.brackets.proofs.Tabled.{tabled-at}
 use Rattle.brackets.specs.Steps.{classText, classRange}
+use Rattle.stateset.specs.Tabled.{tabled}
+use Rattle.runs.proofs.Tests.{and-parts}
+use Rattle.stateset.proofs.Tabled.{tabled-at}
 
 -- a test that every entry of a list passes
 unfoldable pub every : {A : Type 0} → (A → Bool) → List A → Bool
@@ -22,8 +22,8 @@ every f (x ∷ xs) = f x && every f xs
 pub every-at : {A : Type 0} (f : A → Bool) (d : A) (xs : List A) → every f xs ≡ true → (k : ℕ) → k < length xs → f (getD xs k d) ≡ true
 unfolding every
 every-at f d [] e k h = absurd (not-suc-le-zero h)
-every-at f d (x ∷ xs) e zero h = both (f x) (every f xs) e .0
-every-at f d (x ∷ xs) e (suc k) h = every-at f d xs (both (f x) (every f xs) e .1) k (omega arith)
+every-at f d (x ∷ xs) e zero h = and-parts (f x) (every f xs) e .0
+every-at f d (x ∷ xs) e (suc k) h = every-at f d xs (and-parts (f x) (every f xs) e .1) k (omega arith)
 
 -- byte j of a class's name and `:]`
 unfoldable pub nameByte : ℕ → ℕ → ℕ

@@ -12,11 +12,12 @@ use lib.ListN.{length, getD, take, drop, length-append, drop-of-length-le, List�
 use lib.Seq.{drop-cons}
 use borrow.Author.Tests.{ltb-true, ltb-false, eqb-true, eq-eqb, ne-eqb}
 use Rattle.brackets.specs.declared.class.ClassRead.the-variants.{Found, Unknown}
-use Rattle.brackets.specs.Form.{classNames, className, member}
+use Rattle.brackets.specs.Form.{classNames, className}
 use Rattle.brackets.specs.Brackets.{sameBytes, isClass, findClass}
 use Rattle.brackets.specs.Steps.{classText, classShown}
-use Rattle.brackets.proofs.Parses.{clash, both}
 use Rattle.brackets.proofs.ClassTables.{every, every-at}
+use Rattle.runs.specs.Keys.{member}
+use Rattle.runs.proofs.Tests.{clash, and-parts}
 
 -- a name with its `:]` has seven bytes, or eight if there is an eighth, and none is 0
 fitting : List ℕ → Bool
@@ -33,7 +34,7 @@ twelve = refl
 module _ (c : ℕ) (low : c < 12) where
   class-fitting : (eqb (length (className c) + 2) (cond (eqb (getD (classText c) 7 0) 0) 7 8) ≡ true) × (not (member 0 (classText c)) ≡ true)
   unfolding fitting
-  class-fitting = both _ _ (every-at fitting [] classNames all-fitting c (rw twelve low))
+  class-fitting = and-parts _ _ (every-at fitting [] classNames all-fitting c (rw twelve low))
 
   size : length (className c) + 2 ≡ cond (eqb (getD (classText c) 7 0) 0) 7 8
   size = eqb-true _ _ (class-fitting .0)

@@ -15,9 +15,9 @@ use Rattle.brackets.specs.declared.bracket.BracketRead.the-variants.{At,
 use Rattle.brackets.specs.Form.{Atom}
 use Rattle.brackets.specs.Brackets.{Parsed, parsed, fault, readBracket}
 use Rattle.brackets.specs.Steps.{BracketDone}
-use Rattle.brackets.proofs.Parses.{clash}
 use Rattle.brackets.proofs.Entries.{partly, entry-none, entry-set, with-length, with-getD}
 use Rattle.brackets.proofs.Shorter.{bracket-shorter}
+use Rattle.runs.proofs.Tests.{clash}
 
 -- the entry that a byte is copied to
 unfoldable pub copiedByte : List ℕ → ℕ → ℕ → ℕ → ℕ

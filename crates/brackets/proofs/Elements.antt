@@ -15,11 +15,12 @@ use Rattle.brackets.specs.declared.class.ClassRead.the-variants as class
 use Rattle.brackets.specs.declared.element.ElementRead.{ElementRead}
 use Rattle.brackets.specs.declared.element.ElementRead.the-variants.{Found, Fault}
 use Rattle.brackets.specs.declared.element.Element.the-variants.{Byte, Range, Class}
-use Rattle.brackets.specs.Form.{byte, range, class, className, member, writeElement}
+use Rattle.brackets.specs.Form.{byte, range, class, className, writeElement}
 use Rattle.brackets.specs.Brackets.{parsed, fault, at, startsRange, findClass, classFound, readClass, readRange, readByte, readElement}
 use Rattle.brackets.specs.Steps.{classShown, elementShown}
-use Rattle.brackets.proofs.Parses.{clash, both}
 use Rattle.brackets.proofs.Classes.{found-below}
+use Rattle.runs.specs.Keys.{member}
+use Rattle.runs.proofs.Tests.{clash, and-parts}
 
 -- what may begin an element
 pub dash-later : (first : Bool) (b : ℕ) → first ≡ false → not (eqb b 45) ≡ first || not (eqb b 45)
@@ -149,7 +150,7 @@ module _ (s : List ℕ) (p : ℕ) where
 
     module _ (t : o ≡ true) where
       opened : (eqb a 91 ≡ true) × (member b (46 ∷ 61 ∷ 58 ∷ []) ≡ true)
-      opened = both _ _ (sym n ∙ t)
+      opened = and-parts _ _ (sym n ∙ t)
 
       pub element-class : (r : ElementRead) → b ≡ 58 → r ≡ elementShown p (readClass (drop (p + 2) s)) → r ≡ elementShown p (readElement first (drop p s))
       element-class r h g = rw (chosen, opened .0, eq-eqb b 58 h) g

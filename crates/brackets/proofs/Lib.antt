@@ -11,5 +11,4 @@ pub mod Parses
 pub mod Ranges
 pub mod Shorter
 pub mod Stored
-pub mod Tabled
 pub mod Taken

@@ -8,8 +8,8 @@ use lib.Dec.{eqb}
 use lib.ListN.{length, drop, length-drop}
 use Rattle.brackets.specs.Form.{Element, Atom, writeElement}
 use Rattle.brackets.specs.Brackets.{Parsed, Parser, parsed, fault, next, at, readElement, readElements, readBracket}
-use Rattle.brackets.proofs.Parses.{clash}
 use Rattle.brackets.proofs.Taken.{element-taken}
+use Rattle.runs.proofs.Tests.{clash}
 
 data Shorter {A : Type 0} (n : ℕ) : Parsed A → Type 0 where
   read : {a : A} {rest : List ℕ} → length rest ≤ n → Shorter n (parsed a rest)

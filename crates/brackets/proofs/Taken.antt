@@ -11,11 +11,12 @@ use lib.Seq.{drop-drop}
 use Rattle.brackets.specs.declared.element.ElementRead.{ElementRead}
 use Rattle.brackets.specs.declared.element.ElementRead.the-variants.{Found, Fault}
 use Rattle.brackets.specs.declared.element.Element as declared
-use Rattle.brackets.specs.Form.{Element, byte, range, class, className, member, writeElement}
+use Rattle.brackets.specs.Form.{Element, byte, range, class, className, writeElement}
 use Rattle.brackets.specs.Brackets.{Parsed, parsed, fault, at, findClass, classFound, startsRange, readElement}
 use Rattle.brackets.specs.Steps.{shownElement, elementOf, elementShown, Known}
-use Rattle.brackets.proofs.Parses.{clash}
 use Rattle.brackets.proofs.Classes.{found-below}
+use Rattle.runs.specs.Keys.{member}
+use Rattle.runs.proofs.Tests.{clash}
 
 -- an element takes the bytes that it is written as, and a class is one of the twelve
 pub record Taken (l : List ℕ) (e : Element) (rest : List ℕ) : Type 0 where

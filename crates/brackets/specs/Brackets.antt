@@ -5,7 +5,8 @@ use mathlib.Core.List.{List, [], _∷_, _++_}
 use mathlib.Core.Option.{Option, none, some}
 use lib.Dec.{leb, eqb}
 use lib.ListN.{length, getD, take, drop}
-use Rattle.brackets.specs.Form.{Element, byte, range, class, Atom, bracket, className, member}
+use Rattle.brackets.specs.Form.{Element, byte, range, class, Atom, bracket, className}
+use Rattle.runs.specs.Keys.{member}
 
 -- what was read and the bytes after it, or a fault
 pub data Parsed (A : Type 0) : Type 0 where

@@ -1,10 +1,10 @@
--- Document 01, "Patterns": the form of a pattern as a tree, its bytes, and the side conditions of each sentence.
-use Prim.Native.Nat.{ℕ, _+_}
+-- Document 01, "Patterns": the form of an atom and of a bracket, their bytes, and the side conditions of each sentence.
+use Prim.Native.Nat.{ℕ}
 use mathlib.Core.Bool.{Bool, true, false, not, _&&_, _||_, cond}
 use mathlib.Core.List.{List, [], _∷_, _++_}
-use mathlib.Core.Option.{Option, none, some}
 use lib.Dec.{leb, ltb, eqb}
 use lib.ListN.{getD}
+use Rattle.runs.specs.Keys.{member, lineKey}
 
 -- "An element is one byte, a range by byte value with first not above last, or a class `[:name:]`", here the class's place in the table
 pub data Element : Type 0 where
@@ -18,26 +18,6 @@ pub data Atom : Type 0 where
   dot : Atom
   escaped : ℕ → Atom
   bracket : Bool → List Element → Atom
-
--- what stands inside a branch: "pieces", "an atom or a group, then at most one of `*` `+` `?`", "A group is an alternative list in parentheses"
-pub data Expr : Type 0 where
-  atom : Atom → Expr
-  group : Expr → Expr
-  star : Expr → Expr
-  plus : Expr → Expr
-  opt : Expr → Expr
-  seq : Expr → Expr → Expr
-  alt : Expr → Expr → Expr
-
--- "A branch is an optional `^`, pieces, an optional `$`"
-pub record Branch : Type 0 where
-  pub start : Bool
-  pub pieces : Option Expr
-  pub end : Bool
-
--- "A pattern is one or more branches parted by `|`"
-abbrev pub Pattern : Type 0
-Pattern = List Branch
 
 -- The names of the twelve classes, in the paper's order: upper, lower, alpha, digit, alnum, xdigit, punct, graph, print, cntrl, space, blank
 unfoldable pub classNames : List (List ℕ)
@@ -59,7 +39,7 @@ classNames =
 abbrev pub className : ℕ → List ℕ
 className c = getD classNames c []
 
--- The bytes of a tree.
+-- The bytes of an atom.
 
 -- a class is `[:name:]`
 unfoldable pub writeElement : Element → List ℕ
@@ -78,37 +58,7 @@ writeAtom dot = 46 ∷ []
 writeAtom (escaped b) = 92 ∷ b ∷ []
 writeAtom (bracket n es) = 91 ∷ (cond n (94 ∷ []) [] ++ (writeElements es ++ (93 ∷ [])))
 
-unfoldable pub write : Expr → List ℕ
-write (atom a) = writeAtom a
-write (group e) = 40 ∷ (write e ++ (41 ∷ []))
-write (star e) = write e ++ (42 ∷ [])
-write (plus e) = write e ++ (43 ∷ [])
-write (opt e) = write e ++ (63 ∷ [])
-write (seq p q) = write p ++ write q
-write (alt p q) = write p ++ (124 ∷ write q)
-
-abbrev pub writePieces : Option Expr → List ℕ
-writePieces none = []
-writePieces (some e) = write e
-
-unfoldable pub writeBranch : Branch → List ℕ
-writeBranch b = cond (b .start) (94 ∷ []) [] ++ (writePieces (b .pieces) ++ cond (b .end) (36 ∷ []) [])
-
--- branches "parted by `|`"
-unfoldable pub writePattern : Pattern → List ℕ
-writePattern [] = []
-writePattern (b ∷ []) = writeBranch b
-writePattern (b ∷ c ∷ bs) = writeBranch b ++ (124 ∷ writePattern (c ∷ bs))
-
 -- The side conditions.
-
-unfoldable pub member : ℕ → List ℕ → Bool
-member k [] = false
-member k (b ∷ bs) = eqb k b || member k bs
-
--- a byte of a pattern: "none of them 0 or 10"
-abbrev pub patternByte : ℕ → Bool
-patternByte b = leb 1 b && (leb b 255 && not (eqb b 10))
 
 -- "the twelve marks": `^ . [ $ ( ) | * + ? { \`
 abbrev pub marks : List ℕ
@@ -129,9 +79,9 @@ endsOpen (class c) = false
 -- "A `]` as first element is itself." "A `-` that begins an element must be first or last, or start a range as the first element."
 -- "a range by byte value with first not above last"; "An element followed by `-` and then not by `]` starts a range"
 unfoldable pub formedElement : Bool → Bool → Element → Bool
-formedElement first last (byte b) = patternByte b && ((first || not (eqb b 93)) && (first || (last || not (eqb b 45))))
+formedElement first last (byte b) = lineKey b && ((first || not (eqb b 93)) && (first || (last || not (eqb b 45))))
 formedElement first last (range a b) =
-    (patternByte a && patternByte b) && (leb a b && ((first || (not (eqb a 93) && not (eqb a 45))) && not (eqb b 93)))
+    (lineKey a && lineKey b) && (leb a b && ((first || (not (eqb a 93) && not (eqb a 45))) && not (eqb b 93)))
 formedElement first last (class c) = ltb c 12
 
 -- "Past the bracket's own opening `[`, a `[.` and a `[=` are refused .. as are a `[:` that begins none of the twelve classes"
@@ -150,65 +100,7 @@ plainStart (e ∷ es) = not (eqb (opening e) 94)
 
 -- "a plain byte (any but the twelve marks ..)"; "`\` before one of" them
 unfoldable pub formedAtom : Atom → Bool
-formedAtom (plain b) = patternByte b && not (member b marks)
+formedAtom (plain b) = lineKey b && not (member b marks)
 formedAtom dot = true
 formedAtom (escaped b) = member b marks
 formedAtom (bracket n es) = (n || plainStart es) && formedElements true es
-
--- how loosely an expression may bind where it stands: an atom or a group; a piece; pieces; an alternative list
-abbrev pub single : ℕ
-single = 0
-
-abbrev pub piece : ℕ
-piece = 1
-
-abbrev pub pieces : ℕ
-pieces = 2
-
-abbrev pub alternatives : ℕ
-alternatives = 3
-
--- "A piece is an atom or a group, then at most one of `*` `+` `?`. A group is an alternative list in parentheses, without anchors, each alternative with at least one piece"
-unfoldable pub formed : Expr → ℕ → Bool
-formed (atom a) l = formedAtom a
-formed (group e) l = formed e alternatives
-formed (star e) l = leb piece l && formed e single
-formed (plus e) l = leb piece l && formed e single
-formed (opt e) l = leb piece l && formed e single
-formed (seq p q) l = leb pieces l && (formed p piece && formed q pieces)
-formed (alt p q) l = leb alternatives l && (formed p pieces && formed q alternatives)
-
--- "with no anchor it needs a piece"
-abbrev pub formedPieces : Bool → Option Expr → Bool
-formedPieces anchored none = anchored
-formedPieces anchored (some e) = formed e pieces
-
-unfoldable pub formedBranch : Branch → Bool
-formedBranch b = formedPieces (b .start || b .end) (b .pieces)
-
-unfoldable pub formedBranches : Pattern → Bool
-formedBranches [] = true
-formedBranches (b ∷ bs) = formedBranch b && formedBranches bs
-
--- "A pattern is one or more branches"
-unfoldable pub formedPattern : Pattern → Bool
-formedPattern [] = false
-formedPattern (b ∷ bs) = formedBranches (b ∷ bs)
-
--- How many atoms there are.
-unfoldable pub atoms : Expr → ℕ
-atoms (atom a) = 1
-atoms (group e) = atoms e
-atoms (star e) = atoms e
-atoms (plus e) = atoms e
-atoms (opt e) = atoms e
-atoms (seq p q) = atoms p + atoms q
-atoms (alt p q) = atoms p + atoms q
-
-abbrev pub atomsIn : Option Expr → ℕ
-atomsIn none = 0
-atomsIn (some e) = atoms e
-
-unfoldable pub atomCount : Pattern → ℕ
-atomCount [] = 0
-atomCount (b ∷ bs) = atomsIn (b .pieces) + atomCount bs

@@ -52,15 +52,6 @@ named dot k = true
 named (escaped b) k = eqb k b
 named (bracket n es) k = xor n (inElements k es)
 
--- a key of a line: "a byte from 1 to 255", and no line end
-abbrev pub lineKey : ℕ → Bool
-lineKey k = leb 1 k && (leb k 255 && not (eqb k 10))
-
 -- "Every set says no for 0 and for LF, also where a range or class covers them"
 unfoldable pub setOf : Atom → ℕ → Bool
 setOf a k = lineKey k && named a k
-
--- "A line is the keys between line ends"
-unfoldable pub isLine : List ℕ → Bool
-isLine [] = true
-isLine (k ∷ w) = lineKey k && isLine w

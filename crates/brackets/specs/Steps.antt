@@ -12,7 +12,8 @@ use Rattle.brackets.specs.declared.element.Element as declared
 use Rattle.brackets.specs.declared.element.ElementRead.{ElementRead}
 use Rattle.brackets.specs.Form.{Element, byte, range, class, Atom, bracket, className, writeElement}
 use Rattle.brackets.specs.Brackets.{Parsed, parsed, fault, next, done, readElements}
-use Rattle.brackets.specs.Sets.{Range, to, classRanges, inElement, inElements, lineKey, setOf}
+use Rattle.brackets.specs.Sets.{Range, to, classRanges, inElement, inElements, setOf}
+use Rattle.runs.specs.Keys.{lineKey}
 
 -- each entry of a list changed by its place, counted from i
 unfoldable pub mapWith : {A : Type 0} → (ℕ → A → A) → ℕ → List A → List A

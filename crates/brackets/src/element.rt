@@ -9,9 +9,9 @@ ghost use mathlib.Core.List.{[], _∷_};
 ghost use Prim.Native.Nat.{_+_, _<_, _≤_};
 ghost use lib.Dec.{eqb};
 ghost use lib.ListN.{drop, length};
-ghost use Rattle.brackets.specs.Form.{member};
 ghost use Rattle.brackets.specs.Brackets.{readByte, readClass, readElement, readRange, startsRange};
 ghost use Rattle.brackets.specs.Steps.{elementShown};
+ghost use Rattle.runs.specs.Keys.{member};
 
 // A byte, a range as its first and last byte, or a class as its place in the tables.
 pub enum Element {

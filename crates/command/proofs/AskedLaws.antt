@@ -11,7 +11,6 @@ use lib.Dec.{leb, ltb}
 use lib.ListN.{length, getD, drop, replicate, drop-of-length-le}
 use lib.Seq.{drop-cons}
 use borrow.Author.Tests.{leb-true, leb-false, le-leb, lt-leb, le-ltb, not-true, not-false}
-use Rattle.stateset.proofs.Some.{clash}
 use Rattle.book.specs.Format.{Macro}
 use Rattle.book.specs.Reading.{Reading, got, refused, readBook}
 use Rattle.book.proofs.Offsets.{whole}
@@ -20,6 +19,7 @@ use Rattle.counter.specs.Counting.{Outcome, countResult}
 use Rattle.command.specs.declared.asked.Asked.{Asked}
 use Rattle.command.specs.Input.{Told, told, macroAnswer}
 use Rattle.command.specs.Asked.{isDigit, allDigits, isNumber, decimal, namedAnswer, askedResult}
+use Rattle.runs.proofs.Tests.{clash}
 
 never : {A : Type 0} → false ≡ true → A
 never e = clash (ap (λ (b : Bool). cond b 1 0) e)

@@ -17,13 +17,13 @@ use Rattle.book.specs.Reading.{Reading, got, refused, readBook}
 use Rattle.book.specs.Answer.{checkedFigures, checkResult}
 use Rattle.book.specs.declared.layout.Checked.{Checked}
 use Rattle.book.proofs.Offsets.{whole}
-use Rattle.lines.specs.Lines.{lineEnd}
 use Rattle.counter.specs.Counting.{Outcome, stopped, countResult}
 use Rattle.counter.specs.Answers.{outcome}
 use Rattle.counter.specs.declared.counting.BookCount.{BookCount}
 use Rattle.pattern.specs.Reader.{readPattern}
 use Rattle.refusal.specs.declared.Refusal.the-variants.{InputTooLong}
 use Rattle.command.specs.Input.{patternEnd, lastMacro, lastResult, programResult, told, toldBy, programAnswer, macroAnswer, lastAnswer}
+use Rattle.runs.specs.Keys.{lineEnd}
 
 -- The last macro.
 module _ (b : List ℕ) {r : Checked} (e : checkedFigures r ≡ checkResult (readBook b)) where

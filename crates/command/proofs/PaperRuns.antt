@@ -6,10 +6,10 @@ use mathlib.Core.List.{List, [], _∷_}
 use lib.Dec.{eqb}
 use lib.ListN.{replicate}
 use Rattle.refusal.specs.Figures.{Figures, answered, refusedFor}
-use Rattle.stateset.specs.Set.{anyBelow, countBelow}
+use Rattle.stateset.specs.Set.{anyBelow}
 use Rattle.book.specs.Reading.{readItem, readItems, readMacro, readMacros, readHeader, readAll, readBook}
 use Rattle.book.specs.Expansion.{expand, expandTo, expansion}
-use Rattle.brackets.specs.Form.{classNames, member, atoms, atomCount}
+use Rattle.brackets.specs.Form.{classNames}
 use Rattle.brackets.specs.Sets.{classRanges, inRanges, inElement, inElements, named, setOf}
 use Rattle.pattern.specs.Meaning.{repeated, takes, matchesFrom, matches}
 use Rattle.pattern.specs.States.{nothing, first, last, follow, someBranch}
@@ -20,9 +20,12 @@ use Rattle.brackets.specs.Brackets.{sameBytes, findClass, readElement, readElem
 use Rattle.lines.specs.Lines.{lines, countIn, matching}
 use Rattle.reports.specs.Reports.{firstPart, laterParts, lastPart}
 use Rattle.counter.specs.Counting.{Outcome, itemSteps, steps, countResult}
-use Rattle.reports.specs.Words.{sumBelow, pairs}
+use Rattle.reports.specs.Words.{pairs}
 use Rattle.lines.specs.Answers.{lineResult, runResult}
 use Rattle.command.specs.Input.{patternEnd, lastResult, programResult, programAnswer}
+use Rattle.runs.specs.Counts.{countBelow, sumBelow}
+use Rattle.runs.specs.Keys.{member}
+use Rattle.pattern.specs.Form.{atoms, atomCount}
 
 -- What is asked. A pattern, a line, a run and a book are their bytes.
 pub data Question : Type 0 where

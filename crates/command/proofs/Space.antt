@@ -11,11 +11,11 @@ use borrow.Author.Tests.{leb-true}
 use Rattle.book.specs.Format.{Macro, Sound, encode, encodeItems, encodeMacros, soundItems, soundMacro, soundMacros, wellFormed}
 use Rattle.book.specs.Reading.{got, readBook}
 use Rattle.book.proofs.Offsets.{whole}
-use Rattle.brackets.specs.Form.{Pattern}
 use Rattle.pattern.specs.Moves.{states}
 use Rattle.pattern.specs.Reader.{accepted, readPattern}
 use Rattle.pattern.proofs.Readings.{accepted-few}
 use Rattle.counter.specs.Counting.{needed}
+use Rattle.pattern.specs.Form.{Pattern}
 
 -- 36,864 words, 36 for each of 1,024 macros, are enough for every sound book and accepted pattern.
 pub space-enough : (b p : List ℕ) (ms : List Macro) (rest : List ℕ) (t : Pattern) (m : ℕ) → readBook b ≡ got ms rest → readPattern p ≡ accepted t → m < length ms → needed t m ≤ 36864

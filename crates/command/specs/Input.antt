@@ -8,10 +8,10 @@ use Rattle.refusal.specs.declared.Refusal.the-variants.{InputTooLong}
 use Rattle.book.specs.Format.{Macro}
 use Rattle.book.specs.Reading.{Reading, got, refused, readBook}
 use Rattle.pattern.specs.Reader.{readPattern}
-use Rattle.lines.specs.Lines.{lineEnd}
 use Rattle.counter.specs.Counting.{Outcome, stopped, countResult}
 use Rattle.counter.specs.Answers.{outcome}
 use Rattle.counter.specs.declared.counting.BookCount.{BookCount}
+use Rattle.runs.specs.Keys.{lineEnd}
 
 -- "Standard input: the pattern, LF, the book."
 unfoldable pub patternEnd : List ℕ → ℕ

@@ -9,7 +9,6 @@ use mathlib.Core.List.{List, [], _∷_}
 use lib.Dec.{leb}
 use lib.ListN.{length, drop}
 use borrow.Author.Tests.{lt-ltb, le-ltb}
-use Rattle.stateset.proofs.Some.{clash}
 use Rattle.refusal.specs.declared.Refusal.{Refusal}
 use Rattle.refusal.specs.declared.Refusal.the-variants.{NoSuchMacro, InsufficientSpace, CountOverflow}
 use Rattle.book.specs.Format.{Macro}
@@ -20,7 +19,6 @@ use Rattle.book.specs.Answer.{layoutFor}
 use Rattle.book.specs.declared.layout.Checked.{Checked}
 use Rattle.book.specs.declared.layout.Layout.{Layout}
 use Rattle.book.proofs.Expansion.{expansion-nonempty}
-use Rattle.brackets.specs.Form.{Pattern, atomCount}
 use Rattle.pattern.specs.Moves.{states}
 use Rattle.pattern.specs.Reader as Pattern
 use Rattle.pattern.specs.Automata.{ReadAs, verdictFigures, accepts}
@@ -39,6 +37,8 @@ use Rattle.lines.specs.Promises.{Automaton, Closes, isOpen}
 use Rattle.reports.specs.Promises.{Totals, totalOf, loaded}
 use Rattle.counter.specs.Items.{MacroFits, Filled, BookCounted, InBook, PatternCounted}
 use Rattle.counter.proofs.FillLaws.{well-in, expansion-run, reports-at}
+use Rattle.runs.proofs.Tests.{clash}
+use Rattle.pattern.specs.Form.{Pattern, atomCount}
 
 -- a run of at least one key
 open-long : (w : List ℕ) → 0 < length w → isOpen w ≡ true

@@ -10,8 +10,6 @@ use mathlib.Core.List.{List, [], _∷_}
 use lib.Dec.{leb, ltb}
 use lib.ListN.{length, getD, take}
 use borrow.Author.Tests.{leb-false, le-leb, lt-leb, lt-ltb, le-ltb}
-use Rattle.stateset.specs.Set.{countBelow}
-use Rattle.stateset.proofs.Counts.{count-le}
 use Rattle.refusal.specs.declared.Refusal.the-variants.{NoSuchMacro, InsufficientSpace, CountOverflow}
 use Rattle.book.specs.Format.{Macro, wellFormed, encode}
 use Rattle.book.specs.Expansion.{expand, expansion}
@@ -19,13 +17,15 @@ use Rattle.book.specs.Reach.{Reaches, Alike}
 use Rattle.book.specs.Reading.{Reading, got, refused, readBook}
 use Rattle.book.proofs.Coding.{encode-read}
 use Rattle.book.proofs.Reach.{expansion-alike}
-use Rattle.brackets.specs.Form.{Pattern}
 use Rattle.pattern.specs.Moves.{states, leads}
 use Rattle.pattern.specs.Reader as reader
 use Rattle.lines.specs.Lines.{matching}
 use Rattle.reports.specs.Reports.{laterParts, lastPart, most}
-use Rattle.reports.specs.Words.{sumBelow, pairsWith, pairs}
+use Rattle.reports.specs.Words.{pairsWith, pairs}
 use Rattle.counter.specs.Counting.{itemSteps, stepsWithin, steps, itemsTo, Outcome, finished, stopped, filled, needed, countOf, countResult}
+use Rattle.runs.specs.Counts.{countBelow, sumBelow}
+use Rattle.runs.proofs.CountLaws.{count-le}
+use Rattle.pattern.specs.Form.{Pattern}
 
 -- a sound book, an accepted pattern, a macro of the book, and work space enough
 pub record Asked (b p work : List ℕ) (ms : List Macro) (t : Pattern) (m : ℕ) : Type 0 where

@@ -8,7 +8,6 @@ use mathlib.Core.Bool.{Bool, true, false, _&&_}
 use mathlib.Core.List.{List, [], _∷_, _++_, append-assoc, List·Memᴰ, List·Memᴰ·head, List·Memᴰ·tail}
 use lib.Dec.{leb, ltb}
 use borrow.Author.Tests.{ltb-true, ltb-false, le-leb}
-use Rattle.stateset.proofs.Some.{and-both}
 use lib.ListN.{length, getD, take, drop, length-append, length-take, length-drop}
 use lib.Seq.{take-at, drop-at, drop-drop}
 use Rattle.book.specs.declared.item.Item.{Item}
@@ -19,20 +18,22 @@ use Rattle.book.specs.Reading.{Reading, got, refused, readBook, macrosOf, macro
 use Rattle.book.proofs.Coding.{read-well}
 use Rattle.book.proofs.Parts.{PartOffsets, located, part-is}
 use Rattle.book.proofs.Expansion.{calls-lower, expansion-law, expansion-keys, well-short, well-key}
-use Rattle.brackets.specs.Form.{Pattern, atomCount}
 use Rattle.pattern.specs.Moves.{states}
 use Rattle.counter.specs.declared.items.MacroCount.{MacroCount}
 use Rattle.lines.specs.declared.moves.Closing.{Closing}
 use Rattle.reports.specs.declared.report.Report.{Report}
-use Rattle.lines.specs.Lines.{isRun}
 use Rattle.reports.specs.Reports.{report}
-use Rattle.reports.specs.Words.{sumBelow, reportWords}
+use Rattle.reports.specs.Words.{reportWords}
 use Rattle.counter.specs.Counting.{stepsWithin, steps, firstReports}
 use Rattle.lines.specs.Promises.{Automaton}
 use Rattle.reports.specs.Promises.{loaded}
-use Rattle.reports.proofs.WordLaws.{sum-more}
 use Rattle.counter.specs.Items.{CallRoom, CallsFit, Served, ItemsCounted, MacroFits, Filled}
 use Rattle.reports.proofs.StoredLaws.{words-length, loaded-words}
+use Rattle.runs.proofs.Tests.{and-both}
+use Rattle.pattern.specs.Form.{Pattern, atomCount}
+use Rattle.runs.specs.Keys.{isRun}
+use Rattle.runs.specs.Counts.{sumBelow}
+use Rattle.runs.proofs.CountLaws.{sum-more}
 
 module _ (t : Pattern) (few : atomCount t ≤ 29) (ms : List Macro) where
   pub reports-length : (n : ℕ) → length (firstReports t ms n) ≡ n * (states t + 4)

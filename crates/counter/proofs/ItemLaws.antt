@@ -7,7 +7,6 @@ use mathlib.Core.List.{List, [], _∷_, _++_, append-assoc, append-nil, List·Me
 use lib.Dec.{leb}
 use lib.ListN.{length, take, drop, length-append, length-drop}
 use lib.Seq.{take-append-le, take-append-seam}
-use Rattle.stateset.proofs.Some.{and-both}
 use Rattle.book.specs.declared.item.Item.{Item}
 use Rattle.book.specs.declared.item.Item.the-variants.{Key, Call}
 use Rattle.book.specs.declared.item.ItemRead.{ItemRead}
@@ -15,21 +14,24 @@ use Rattle.book.specs.declared.item.ItemRead.the-variants.{Found, Short}
 use Rattle.book.specs.Expansion.{keysOf, expand}
 use Rattle.book.specs.Reading.{itemAt, itemsOf}
 use Rattle.book.proofs.Items.{found-long, items-on-found, items-on-short, items-end}
-use Rattle.brackets.specs.Form.{Pattern}
 use Rattle.pattern.specs.Moves.{states}
 use Rattle.lines.specs.declared.moves.Closing.{Closing}
 use Rattle.reports.specs.declared.report.Report.{Report}
-use Rattle.lines.specs.Lines.{isRun}
 use Rattle.reports.specs.Reports.{report, joinedReports}
-use Rattle.reports.specs.Words.{sumBelow, pairs}
+use Rattle.reports.specs.Words.{pairs}
 use Rattle.counter.specs.Counting.{itemSteps}
 use Rattle.lines.specs.Promises.{Automaton}
 use Rattle.reports.specs.Promises.{Extended, loaded, pairsIn}
 use Rattle.reports.specs.Empty.{emptyReport}
 use Rattle.counter.specs.Items.{CallFits, CallsFit, Served, AfterItem, ItemsCounted}
 use Rattle.reports.proofs.JoinLaw.{join-reports}
-use Rattle.reports.proofs.WordLaws.{sum-more}
-use Rattle.reports.proofs.ReportLaws.{empty-is, report-size, joined-size, sum-ext, pairs-of, pairs-le, run-append}
+use Rattle.reports.proofs.ReportLaws.{empty-is, report-size, joined-size, pairs-of, pairs-le}
+use Rattle.runs.proofs.Tests.{and-both}
+use Rattle.pattern.specs.Form.{Pattern}
+use Rattle.runs.specs.Keys.{isRun}
+use Rattle.runs.specs.Counts.{sumBelow}
+use Rattle.runs.proofs.CountLaws.{sum-more, sum-ext}
+use Rattle.runs.proofs.KeyLaws.{run-append}
 
 pub expand-more : (called : ℕ → List ℕ) (is : List Item) (i : Item) → expand called (is ++ (i ∷ [])) ≡ expand called is ++ keysOf called i
 unfolding expand

@@ -10,12 +10,13 @@ use Rattle.refusal.specs.Number.{number}
 use Rattle.book.specs.Format.{Macro}
 use Rattle.book.specs.Expansion.{expand, expansion}
 use Rattle.book.specs.Reading.{Reading, got, refused}
-use Rattle.brackets.specs.Form.{Pattern}
 use Rattle.pattern.specs.Moves.{states}
 use Rattle.pattern.specs.Reader as reader
 use Rattle.lines.specs.Lines.{matching}
 use Rattle.reports.specs.Reports.{most, report}
-use Rattle.reports.specs.Words.{sumBelow, pairs, reportWords}
+use Rattle.reports.specs.Words.{pairs, reportWords}
+use Rattle.pattern.specs.Form.{Pattern}
+use Rattle.runs.specs.Counts.{sumBelow}
 
 -- Steps.
 

@@ -11,7 +11,6 @@ use Rattle.book.specs.Steps.{Located}
 use Rattle.book.specs.Expansion.{keysOf, expand}
 use Rattle.book.specs.Reading.{itemsOf, got, readBook, macrosIn}
 use Rattle.book.specs.Answer.{layoutFor}
-use Rattle.brackets.specs.Form.{Pattern, atomCount}
 use Rattle.pattern.specs.Automata.{keyTable, enterTable, accepts}
 use Rattle.pattern.specs.declared.automaton.Accepting.{Accepting}
 use Rattle.pattern.specs.Moves.{states}
@@ -19,12 +18,13 @@ use Rattle.counter.specs.declared.counting.BookCount.{BookCount}
 use Rattle.counter.specs.declared.items.MacroCount.{MacroCount}
 use Rattle.lines.specs.declared.moves.Closing.{Closing}
 use Rattle.reports.specs.declared.report.Report.{Report}
-use Rattle.lines.specs.Lines.{isKey, isRun}
 use Rattle.reports.specs.Reports.{report}
 use Rattle.counter.specs.Counting.{itemSteps, steps, filled, countOf, countWith}
 use Rattle.counter.specs.Answers.{outcome}
 use Rattle.lines.specs.Promises.{Automaton}
 use Rattle.reports.specs.Promises.{loaded}
+use Rattle.pattern.specs.Form.{Pattern, atomCount}
+use Rattle.runs.specs.Keys.{isKey, isRun}
 
 -- the words of a called macro's report are there
 abbrev pub CallRoom : ℕ → Item → List ℕ → Type 0

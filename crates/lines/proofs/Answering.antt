@@ -3,7 +3,6 @@ use Prim.Native.Nat.{ℕ}
 use mathlib.Core.Path.{_≡_, refl, sym, ap, _∙_}
 use mathlib.Core.List.{List}
 use Rattle.refusal.specs.declared.Refusal.{Refusal}
-use Rattle.brackets.specs.Form.{Pattern}
 use Rattle.pattern.specs.Reader.{Read, accepted, refused, readPattern}
 use Rattle.pattern.specs.Automata.{ReadAs, verdictFigures}
 use Rattle.pattern.specs.declared.automaton.Accepting.{Accepting}
@@ -15,6 +14,7 @@ use Rattle.lines.specs.declared.run.RunCount.{RunCount}
 use Rattle.refusal.specs.Figures.{Figures, refusedFor}
 use Rattle.lines.specs.Answers.{lineFigures, runFigures, lineResult, runResult}
 use Rattle.lines.specs.Promises.{Automaton, Closes, TestsLine, CountsRun}
+use Rattle.pattern.specs.Form.{Pattern}
 
 module _ (p keys enter keys' enter' : List ℕ) {v : Verdict} (h : ReadAs (readPattern p) keys enter (verdictFigures v) keys' enter') where
   -- a refused pattern, whatever else is asked

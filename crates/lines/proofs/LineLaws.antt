@@ -5,27 +5,11 @@ use mathlib.Core.Path.{_≡_, refl, sym}
 use mathlib.Core.Bool.{Bool, true, false, cond, _&&_, _||_, false≢true}
 use mathlib.Core.List.{List, [], _∷_, _++_}
 use lib.Dec.{eqb}
-use Rattle.brackets.specs.Form.{Pattern, member}
 use Rattle.pattern.specs.Meaning.{matches}
-use Rattle.lines.specs.Lines.{lineEnd, lines, countIn, matching}
+use Rattle.lines.specs.Lines.{lines, countIn, matching}
 use Rattle.lines.specs.Promises.{isOpen}
-
--- a list with a byte in front
-pub member-first : (k b : ℕ) (l : List ℕ) → member k (b ∷ l) ≡ false → eqb k b ≡ false
-unfolding member
-member-first k b l h = go (eqb k b) h
-  where
-    go : (x : Bool) → (x || member k l) ≡ false → x ≡ false
-    go true e = e
-    go false e = refl
-
-pub member-rest : (k b : ℕ) (l : List ℕ) → member k (b ∷ l) ≡ false → member k l ≡ false
-unfolding member
-member-rest k b l h = go (eqb k b) h
-  where
-    go : (x : Bool) → (x || member k l) ≡ false → member k l ≡ false
-    go true e = absurd (false≢true (sym e))
-    go false e = e
+use Rattle.pattern.specs.Form.{Pattern}
+use Rattle.runs.specs.Keys.{member, lineEnd}
 
 -- a line end closes the keys before it
 pub lines-closed : (l w : List ℕ) → member lineEnd l ≡ false → lines (l ++ (lineEnd ∷ w)) ≡ l ∷ lines w

@@ -10,8 +10,6 @@ use Rattle.stateset.specs.Set.{bit, word, anyBelow, imageOf}
 use Rattle.stateset.proofs.Sets.{word-ext, word-one, bit-word}
 use Rattle.stateset.proofs.Some.{any-ext, any-widen}
 use Rattle.stateset.proofs.Common.{common-words}
-use Rattle.brackets.specs.Form.{Pattern, atomCount}
-use Rattle.brackets.specs.Sets.{isLine}
 use Rattle.pattern.specs.Meaning.{matches}
 use Rattle.pattern.specs.Moves.{states, move, accepting, leads, acceptedFrom}
 use Rattle.pattern.specs.declared.automaton.Accepting.{Accepting}
@@ -20,6 +18,8 @@ use Rattle.pattern.proofs.AcceptedLines.{states-match}
 use Rattle.pattern.proofs.Leading.{leads-append, leads-one, leads-below}
 use Rattle.lines.specs.declared.moves.Closing.{Closing}
 use Rattle.lines.specs.Promises.{Automaton, Closes, Advances, closingOf, moved, reached}
+use Rattle.pattern.specs.Form.{Pattern, atomCount}
+use Rattle.runs.specs.Keys.{isLine}
 
 -- a move, from what each word of it is
 pub made : (keys enter : List ℕ) (c : Closing) (x k : ℕ) {i e mid a b found near r : ℕ} {m n o : Bool} →

@@ -11,30 +11,24 @@ use lib.ListN.{length, getD, take, drop, drop-of-length-le}
 use lib.Seq.{take-all, take-suc, drop-cons}
 use borrow.Author.Tests.{eqb-true, ne-eqb}
 use Rattle.refusal.specs.declared.Refusal.the-variants.{InvalidKey}
-use Rattle.brackets.specs.Form.{Pattern, member}
-use Rattle.brackets.specs.Sets.{lineKey, isLine}
 use Rattle.pattern.specs.Meaning.{matches}
 use Rattle.pattern.proofs.Moving.{common}
 use Rattle.lines.specs.declared.moves.Closing.{Closing}
 use Rattle.lines.specs.declared.run.RunCount.{RunCount}
 use Rattle.lines.specs.declared.run.Tally.{Tally}
-use Rattle.lines.specs.Lines.{lineEnd, matching}
+use Rattle.lines.specs.Lines.{matching}
 use Rattle.refusal.specs.Figures.{answered}
 use Rattle.lines.specs.Answers.{runResult}
 use Rattle.lines.specs.Promises.{Automaton, Advances, AfterKey, CountsRun, tallyAfter, isOpen, reached}
-use Rattle.lines.proofs.LineLaws.{member-first, member-rest, matching-closed, matching-open}
+use Rattle.lines.proofs.LineLaws.{matching-closed, matching-open}
 use Rattle.lines.proofs.Reaching.{reached-none, reached-more, reached-matches}
-use Rattle.lines.proofs.Testing.{key-test, line-more, line-without, member-at}
+use Rattle.pattern.specs.Form.{Pattern}
+use Rattle.runs.specs.Keys.{member, lineKey, isLine, lineEnd}
+use Rattle.runs.proofs.KeyLaws.{member-first, member-rest, key-test, line-more, line-without, member-at}
 
 -- two tallies of closed lines
 same-tally : {x y m n : ℕ} → x ≡ y → m ≡ n → _≡_ {A = Tally} (record { set = x; pending = false; lines = m }) (record { set = y; pending = false; lines = n })
 same-tally e f = rw (e, f)
-
--- a key more, which is not k
-member-more : (k : ℕ) (w : List ℕ) (c : ℕ) → member k w ≡ false → eqb k c ≡ false → member k (w ++ (c ∷ [])) ≡ false
-unfolding member
-member-more k [] c g h = rw h refl
-member-more k (d ∷ w) c g h = rw (member-first k d w g) (member-more k w c (member-rest k d w g) h)
 
 -- and it makes a line that has a key
 open-more : (w : List ℕ) (c : ℕ) → isOpen (w ++ (c ∷ [])) ≡ true

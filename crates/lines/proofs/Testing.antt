@@ -9,52 +9,25 @@ use lib.Dec.{eqb}
 use lib.ListN.{length, getD, take}
 use lib.Seq.{take-all, take-suc}
 use borrow.Author.Tests.{eqb-true, eqb-false, eq-eqb, le-leb, not-true, not-false}
-use Rattle.stateset.proofs.Some.{torn, and-both, and-fst, and-snd, or-left, or-right}
 use Rattle.refusal.specs.declared.Refusal.the-variants.{InvalidKey}
-use Rattle.brackets.specs.Form.{Pattern, member}
-use Rattle.brackets.specs.Sets.{lineKey, isLine}
 use Rattle.pattern.specs.Meaning.{matches}
 use Rattle.pattern.specs.Reader.{accepted}
 use Rattle.pattern.proofs.Moving.{common}
 use Rattle.lines.specs.declared.line.LineTest.{LineTest}
 use Rattle.lines.specs.declared.moves.Closing.{Closing}
-use Rattle.lines.specs.Lines.{lineEnd}
 use Rattle.refusal.specs.Figures.{answered}
 use Rattle.lines.specs.Answers.{lineResult}
 use Rattle.lines.specs.Promises.{Automaton, Advances, TestsLine, moved, reached}
 use Rattle.lines.proofs.Reaching.{reached-none, reached-more, reached-matches}
+use Rattle.runs.proofs.Tests.{torn, and-both, and-fst, and-snd, or-left, or-right}
+use Rattle.pattern.specs.Form.{Pattern}
+use Rattle.runs.specs.Keys.{member, lineKey, isLine, lineEnd}
 
 -- Keys of a line.
 
 -- a byte is a key of a line, or 0 or a line end
 pub no-zero : (k : ℕ) → k ≡ 0 → false ≡ lineKey k
 no-zero k e = rw e
-
-pub key-test : (k : ℕ) → k < 256 → eqb k 0 ≡ false → not (eqb k 10) ≡ lineKey k
-key-test k b h = rw (le-leb 1 k (omega (arith, eqb-false k 0 h)), le-leb k 255 (omega arith)) refl
-
--- one key more at the end of a line
-pub line-more : (w : List ℕ) (k : ℕ) → isLine w ≡ true → lineKey k ≡ true → isLine (w ++ (k ∷ [])) ≡ true
-unfolding isLine
-line-more [] k g h = and-both (lineKey k) true h refl
-line-more (c ∷ w) k g h = and-both (lineKey c) (isLine (w ++ (k ∷ []))) (and-fst (lineKey c) (isLine w) g) (line-more w k (and-snd (lineKey c) (isLine w) g) h)
-
--- a line has no byte 0 or 10
-pub line-without : (w : List ℕ) (k : ℕ) → lineKey k ≡ false → isLine w ≡ true → member k w ≡ false
-unfolding isLine member
-line-without [] k h g = refl
-line-without (c ∷ w) k h g = go (line-without w k h (and-snd (lineKey c) (isLine w) g)) (eqb k c) refl
-  where
-    go : member k w ≡ false → (b : Bool) → eqb k c ≡ b → (b || member k w) ≡ false
-    go r true e = torn (lineKey k) (ap lineKey (eqb-true k c e) ∙ and-fst (lineKey c) (isLine w) g) h
-    go r false e = r
-
--- a byte stands in a list
-pub member-at : (k : ℕ) (w : List ℕ) (i : ℕ) → i < length w → getD w i 0 ≡ k → member k w ≡ true
-unfolding member
-member-at k [] i h e = absurd (omega arith)
-member-at k (c ∷ w) zero h e = or-left (eqb k c) (member k w) (eq-eqb k c (sym e))
-member-at k (c ∷ w) (suc i) h e = or-right (eqb k c) (member k w) (member-at k w i (omega arith) e)
 
 -- a byte that is no key of a line is refused
 pub not-key : (w : List ℕ) (i : ℕ) → i < length w → getD w i 0 < 256 → lineKey (getD w i 0) ≡ false → (member 0 w || member lineEnd w) ≡ true

@@ -4,12 +4,12 @@ use mathlib.Core.Bool.{cond, _||_}
 use mathlib.Core.List.{List}
 use Rattle.refusal.specs.declared.Refusal.the-variants.{InvalidKey}
 use Rattle.refusal.specs.Figures.{Figures, answered, refusedFor}
-use Rattle.brackets.specs.Form.{member}
 use Rattle.pattern.specs.Meaning.{matches}
 use Rattle.pattern.specs.Reader.{Read, accepted, refused}
 use Rattle.lines.specs.declared.line.LineTest.{LineTest}
 use Rattle.lines.specs.declared.run.RunCount.{RunCount}
-use Rattle.lines.specs.Lines.{lineEnd, matching}
+use Rattle.lines.specs.Lines.{matching}
+use Rattle.runs.specs.Keys.{member, lineEnd}
 
 -- the one-line test: 1 if the line matches, or 0
 abbrev pub lineFigures : LineTest → Figures ℕ

@@ -3,21 +3,8 @@ use Prim.Native.Nat.{ℕ, _+_}
 use mathlib.Core.Bool.{Bool, true, cond, _&&_}
 use mathlib.Core.List.{List, [], _∷_}
 use lib.Dec.{leb, eqb}
-use Rattle.brackets.specs.Form.{Pattern}
 use Rattle.pattern.specs.Meaning.{matches}
-
--- the line end, LF
-abbrev pub lineEnd : ℕ
-lineEnd = 10
-
--- "A key is a byte from 1 to 255"
-abbrev pub isKey : ℕ → Bool
-isKey c = leb 1 c && leb c 255
-
--- a run of keys
-unfoldable pub isRun : List ℕ → Bool
-isRun [] = true
-isRun (c ∷ w) = isKey c && isRun w
+use Rattle.pattern.specs.Form.{Pattern}
 
 -- a key in front of the first line, or as a line of its own
 abbrev pub onto : ℕ → List (List ℕ) → List (List ℕ)

@@ -5,8 +5,6 @@ use mathlib.Core.Bool.{Bool, true, false, cond, _&&_, _||_}
 use mathlib.Core.List.{List, [], _∷_, _++_}
 use lib.Dec.{eqb}
 use Rattle.stateset.specs.Set.{bit, word, anyBelow}
-use Rattle.brackets.specs.Form.{Pattern, atomCount}
-use Rattle.brackets.specs.Sets.{lineKey, isLine}
 use Rattle.pattern.specs.Meaning.{matches}
 use Rattle.pattern.specs.Reader.{accepted}
 use Rattle.pattern.specs.declared.automaton.Accepting.{Accepting}
@@ -16,9 +14,10 @@ use Rattle.pattern.specs.Automata.{keyTable, enterTable, accepts}
 use Rattle.lines.specs.declared.line.LineTest.{LineTest}
 use Rattle.lines.specs.declared.run.RunCount.{RunCount}
 use Rattle.lines.specs.declared.run.Tally.{Tally}
-use Rattle.lines.specs.Lines.{lineEnd}
 use Rattle.lines.specs.Answers.{lineFigures, runFigures, lineResult, runResult}
 use Rattle.lines.specs.declared.moves.Closing.{Closing}
+use Rattle.pattern.specs.Form.{Pattern, atomCount}
+use Rattle.runs.specs.Keys.{lineKey, isLine, lineEnd}
 
 -- the words of a pattern that say when a line is found to match
 abbrev pub closingOf : Pattern → Closing

@@ -9,9 +9,9 @@ use refusal::Refusal;
 use stateset::meets;
 ghost use mathlib.Core.Path.{_≡_};
 ghost use Rattle.pattern.specs.Reader.{readPattern};
-ghost use Rattle.brackets.specs.Sets.{lineKey};
 ghost use Rattle.lines.specs.Answers.{lineFigures, lineResult};
 ghost use Rattle.lines.specs.Promises.{TestsLine};
+ghost use Rattle.runs.specs.Keys.{lineKey};
 
 pub enum LineTest {
     Matches,

@@ -7,9 +7,7 @@ use mathlib.Core.Bool.{Bool, true, false, not, _&&_, _||_, false≢true}
 use mathlib.Core.List.{List, [], _∷_, _++_, append-nil}
 use lib.Dec.{eqb, eqb·suc-suc, eqb·suc-zero}
 use borrow.Author.Tests.{eqb-true, eq-eqb, not-true}
-use Rattle.stateset.proofs.Some.{torn, or-cases, or-left, or-right, and-both, and-fst, and-snd, tests-ext, Witness, any-some, any-witness}
-use Rattle.brackets.specs.Form.{Branch, Pattern, atomsIn, atomCount}
-use Rattle.brackets.specs.Sets.{lineKey, isLine}
+use Rattle.stateset.proofs.Some.{Witness, any-some, any-witness}
 use Rattle.pattern.specs.Meaning.{MatchesBranch, Matches, matches}
 use Rattle.pattern.specs.States.{nothingIn, firstInBranch, firstInFree, endsFree, endsAnchored, follows, holdsKey, emptyFree}
 use Rattle.pattern.specs.Moves.{states, enters, into, intoEnd, jumps, target, move, accepting, leads, acceptedFrom}
@@ -17,6 +15,9 @@ use Rattle.pattern.proofs.Meaning.{matches-iff}
 use Rattle.pattern.proofs.Continuations.{Step, lifted}
 use Rattle.pattern.proofs.SomeBranch.{Some, some-true, true-some, some-map, Tells, some-within, some-step, step-some}
 use Rattle.pattern.proofs.BranchStates.{no-key, firstOf, lastOf, followOf, holdsOf, first-tells, follow-tells, holds-tells, cont-tells, At, After, at-begins, begins-at, Live, live-after, free-after, after-cases, live-step, step-live, live-end, end-live, matches-place, place-matches, nothing-in}
+use Rattle.runs.proofs.Tests.{torn, or-cases, or-left, or-right, and-both, and-fst, and-snd, tests-ext}
+use Rattle.pattern.specs.Form.{Branch, Pattern, atomsIn, atomCount}
+use Rattle.runs.specs.Keys.{lineKey, isLine}
 
 -- after atom k some branch matches on; and so where more than found is still to come
 abbrev Follows : Pattern → ℕ → List ℕ → Type 0

@@ -9,11 +9,14 @@ use lib.Dec.{leb}
 use lib.ListN.{length}
 use borrow.Author.Tests.{leb-true, leb-false, le-leb, lt-leb}
 use Rattle.refusal.specs.declared.Refusal.the-variants.{PatternLength, PatternSyntax, TooManyAtoms}
-use Rattle.brackets.specs.Form.{Pattern, member, writePattern, formedPattern, atomCount}
 use Rattle.brackets.specs.Brackets.{Parsed, parsed, fault}
 use Rattle.pattern.specs.Reader.{readBranches, accepted, refused, counted, readPattern}
-use Rattle.brackets.proofs.Parses.{clash, neither, Bytes, Clean, clean-of, clean-without}
+use Rattle.brackets.proofs.Parses.{Clean, clean-without}
 use Rattle.pattern.proofs.Branches.{branches-from, pattern-back, pattern-clean}
+use Rattle.pattern.specs.Form.{Pattern, writePattern, formedPattern, atomCount}
+use Rattle.runs.specs.Keys.{member, Bytes}
+use Rattle.runs.proofs.Tests.{clash, neither}
+use Rattle.runs.proofs.KeyLaws.{line-of}
 
 -- two trees of the form that are written the same are the same
 pub one-tree : (t u : Pattern) → formedPattern t ≡ true → formedPattern u ≡ true → writePattern t ≡ writePattern u → t ≡ u
@@ -85,7 +88,7 @@ verdict p h low high = go (member 0 p || member 10 p) refl
     go true e = is-bad (rw (le-leb 1 (length p) low, le-leb (length p) 128 high, e))
     go false e =
         let (z, ten) = neither (member 0 p) (member 10 p) e in
-        of-parsed (clean-of p h z ten) e (readBranches (length p) p) refl
+        of-parsed (line-of p h z ten) e (readBranches (length p) p) refl
 
 -- what is not refused for its length has the right one
 right-length : (p : List ℕ) → (readPattern p ≡ refused PatternLength → ⊥) → (1 ≤ length p) × (length p ≤ 128)

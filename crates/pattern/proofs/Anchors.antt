@@ -14,13 +14,13 @@ use Rattle.pattern.specs.declared.branch.BranchRead.{BranchRead}
 use Rattle.pattern.specs.declared.cursor.Cursor.{Cursor}
 use Rattle.pattern.specs.declared.cursor.Part.{Part}
 use Rattle.pattern.specs.declared.shape.Shape.{Shape}
-use Rattle.brackets.specs.Form.{Expr, Branch, atomsIn}
 use Rattle.brackets.specs.Brackets.{Parsed, parsed, fault, at}
 use Rattle.pattern.specs.Reader.{Mode, endsPieces, enough, anchored, readRest, readBranch}
 use Rattle.pattern.specs.Cycle.{Ready, Reads}
 use Rattle.pattern.specs.Branches.{shapeIn, keysIn, enterIn, EndDone, BranchDone}
 use Rattle.pattern.proofs.Atoms.{inside}
 use Rattle.pattern.proofs.Cycles.{peeked, nonzero, View, view, unread}
+use Rattle.pattern.specs.Form.{Expr, Branch, atomsIn}
 
 -- pieces, or none, were read up to the cursor d, and an optional `$` stands there
 module _ (s : List ℕ) (c d : Cursor) (start : Bool) (keys keys' enter enter' : List ℕ) (e : Option Expr) (rest : List ℕ) (p : Shape) (in-s : d .at ≤ length s) (here : rest ≡ drop (d .at) s) (next : d ≡ record { at = length s - length rest; atoms = c .atoms + atomsIn e }) (shape : p ≡ shapeIn (c .atoms) e) (keyed : keys' ≡ keysIn (c .atoms) e keys) (entered : enter' ≡ enterIn (c .atoms) e enter) where

@@ -14,10 +14,9 @@ use lib.Pow.{pow-lt}
 use borrow.Author.Tests.{eq-eqb, ne-eqb, eqb-true, eqb-false, leb-true, leb-false}
 use Rattle.stateset.proofs.Sets.{word-one, word-ext, word-none}
 use Rattle.brackets.specs.declared.bracket.BracketRead.{BracketRead}
-use Rattle.brackets.proofs.Parses.{clash}
 use Rattle.pattern.specs.declared.cursor.Cursor.{Cursor}
 use Rattle.pattern.specs.declared.cursor.Part.{Part}
-use Rattle.brackets.specs.Form.{member, marks, Atom, plain, dot, escaped}
+use Rattle.brackets.specs.Form.{marks, Atom, plain, dot, escaped}
 use Rattle.brackets.specs.Brackets.{Parsed, parsed, fault, at, readBracket}
 use Rattle.pattern.specs.Reader.{readAtom}
 use Rattle.brackets.specs.Steps.{keysWith, BracketDone}
@@ -25,6 +24,8 @@ use Rattle.pattern.specs.Cycle.{AtomDone}
 use Rattle.pattern.proofs.Tables.{keys-atom}
 use Rattle.brackets.specs.Sets.{setOf, named}
 use Rattle.pattern.specs.States.{nothing, first, last, atomState, atomWord}
+use Rattle.runs.proofs.Tests.{clash}
+use Rattle.runs.specs.Keys.{member}
 
 -- a search through a list: what is left has the byte exactly if the whole has it
 module _ (l : List ℕ) (b i : ℕ) (t : Bool) (inv : member b (drop i l) ≡ t) where

@@ -15,22 +15,22 @@ use Rattle.pattern.specs.declared.automaton.Accepting.{Accepting}
 use Rattle.pattern.specs.declared.automaton.Verdict.{Verdict}
 use Rattle.pattern.specs.declared.branch_list.PatternRead.{PatternRead}
 use Rattle.pattern.specs.declared.summary.Summary.{Summary}
-use Rattle.brackets.specs.Form.{Expr, Branch, Pattern, atomsIn, atomCount}
 use Rattle.brackets.specs.Brackets.{Parsed, parsed, fault}
 use Rattle.pattern.specs.Reader.{readBranches, counted}
 use Rattle.pattern.specs.States.{nothingIn, inPieces, first, last, follow, holds, someBranch, firstInBranch, firstInFree, endsFree, endsAnchored, holdsKey, emptyBranch, emptyFree, atomWord}
-use Rattle.brackets.specs.Tabled.{tabled}
 use Rattle.pattern.specs.Tables.{isAtom}
 use Rattle.pattern.specs.Branches.{shapeIn, keysIn, enterIn}
 use Rattle.pattern.specs.Summaries.{branchSummary, summaryOf, through, PatternDone, ReadsBranches}
 use Rattle.pattern.specs.Moves.{enters}
-use Rattle.brackets.proofs.Tabled.{tabled-same}
 use Rattle.refusal.specs.Figures.{answered}
 use Rattle.pattern.specs.Automata.{keyTable, enterTable, accepts, ReadAs, acceptingOf, verdictFigures}
 use Rattle.brackets.specs.Steps.{mapWith}
-use Rattle.brackets.proofs.Parses.{clash}
 use Rattle.brackets.proofs.Entries.{with-same, with-with, with-none}
 use Rattle.pattern.proofs.Tables.{atoms-none, atoms-same, both-added, added-if}
+use Rattle.pattern.specs.Form.{Expr, Branch, Pattern, atomsIn, atomCount}
+use Rattle.stateset.specs.Tabled.{tabled}
+use Rattle.stateset.proofs.Tabled.{tabled-same}
+use Rattle.runs.proofs.Tests.{clash}
 
 -- the word of no atom adds nothing
 none-added : (x : ℕ) → bitOr x (atomWord (λ k. false)) ≡ x

@@ -9,28 +9,31 @@ use lib.Dec.{leb, eqb}
 use lib.ListN.{length, drop, length-append}
 use lib.Seq.{drop-at}
 use borrow.Author.Tests.{ltb-true, not-true}
-use Rattle.brackets.specs.Form.{Element, byte, range, class, bracket, className, member, patternByte, writeElement, writeElements, writeAtom, opening, endsOpen, formedElement, meets, formedElements, plainStart, formedAtom}
+use Rattle.brackets.specs.Form.{Element, byte, range, class, bracket, className, writeElement, writeElements, writeAtom, opening, endsOpen, formedElement, meets, formedElements, plainStart, formedAtom}
 use Rattle.brackets.specs.Brackets.{parsed, at, findClass, startsRange, readElement, readElements, readBracket}
-use Rattle.brackets.proofs.Parses.{clash, both, Clean, clean-append, byte-is}
+use Rattle.brackets.proofs.Parses.{Clean}
 use Rattle.pattern.proofs.BracketsFrom.{class-back, name-clean, opens, open-out, opening-front, elements-front, goes-on}
+use Rattle.runs.specs.Keys.{member, lineKey}
+use Rattle.runs.proofs.Tests.{clash, and-parts}
+use Rattle.runs.proofs.KeyLaws.{line-append, key-is}
 
 -- the parts of a byte's form
-pub byte-form : (first last : Bool) (b : ℕ) → formedElement first last (byte b) ≡ true → (patternByte b ≡ true) × (first || not (eqb b 93) ≡ true) × (first || (last || not (eqb b 45)) ≡ true)
+pub byte-form : (first last : Bool) (b : ℕ) → formedElement first last (byte b) ≡ true → (lineKey b ≡ true) × (first || not (eqb b 93) ≡ true) × (first || (last || not (eqb b 45)) ≡ true)
 unfolding formedElement
 byte-form first last b h =
-    let (fine, others) = both (patternByte b) ((first || not (eqb b 93)) && (first || (last || not (eqb b 45)))) h in
-    let (close, dash) = both (first || not (eqb b 93)) (first || (last || not (eqb b 45))) others in
+    let (fine, others) = and-parts (lineKey b) ((first || not (eqb b 93)) && (first || (last || not (eqb b 45)))) h in
+    let (close, dash) = and-parts (first || not (eqb b 93)) (first || (last || not (eqb b 45))) others in
     (fine, close, dash)
 
 -- and of a range's
-pub range-form : (first last : Bool) (a b : ℕ) → formedElement first last (range a b) ≡ true → (patternByte a ≡ true) × (patternByte b ≡ true) × (leb a b ≡ true) × (first || not (eqb a 93) ≡ true) × (first || not (eqb a 45) ≡ true) × (not (eqb b 93) ≡ true)
+pub range-form : (first last : Bool) (a b : ℕ) → formedElement first last (range a b) ≡ true → (lineKey a ≡ true) × (lineKey b ≡ true) × (leb a b ≡ true) × (first || not (eqb a 93) ≡ true) × (first || not (eqb a 45) ≡ true) × (not (eqb b 93) ≡ true)
 unfolding formedElement
 range-form first last a b h =
-    let (bytes, t1) = both (patternByte a && patternByte b) (leb a b && ((first || (not (eqb a 93) && not (eqb a 45))) && not (eqb b 93))) h in
-    let (fine-a, fine-b) = both (patternByte a) (patternByte b) bytes in
-    let (le, t2) = both (leb a b) ((first || (not (eqb a 93) && not (eqb a 45))) && not (eqb b 93)) t1 in
-    let (begins, last-not) = both (first || (not (eqb a 93) && not (eqb a 45))) (not (eqb b 93)) t2 in
-    let (close, dash) = both (first || not (eqb a 93)) (first || not (eqb a 45)) (rw or-and-distrib-left at begins) in
+    let (bytes, t1) = and-parts (lineKey a && lineKey b) (leb a b && ((first || (not (eqb a 93) && not (eqb a 45))) && not (eqb b 93))) h in
+    let (fine-a, fine-b) = and-parts (lineKey a) (lineKey b) bytes in
+    let (le, t2) = and-parts (leb a b) ((first || (not (eqb a 93) && not (eqb a 45))) && not (eqb b 93)) t1 in
+    let (begins, last-not) = and-parts (first || (not (eqb a 93) && not (eqb a 45))) (not (eqb b 93)) t2 in
+    let (close, dash) = and-parts (first || not (eqb a 93)) (first || not (eqb a 45)) (rw or-and-distrib-left at begins) in
     (fine-a, fine-b, le, close, dash, last-not)
 
 -- an element of the form is read again
@@ -39,7 +42,7 @@ unfolding readElement writeElement formedElement member
 element-back first (byte b) m h o s =
     let (r, pq) = open-out (eqb b 91) (eqb (at 0 m) 46) (eqb (at 0 m) 61) (eqb (at 0 m) 58) o in
     let (fine, close, dash) = byte-form first (eqb (at 0 m) 93) b h in
-    let there : eqb b 0 ≡ false = byte-is b fine .2 in
+    let there : eqb b 0 ≡ false = key-is b fine .2 in
     let order : first || (not (eqb b 45) || eqb (at 0 m) 93) ≡ true = rw (or-comm (eqb (at 0 m) 93) (not (eqb b 45))) at dash in
     rw (r, pq, s, there, order)
 element-back first (range a b) m h o s =
@@ -70,7 +73,7 @@ no-range (byte b ∷ []) rest h = and-false (eqb b 45)
 no-range (range a b ∷ []) rest h = rw (not-true (eqb a 45) (range-form false true a b h .4))
 no-range (class c ∷ []) rest h = refl
 no-range (e ∷ d ∷ es) rest h =
-    let (one, others) = both (formedElement false false e) (meets e d && formedElements false (d ∷ es)) h in
+    let (one, others) = and-parts (formedElement false false e) (meets e d && formedElements false (d ∷ es)) h in
     let begins : eqb (at 0 (writeElements (e ∷ d ∷ es) ++ (93 ∷ rest))) 45 ≡ false = rw (elements-front e (d ∷ es) (93 ∷ rest)) (no-dash e one) in
     rw begins
 
@@ -85,14 +88,14 @@ step-back f first last e es m rest h one others =
 first-formed : (first : Bool) (e : Element) (es : List Element) → formedElements first (e ∷ es) ≡ true → (last : Bool) × (formedElement first last e ≡ true)
 unfolding formedElements
 first-formed first e [] h = (true, h)
-first-formed first e (d ∷ es) h = (false, both _ _ h .0)
+first-formed first e (d ∷ es) h = (false, and-parts _ _ h .0)
 
 -- an element and then others of the form are read again
 more-back : (f : ℕ) (first : Bool) (e d : Element) (es : List Element) (m rest : List ℕ) → formedElements first (e ∷ d ∷ es) ≡ true → m ≡ writeElements (d ∷ es) ++ (93 ∷ rest) → readElements f false m ≡ parsed (d ∷ es) rest → readElements (suc f) first (writeElement e ++ m) ≡ parsed (e ∷ d ∷ es) rest
 unfolding formedElements
 more-back f first e d es m rest h same others =
-    let (one, t) = both (formedElement first false e) (meets e d && formedElements false (d ∷ es)) h in
-    let (meet, after) = both (meets e d) (formedElements false (d ∷ es)) t in
+    let (one, t) = and-parts (formedElement first false e) (meets e d && formedElements false (d ∷ es)) h in
+    let (meet, after) = and-parts (meets e d) (formedElements false (d ∷ es)) t in
     let (last, next-one) = first-formed false d es after in
     let begins : at 0 m ≡ opening d = rw same (elements-front d es (93 ∷ rest)) in
     let on : eqb (at 0 m) 93 ≡ false = rw begins (not-close false last d next-one) in
@@ -108,7 +111,7 @@ elements-back (suc f) first [] rest h l = clash (cc)
 elements-back (suc zero) first (e ∷ []) rest h l = absurd (omega arith)
 elements-back (suc (suc f)) first (e ∷ []) rest h l = rw append-nil (step-back (suc f) first true e [] (93 ∷ rest) rest h (element-back first e (93 ∷ rest) h (and-false (endsOpen e)) refl) refl)
 elements-back (suc f) first (e ∷ d ∷ es) rest h l =
-    let after = both (meets e d) (formedElements false (d ∷ es)) (both (formedElement first false e) (meets e d && formedElements false (d ∷ es)) h .1) .1 in
+    let after = and-parts (meets e d) (formedElements false (d ∷ es)) (and-parts (formedElement first false e) (meets e d && formedElements false (d ∷ es)) h .1) .1 in
     rw (append-assoc (writeElement e) (writeElements (d ∷ es)) (93 ∷ rest))
     (more-back f first e d es (writeElements (d ∷ es) ++ (93 ∷ rest)) rest h refl (elements-back f false (d ∷ es) rest after (omega arith)))
 
@@ -135,7 +138,7 @@ unfolding readBracket formedAtom formedElements
 inside-back true es rest h = rw (elements-back (suc (length (writeElements es ++ (93 ∷ rest)))) true es rest h (omega (arith, closed-long es rest)))
 inside-back false [] rest h = clash (cc)
 inside-back false (e ∷ es) rest h =
-    let (start, formed) = both (not (eqb (opening e) 94)) (formedElements true (e ∷ es)) h in
+    let (start, formed) = and-parts (not (eqb (opening e) 94)) (formedElements true (e ∷ es)) h in
     let begins : eqb (at 0 (writeElements (e ∷ es) ++ (93 ∷ rest))) 94 ≡ false = rw (elements-front e es (93 ∷ rest)) (not-true (eqb (opening e) 94) start) in
     rw (begins, elements-back (length (writeElements (e ∷ es) ++ (93 ∷ rest))) true (e ∷ es) rest formed (closed-long (e ∷ es) rest))
 
@@ -151,23 +154,23 @@ element-clean : (first last : Bool) (e : Element) → formedElement first last e
 unfolding writeElement formedElement
 element-clean first last (byte b) h = (byte-form first last b h .0, tt)
 element-clean first last (range a b) h = (range-form first last a b h .0, (refl, (range-form first last a b h .1, tt)))
-element-clean first last (class c) h = (refl, (refl, clean-append (className c) (58 ∷ 93 ∷ []) (name-clean c (ltb-true c 12 h)) (refl, (refl, tt))))
+element-clean first last (class c) h = (refl, (refl, line-append (className c) (58 ∷ 93 ∷ []) (name-clean c (ltb-true c 12 h)) (refl, (refl, tt))))
 
 -- and so are elements of the form
 elements-clean : (first : Bool) (es : List Element) → formedElements first es ≡ true → Clean (writeElements es)
 unfolding writeElements formedElements
 elements-clean first [] h = tt
-elements-clean first (e ∷ []) h = clean-append (writeElement e) [] (element-clean first true e h) tt
+elements-clean first (e ∷ []) h = line-append (writeElement e) [] (element-clean first true e h) tt
 elements-clean first (e ∷ d ∷ es) h =
-    let (one, t) = both (formedElement first false e) (meets e d && formedElements false (d ∷ es)) h in
-    let (meet, others) = both (meets e d) (formedElements false (d ∷ es)) t in
-    clean-append (writeElement e) (writeElements (d ∷ es)) (element-clean first false e one) (elements-clean false (d ∷ es) others)
+    let (one, t) = and-parts (formedElement first false e) (meets e d && formedElements false (d ∷ es)) h in
+    let (meet, others) = and-parts (meets e d) (formedElements false (d ∷ es)) t in
+    line-append (writeElement e) (writeElements (d ∷ es)) (element-clean first false e one) (elements-clean false (d ∷ es) others)
 
 -- and so is a bracket of the form
 pub bracket-clean : (n : Bool) (es : List Element) → formedAtom (bracket n es) ≡ true → Clean (writeAtom (bracket n es))
 unfolding writeAtom formedAtom
 bracket-clean n es h =
-    let inside : Clean (writeElements es ++ (93 ∷ [])) = clean-append (writeElements es) (93 ∷ []) (elements-clean true es (both (n || plainStart es) (formedElements true es) h .1)) (refl, tt) in
+    let inside : Clean (writeElements es ++ (93 ∷ [])) = line-append (writeElements es) (93 ∷ []) (elements-clean true es (and-parts (n || plainStart es) (formedElements true es) h .1)) (refl, tt) in
     (refl, go n inside)
   where
     go : (t : Bool) → Clean (writeElements es ++ (93 ∷ [])) → Clean (cond t (94 ∷ []) [] ++ (writeElements es ++ (93 ∷ [])))

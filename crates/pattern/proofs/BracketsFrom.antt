@@ -10,9 +10,12 @@ use mathlib.Core.Option.{Option, none, some}
 use lib.Dec.{leb, eqb}
 use lib.ListN.{length, take, drop, take-append-drop}
 use borrow.Author.Tests.{lt-ltb, eqb-true, leb-true, not-true}
-use Rattle.brackets.specs.Form.{Element, byte, range, class, Atom, bracket, classNames, className, member, writeElement, writeElements, writeAtom, opening, endsOpen, formedElement, formedElements, plainStart, formedAtom}
+use Rattle.brackets.specs.Form.{Element, byte, range, class, Atom, bracket, classNames, className, writeElement, writeElements, writeAtom, opening, endsOpen, formedElement, formedElements, plainStart, formedAtom}
 use Rattle.brackets.specs.Brackets.{Parsed, parsed, fault, next, done, at, sameBytes, isClass, findClass, startsRange, classFound, readClass, readRange, readByte, readElement, readElements, readBracket}
-use Rattle.brackets.proofs.Parses.{clash, torn, same-parsed, one-parsed, test-parsed, untest-parsed, made-parsed, more-parsed, both, front, Clean, clean-after, clean-drop, cleanBytes, clean-bytes, byte-is}
+use Rattle.brackets.proofs.Parses.{same-parsed, one-parsed, test-parsed, untest-parsed, made-parsed, more-parsed, front, Clean, cleanBytes, clean-bytes}
+use Rattle.runs.specs.Keys.{member}
+use Rattle.runs.proofs.Tests.{clash, torn, and-parts}
+use Rattle.runs.proofs.KeyLaws.{line-after, line-drop, key-is}
 
 -- Classes.
 
@@ -23,7 +26,7 @@ same-bytes [] [] h = refl
 same-bytes [] (y ∷ b) h = clash (cc)
 same-bytes (x ∷ a) [] h = clash (cc)
 same-bytes (x ∷ a) (y ∷ b) h =
-    let (one, others) = both (eqb x y) (sameBytes a b) h in
+    let (one, others) = and-parts (eqb x y) (sameBytes a b) h in
     cc (eqb-true x y one, same-bytes a b others)
 
 -- a class that was found is one of those looked for, and its name begins the bytes
@@ -109,8 +112,8 @@ open-out true false false false h = (refl, refl)
 range-parts : (first : Bool) (l rest : List ℕ) (e : Element) → readRange first l ≡ parsed e rest → (first || not (eqb (at 0 l) 45) ≡ true) × (leb (at 0 l) (at 2 l) ≡ true) × (eqb (at 2 l) 91 && member (at 3 l) (46 ∷ 61 ∷ 58 ∷ []) ≡ false) × (e ≡ range (at 0 l) (at 2 l)) × (rest ≡ drop 3 l)
 range-parts first l rest e p =
     let (t, q) = test-parsed ((first || not (eqb (at 0 l) 45)) && (leb (at 0 l) (at 2 l) && not (eqb (at 2 l) 91 && member (at 3 l) (46 ∷ 61 ∷ 58 ∷ [])))) (parsed (range (at 0 l) (at 2 l)) (drop 3 l)) e rest p in
-    let (dash, others) = both _ _ t in
-    let (le, apart) = both _ _ others in
+    let (dash, others) = and-parts _ _ t in
+    let (le, apart) = and-parts _ _ others in
     let (same, after) = same-parsed q in
     (dash, le, not-true _ apart, sym same, sym after)
 
@@ -121,10 +124,10 @@ range-from first [] rest e h n s p = clash (cc)
 range-from first (a ∷ []) rest e h n s p = clash (cc)
 range-from first (a ∷ d ∷ []) rest e h n s p =
     let (dash, le, apart, same, after) = range-parts first (a ∷ d ∷ []) rest e p in
-    absurd (omega (arith, byte-is a (h .0) .0, leb-true a 0 le))
+    absurd (omega (arith, key-is a (h .0) .0, leb-true a 0 le))
 range-from first (a ∷ d ∷ b ∷ m) rest e h n s p =
     let (dash, le, apart, same, after) = range-parts first (a ∷ d ∷ b ∷ m) rest e p in
-    let (mid, close) = both (eqb d 45) (not (eqb b 93)) s in
+    let (mid, close) = and-parts (eqb d 45) (not (eqb b 93)) s in
     rw (same, after) (
       rw (eqb-true d 45 mid),
       rw (h .0, h .1 .1 .0, le, or-and-distrib-left, n, dash) close,
@@ -137,7 +140,7 @@ unfolding writeElement formedElement member
 byte-from first [] rest e h n r pq p = clash (cc)
 byte-from first (b ∷ m) rest e h n r pq p =
     let (t, q) = test-parsed (not (eqb b 0) && (first || (not (eqb b 45) || eqb (at 0 m) 93))) (parsed (byte b) m) e rest p in
-    let (there, dash) = both (not (eqb b 0)) (first || (not (eqb b 45) || eqb (at 0 m) 93)) t in
+    let (there, dash) = and-parts (not (eqb b 0)) (first || (not (eqb b 45) || eqb (at 0 m) 93)) t in
     let (same, after) = same-parsed q in
     rw (← same, ← after) (
       refl,
@@ -149,7 +152,7 @@ byte-from first (b ∷ m) rest e h n r pq p =
 class-front : (l : List ℕ) → eqb (at 0 l) 91 && eqb (at 1 l) 58 ≡ true → l ≡ 91 ∷ 58 ∷ drop 2 l
 class-front [] h = clash (cc)
 class-front (a ∷ []) h = torn (eqb a 91 && false) h (and-false (eqb a 91))
-class-front (a ∷ b ∷ l) h = let (p, q) = both (eqb a 91) (eqb b 58) h in rw (eqb-true a 91 p, eqb-true b 58 q)
+class-front (a ∷ b ∷ l) h = let (p, q) = and-parts (eqb a 91) (eqb b 58) h in rw (eqb-true a 91 p, eqb-true b 58 q)
 
 -- an element that was read is what the bytes begin with, and of the form
 element-from : (first : Bool) (l rest : List ℕ) (e : Element) → Clean l → first || not (eqb (at 0 l) 93) ≡ true → readElement first l ≡ parsed e rest → Element-from first l e rest
@@ -219,7 +222,7 @@ elements-from zero first l rest es h n p = clash (cc)
 elements-from (suc f) first l rest es h n p =
     let (e, ds, mid, same, one, others) = more-parsed (readElement first l) (readElements f false) es rest (rw (goes-on first (eqb (at 0 l) 93) n) at p) in
     let this = element-from first l mid e h n one in
-    let clean : Clean mid = clean-after (writeElement e) mid (rw (this .0) at h) in
+    let clean : Clean mid = line-after (writeElement e) mid (rw (this .0) at h) in
     rw same (go e ds mid this others (λ t. elements-from f false mid rest ds clean (rw t refl) others) (eqb (at 0 mid) 93) refl)
   where
     go : (e : Element) (ds : List Element) (mid : List ℕ) → Element-from first l e mid → readElements f false mid ≡ parsed ds rest → (eqb (at 0 mid) 93 ≡ false → Elements-from false mid ds rest) → (t : Bool) → eqb (at 0 mid) 93 ≡ t → Elements-from first l (e ∷ ds) rest
@@ -244,7 +247,7 @@ bracket-from l rest a h p = go (eqb (at 0 l) 94) refl p
     go true t q =
         let (es, same, elements) = made-parsed (readElements (length l) true (drop 1 l)) (λ es. bracket true es) a rest q in
         let begins : l ≡ 94 ∷ drop 1 l = front l 94 (omega arith) t in
-        let (all, formed) = elements-from (length l) true (drop 1 l) rest es (clean-drop 1 l h) refl elements in
+        let (all, formed) = elements-from (length l) true (drop 1 l) rest es (line-drop 1 l h) refl elements in
         rw same (ap (λ (m : List ℕ). 91 ∷ m) (begins ∙ rw (append-assoc (writeElements es) (93 ∷ []) rest) (ap (λ (m : List ℕ). 94 ∷ m) all)), formed)
     go false t q =
         let (es, same, elements) = made-parsed (readElements (length l) true l) (λ es. bracket false es) a rest q in

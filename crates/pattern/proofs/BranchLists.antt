@@ -17,15 +17,16 @@ use Rattle.pattern.specs.declared.branch_list.PatternRead.{PatternRead}
 use Rattle.pattern.specs.declared.cursor.Cursor.{Cursor}
 use Rattle.pattern.specs.declared.shape.Shape.{Shape}
 use Rattle.pattern.specs.declared.summary.Summary.{Summary}
-use Rattle.brackets.specs.Form.{Expr, Branch, Pattern, atomsIn, atomCount, writePieces, writeBranch, formedPieces, formedBranch}
 use Rattle.brackets.specs.Brackets.{Parsed, parsed, fault, at, next, done}
 use Rattle.pattern.specs.Reader.{readBranch, readBranches}
 use Rattle.pattern.specs.Cycle.{Ready}
 use Rattle.pattern.specs.Branches.{shapeIn, keysIn, enterIn, BranchDone}
 use Rattle.pattern.specs.Summaries.{branchSummary, summaryOf, through, PatternDone, ReadsBranches}
-use Rattle.brackets.proofs.Parses.{clash, clean-drop}
 use Rattle.pattern.proofs.Branches.{branch-from}
 use Rattle.pattern.proofs.Cycles.{atoms-some, atoms-written, peeked, past, nonzero}
+use Rattle.pattern.specs.Form.{Expr, Branch, Pattern, atomsIn, atomCount, writePieces, writeBranch, formedPieces, formedBranch}
+use Rattle.runs.proofs.Tests.{clash}
+use Rattle.runs.proofs.KeyLaws.{line-drop}
 
 -- a branch has a byte, and at least as many as atoms
 branch-long : (b : Branch) → formedBranch b ≡ true → (atomsIn (b .pieces) ≤ length (writeBranch b)) × (1 ≤ length (writeBranch b))
@@ -77,7 +78,7 @@ module _ (s : List ℕ) (c : Cursor) (r : Ready s c) (keys enter keys' enter' : 
     where
       go : (y : Parsed Branch) → readBranch (drop (c .at) s) ≡ y → BranchDone (length s) c keys enter x keys' enter' y → BranchView s c keys enter d start p end keys' enter'
       go (parsed t rest) q (i, j, k) =
-          let (split, formed-t) = branch-from (drop (c .at) s) rest t (clean-drop (c .at) s (r .clean)) q in
+          let (split, formed-t) = branch-from (drop (c .at) s) rest t (line-drop (c .at) s (r .clean)) q in
           let (enough, not-none) = branch-long t formed-t in
           let w = writeBranch t in
           let sum : length s - c .at ≡ length w + length rest = sym (length-drop (c .at) s) ∙ ap length split ∙ length-append w rest in

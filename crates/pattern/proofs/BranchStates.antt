@@ -6,14 +6,14 @@ use mathlib.Core.Bool.{Bool, true, false, not, _&&_, false≢true}
 use mathlib.Core.List.{List, [], _∷_, _++_}
 use mathlib.Core.Option.{Option, none, some}
 use borrow.Author.Tests.{not-true}
-use Rattle.stateset.proofs.Some.{clash, torn, and-both, and-fst, and-snd}
-use Rattle.brackets.specs.Form.{Expr, Branch, atomsIn}
 use Rattle.pattern.specs.Meaning.{TakesPieces, MatchesBranch}
 use Rattle.pattern.specs.States.{first, last, follow, holds, nothingIn, inPieces}
 use Rattle.pattern.proofs.Leaves.{Leaves, takes-leaves, leaves-takes}
 use Rattle.pattern.proofs.Numbering.{Within, first-within, follow-within, holds-within}
 use Rattle.pattern.proofs.Continuations.{Cont, Step, lifted, starts, goes-on, nothing-leaves, last-cont, first-leaves, follow-cont, cont-within}
 use Rattle.pattern.proofs.SomeBranch.{Tells}
+use Rattle.runs.proofs.Tests.{clash, torn, and-both, and-fst, and-snd}
+use Rattle.pattern.specs.Form.{Expr, Branch, atomsIn}
 
 -- a line with a key is not empty
 pub no-key : {A : Type 0} {c : ℕ} {w : List ℕ} → [] ≡ c ∷ w → A

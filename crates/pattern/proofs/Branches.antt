@@ -7,12 +7,15 @@ use mathlib.Core.List.{List, [], _∷_, _++_, append-assoc, append-nil}
 use mathlib.Core.Option.{Option, none, some}
 use lib.Dec.{eqb}
 use lib.ListN.{length, drop, length-append}
-use Rattle.brackets.specs.Form.{Expr, Branch, Pattern, patternByte, write, writePieces, writeBranch, writePattern, formedPieces, formedBranch, formedBranches, formedPattern}
 use Rattle.brackets.specs.Brackets.{parsed, fault, next, done, at}
 use Rattle.pattern.specs.Reader.{endsPieces, Mode, readExpr, enough, anchored, readRest, readBranch, readBranches}
-use Rattle.brackets.proofs.Parses.{clash, same-parsed, test-parsed, next-parsed, made-parsed, both, front, Clean, clean-after, clean-drop, clean-append, clean-end}
+use Rattle.brackets.proofs.Parses.{same-parsed, test-parsed, next-parsed, made-parsed, front, Clean, clean-end}
 use Rattle.pattern.proofs.TreesFrom.{expr-from}
 use Rattle.pattern.proofs.TreesBack.{expr-starts, expr-long, expr-back, expr-clean}
+use Rattle.pattern.specs.Form.{Expr, Branch, Pattern, write, writePieces, writeBranch, writePattern, formedPieces, formedBranch, formedBranches, formedPattern}
+use Rattle.runs.specs.Keys.{lineKey}
+use Rattle.runs.proofs.Tests.{clash, and-parts}
+use Rattle.runs.proofs.KeyLaws.{line-after, line-drop, line-append}
 
 -- From the bytes.
 
@@ -58,7 +61,7 @@ unfolding readBranch
 branch-from l rest b h r = go (eqb (at 0 l) 94) refl r
   where
     go : (t : Bool) → eqb (at 0 l) 94 ≡ t → cond t (readRest true (drop 1 l)) (readRest false l) ≡ parsed b rest → Branch-from l b rest
-    go true t q = let (there, formed-b) = rest-from true (drop 1 l) rest b (clean-drop 1 l h) q in (front l 94 (omega arith) t ∙ there, formed-b)
+    go true t q = let (there, formed-b) = rest-from true (drop 1 l) rest b (line-drop 1 l h) q in (front l 94 (omega arith) t ∙ there, formed-b)
     go false t q = rest-from false l rest b h q
 
 -- what branches that were read are: all of the bytes, and of the form
@@ -83,8 +86,8 @@ branches-from zero l rest t h r = clash (cc)
 branches-from (suc f) l rest t h r =
     let (b, mid, one, others) = next-parsed (readBranch l) (λ b m. cond (eqb (at 0 m) 0) (parsed (b ∷ []) m) (cond (eqb (at 0 m) 124) (next (readBranches f (drop 1 m)) (λ bs. done (b ∷ bs))) fault)) t rest r in
     let this = branch-from l mid b h one in
-    let clean : Clean mid = clean-after (writeBranch b) mid (rw (this .0) at h) in
-    go b mid this clean (λ bs s. branches-from f (drop 1 mid) rest bs (clean-drop 1 mid clean) s) (eqb (at 0 mid) 0) refl others
+    let clean : Clean mid = line-after (writeBranch b) mid (rw (this .0) at h) in
+    go b mid this clean (λ bs s. branches-from f (drop 1 mid) rest bs (line-drop 1 mid clean) s) (eqb (at 0 mid) 0) refl others
   where
     go : (b : Branch) (mid : List ℕ) → Branch-from l b mid → Clean mid → ((bs : Pattern) → readBranches f (drop 1 mid) ≡ parsed bs rest → Pattern-from (drop 1 mid) bs) → (z : Bool) → eqb (at 0 mid) 0 ≡ z → cond z (parsed (b ∷ []) mid) (cond (eqb (at 0 mid) 124) (next (readBranches f (drop 1 mid)) (λ bs. done (b ∷ bs))) fault) ≡ parsed t rest → Pattern-from l t
     go b mid this clean ih true z q = let (same, after) = same-parsed q in rw (← same) (last-from l mid b (clean-end mid clean z) this)
@@ -143,10 +146,10 @@ unfolding readBranches writePattern formedPattern formedBranches
 branches-back f [] h l = clash (cc)
 branches-back zero (b ∷ bs) h l = absurd (omega arith)
 branches-back (suc f) (b ∷ []) h l =
-    let one : readBranch (writeBranch b) ≡ parsed b [] = rw append-nil at (branch-back b [] (both (formedBranch b) true h .0) refl refl) in
+    let one : readBranch (writeBranch b) ≡ parsed b [] = rw append-nil at (branch-back b [] (and-parts (formedBranch b) true h .0) refl refl) in
     rw one
 branches-back (suc f) (b ∷ c ∷ bs) h l =
-    let (one, others) = both (formedBranch b) (formedBranches (c ∷ bs)) h in
+    let (one, others) = and-parts (formedBranch b) (formedBranches (c ∷ bs)) h in
     rw (branch-back b (124 ∷ writePattern (c ∷ bs)) one refl refl, branches-back f (c ∷ bs) others (omega arith))
 
 -- a branch of the form has a byte
@@ -164,9 +167,9 @@ branch-long b h = go (b .start) (b .pieces) (b .end) h
 pattern-long : (t : Pattern) → formedBranches t ≡ true → length t ≤ length (writePattern t)
 unfolding writePattern formedBranches
 pattern-long [] h = omega arith
-pattern-long (b ∷ []) h = branch-long b (both (formedBranch b) true h .0)
+pattern-long (b ∷ []) h = branch-long b (and-parts (formedBranch b) true h .0)
 pattern-long (b ∷ c ∷ bs) h =
-    let (one, others) = both (formedBranch b) (formedBranches (c ∷ bs)) h in
+    let (one, others) = and-parts (formedBranch b) (formedBranches (c ∷ bs)) h in
     rw length-append (omega (arith, pattern-long (c ∷ bs) others))
 
 -- a pattern of the form is read again
@@ -178,9 +181,9 @@ pattern-back (b ∷ bs) h = branches-back (length (writePattern (b ∷ bs))) (b 
 -- a branch of the form is written as bytes of a pattern
 branch-clean : (b : Branch) → formedBranch b ≡ true → Clean (writeBranch b)
 unfolding writeBranch formedBranch
-branch-clean b h = clean-append (mark 94 (b .start)) _ (anchor 94 (b .start) refl) (clean-append (writePieces (b .pieces)) (mark 36 (b .end)) (inside (b .pieces) h) (anchor 36 (b .end) refl))
+branch-clean b h = line-append (mark 94 (b .start)) _ (anchor 94 (b .start) refl) (line-append (writePieces (b .pieces)) (mark 36 (b .end)) (inside (b .pieces) h) (anchor 36 (b .end) refl))
   where
-    anchor : (c : ℕ) (t : Bool) → patternByte c ≡ true → Clean (mark c t)
+    anchor : (c : ℕ) (t : Bool) → lineKey c ≡ true → Clean (mark c t)
     anchor c true g = (g, tt)
     anchor c false g = tt
 
@@ -192,10 +195,10 @@ branch-clean b h = clean-append (mark 94 (b .start)) _ (anchor 94 (b .start) ref
 branches-clean : (t : Pattern) → formedBranches t ≡ true → Clean (writePattern t)
 unfolding writePattern formedBranches
 branches-clean [] h = tt
-branches-clean (b ∷ []) h = branch-clean b (both (formedBranch b) true h .0)
+branches-clean (b ∷ []) h = branch-clean b (and-parts (formedBranch b) true h .0)
 branches-clean (b ∷ c ∷ bs) h =
-    let (one, others) = both (formedBranch b) (formedBranches (c ∷ bs)) h in
-    clean-append (writeBranch b) (124 ∷ writePattern (c ∷ bs)) (branch-clean b one) (refl, branches-clean (c ∷ bs) others)
+    let (one, others) = and-parts (formedBranch b) (formedBranches (c ∷ bs)) h in
+    line-append (writeBranch b) (124 ∷ writePattern (c ∷ bs)) (branch-clean b one) (refl, branches-clean (c ∷ bs) others)
 
 -- the same for a pattern of at least one branch
 pub pattern-clean : (t : Pattern) → formedPattern t ≡ true → Clean (writePattern t)

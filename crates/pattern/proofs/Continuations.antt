@@ -6,13 +6,13 @@ use mathlib.Core.Bool.{Bool, true, _&&_, _||_, false≢true}
 use mathlib.Core.List.{List, _∷_}
 use lib.Dec.{eqb}
 use borrow.Author.Tests.{eqb-true, eq-eqb}
-use Rattle.stateset.proofs.Some.{or-cases, or-left, or-right, and-both, and-fst, and-snd}
-use Rattle.brackets.specs.Form.{Expr, atom, group, star, plus, opt, seq, alt, atoms}
 use Rattle.brackets.specs.Sets.{setOf}
 use Rattle.pattern.specs.States.{nothing, first, last, follow, holds}
 use Rattle.pattern.proofs.Leaves.{Leaves, plus-star, star-cases}
 use Rattle.pattern.proofs.Leaves.Leaves.{key, after, inside, left, right, never, again, once, more, absent, present}
 use Rattle.pattern.proofs.Numbering.{Within, apart, of-either, one-within, first-within, holds-within, follow-within}
+use Rattle.runs.proofs.Tests.{or-cases, or-left, or-right, and-both, and-fst, and-snd}
+use Rattle.pattern.specs.Form.{Expr, atom, group, star, plus, opt, seq, alt, atoms}
 
 -- A and then B
 pub record Then (A B : List ℕ → Type 0) : Type 0 where

@@ -13,17 +13,19 @@ use Rattle.stateset.proofs.Sets.{word-lt}
 use Rattle.pattern.specs.declared.cursor.Cursor.{Cursor}
 use Rattle.pattern.specs.declared.cursor.Part.{Part}
 use Rattle.pattern.specs.declared.shape.Shape.{Shape}
-use Rattle.brackets.specs.Form.{Atom, plain, dot, escaped, bracket, Expr, atom, group, star, plus, opt, seq, alt, atoms, write, writeAtom}
+use Rattle.brackets.specs.Form.{Atom, plain, dot, escaped, bracket, writeAtom}
 use Rattle.brackets.specs.Brackets.{Parsed, parsed, fault, next, done, at}
 use Rattle.pattern.specs.Reader.{Mode, endsPieces, readAtom, readRepeat, readExpr}
 use Rattle.pattern.specs.States.{nothing, first, last, follow, holds, atomState}
 use Rattle.pattern.specs.Tables.{keysAfter, enterAfter, linked, shapeOf, seqShape, altShape}
 use Rattle.brackets.specs.Clean.{Clean}
 use Rattle.pattern.specs.Cycle.{Ready, Done, room, Reads, AtomDone, repeatShape, repeatEnter, repeatAt}
-use Rattle.brackets.proofs.Parses.{clash, clean-drop}
 use Rattle.pattern.proofs.TreesFrom.{expr-from, inner-group, atom-from}
 use Rattle.pattern.proofs.Atoms.{inside}
 use Rattle.pattern.proofs.Tables.{keys-seq, keys-alt, enter-seq, enter-alt, enter-again, enter-atom, first-seq, last-seq, first-alt, last-alt}
+use Rattle.pattern.specs.Form.{Expr, atom, group, star, plus, opt, seq, alt, atoms, write}
+use Rattle.runs.proofs.Tests.{clash}
+use Rattle.runs.proofs.KeyLaws.{line-drop}
 
 -- an expression has an atom, and each atom has a byte
 pub atoms-some : (e : Expr) → 1 ≤ atoms e
@@ -114,7 +116,7 @@ module _ (s : List ℕ) (c : Cursor) (r : Ready s c) where
       where
         go : (y : Parsed Expr) → readExpr f m (drop (c .at) s) ≡ y → Done (length s) c keys enter x keys' enter' y → View m keys enter d p keys' enter' f
         go (parsed t rest) q (i, j, k) =
-            let (w, split, enough) = bytes-of f m (drop (c .at) s) rest t (clean-drop (c .at) s (r .clean)) q in
+            let (w, split, enough) = bytes-of f m (drop (c .at) s) rest t (line-drop (c .at) s (r .clean)) q in
             let next : d ≡ record { at = length s - length rest; atoms = c .atoms + atoms t } = cc in
             record { expr = t; rest = rest; reading = q; behind-it = behind d t w rest split enough next; shape = cc; keyed = j; entered = k }
         go fault q i = clash (cc)
@@ -359,7 +361,7 @@ module _ (s : List ℕ) (c : Cursor) (r : Ready s c) (keys enter : List ℕ) (b 
         go : (z : Parsed Atom) → readAtom (drop (c .at) s) ≡ z → AtomDone (length s) c keys x keys' z → Done (length s) c keys enter y keys' after (next (next z (λ a. done (atom a))) readRepeat)
         go (parsed a rest) q (i, j) =
             let there : d ≡ record { at = length s - length rest; atoms = c .atoms + 1 } = cc in
-            let v = behind s c r d (atom a) (writeAtom a) rest (atom-from (drop (c .at) s) rest a (clean-drop (c .at) s (r .clean)) q .0) (atom-written a) there in
+            let v = behind s c r d (atom a) (writeAtom a) rest (atom-from (drop (c .at) s) rest a (line-drop (c .at) s (r .clean)) q .0) (atom-written a) there in
             done-repeat s c d keys keys' enter enter (atom a) rest p m em (v .ready .inside) (v .here) there (cc) j (enter-atom (c .atoms) a enter) y after ey ea
         go fault q i = clash (cc)
 
@@ -391,7 +393,7 @@ module _ (s : List ℕ) (c : Cursor) (r : Ready s c) (keys keys' : List ℕ) (x 
       go (parsed a rest) q (i, j) =
           let there : d ≡ record { at = length s - length rest; atoms = c .atoms + 1 } = cc in
           let shape : p ≡ shapeOf (c .atoms) (atom a) = cc in
-          let v = behind s c r d (atom a) (writeAtom a) rest (atom-from (drop (c .at) s) rest a (clean-drop (c .at) s (r .clean)) q .0) (atom-written a) there in
+          let v = behind s c r d (atom a) (writeAtom a) rest (atom-from (drop (c .at) s) rest a (line-drop (c .at) s (r .clean)) q .0) (atom-written a) there in
           (v .ready, rw shape (word-lt 32 (λ q. atomState (last (c .atoms) (atom a)) q)))
       go fault q i = clash (cc)
 

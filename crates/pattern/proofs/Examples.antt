@@ -3,9 +3,11 @@ use Prim.Native.Nat.{ℕ}
 use mathlib.Core.Path.{_≡_, refl}
 use mathlib.Core.List.{List, [], _∷_}
 use Rattle.refusal.specs.Number.{number}
-use Rattle.brackets.specs.Form.{classNames, member, atoms, atomCount}
+use Rattle.brackets.specs.Form.{classNames}
 use Rattle.pattern.specs.Reader.{Read, accepted, refused, readAtom, readRepeat, readExpr, readBranch, readBranches, readPattern}
 use Rattle.brackets.specs.Brackets.{sameBytes, findClass, readElement, readElements, readBracket}
+use Rattle.runs.specs.Keys.{member}
+use Rattle.pattern.specs.Form.{atoms, atomCount}
 
 -- 0 if accepted, else the refusal's number
 verdict : Read → ℕ

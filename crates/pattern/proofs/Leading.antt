@@ -7,11 +7,12 @@ use mathlib.Core.List.{List, [], _∷_, _++_}
 use lib.Dec.{eqb}
 use borrow.Author.Tests.{eqb-true, eq-eqb}
 use Rattle.stateset.specs.Set.{anyBelow}
-use Rattle.stateset.proofs.Some.{and-both, and-fst, and-snd, tests-ext, any-some, any-witness, any-ext, any-none, any-through, any-at}
-use Rattle.brackets.specs.Form.{Pattern}
-use Rattle.brackets.specs.Sets.{lineKey}
+use Rattle.stateset.proofs.Some.{any-some, any-witness, any-ext, any-none, any-through, any-at}
 use Rattle.pattern.specs.Moves.{states, target, move, accepting, leads, acceptedFrom}
 use Rattle.pattern.proofs.AcceptedLines.{move-below}
+use Rattle.runs.proofs.Tests.{and-both, and-fst, and-snd, tests-ext}
+use Rattle.pattern.specs.Form.{Pattern}
+use Rattle.runs.specs.Keys.{lineKey}
 
 module _ (t : Pattern) where
   -- keys lead through a state between

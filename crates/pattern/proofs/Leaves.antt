@@ -6,9 +6,10 @@ use mathlib.Core.Bool.{true}
 use mathlib.Core.Logic.{_⊎_, inl, inr, ⊎-elim, _↔_}
 use mathlib.Core.List.{List, [], _∷_, _++_, append-nil, append-assoc}
 use lib.ListN.{length, length-append}
-use Rattle.brackets.specs.Form.{Atom, Expr, atom, group, star, plus, opt, seq, alt}
+use Rattle.brackets.specs.Form.{Atom}
 use Rattle.brackets.specs.Sets.{setOf}
 use Rattle.pattern.specs.Meaning.{Takes}
+use Rattle.pattern.specs.Form.{Expr, atom, group, star, plus, opt, seq, alt}
 
 -- e takes a first part of w and leaves v
 pub data Leaves : Expr → List ℕ → List ℕ → Type 0 where

@@ -11,11 +11,11 @@ use Rattle.stateset.specs.Set.{bit, anyBelow, imageOf}
 use Rattle.stateset.proofs.Sets.{word-lt, bit-word, bit-and}
 use Rattle.stateset.proofs.Images.{bit-image}
 use Rattle.stateset.proofs.Some.{any-ext, any-and}
-use Rattle.brackets.specs.Form.{Pattern}
 use Rattle.pattern.specs.States.{holdsKey, atomState, atomWord}
 use Rattle.pattern.specs.Moves.{enters, into}
 use Rattle.pattern.specs.Automata.{keyTable, enterTable}
-use Rattle.brackets.proofs.Tabled.{tabled-length, tabled-at}
+use Rattle.pattern.specs.Form.{Pattern}
+use Rattle.stateset.proofs.Tabled.{tabled-length, tabled-at}
 
 -- the parts of two tests, in another order
 and-order : (a b c d : Bool) → ((a && (b && c)) && (b && d)) ≡ (a && (b && (c && d)))

@@ -9,13 +9,13 @@ use mathlib.Core.Option.{Option, none, some}
 use lib.Dec.{ltb}
 use lib.ListN.{length}
 use borrow.Author.Tests.{ltb-true, ltb-false}
-use Rattle.stateset.proofs.Some.{or-cases, or-left, or-right}
-use Rattle.brackets.specs.Form.{Expr, atom, group, star, plus, opt, seq, alt, Branch, Pattern}
 use Rattle.brackets.specs.Sets.{setOf}
 use Rattle.pattern.specs.Meaning.{TakesPieces, MatchesBranch, Matches, repeated, takes, takesPieces, allowed, matchesFrom, matchesBranch, matches}
 use Rattle.pattern.specs.Meaning.Matches.{here, later}
 use Rattle.pattern.proofs.Leaves.{Leaves, leaves-takes, takes-leaves, leaves-same, plus-star, star-cases}
 use Rattle.pattern.proofs.Leaves.Leaves.{key, after, inside, left, right, never, once, more, absent, present}
+use Rattle.runs.proofs.Tests.{or-cases, or-left, or-right}
+use Rattle.pattern.specs.Form.{Expr, atom, group, star, plus, opt, seq, alt, Branch, Pattern}
 
 -- e takes a first part of w, and what is left will do
 pub record Does (e : Expr) (rest : List ℕ → Bool) (w : List ℕ) : Type 0 where

@@ -9,14 +9,15 @@ use lib.Bits.{bitAnd, bitOr, or-lt}
 use borrow.Author.Tests.{leb-true, le-leb}
 use Rattle.stateset.specs.Set.{bit, word, anyBelow, imageOf}
 use Rattle.stateset.proofs.Sets.{word-lt, word-high, word-unique, bit-word, bit-or, bit-one, bit-chosen}
-use Rattle.stateset.proofs.Some.{and-both, and-fst, and-snd, tests-ext, any-some, any-witness, any-ext, any-none, any-widen, any-or, any-through}
-use Rattle.brackets.specs.Form.{Pattern, atomCount}
-use Rattle.brackets.specs.Sets.{lineKey}
+use Rattle.stateset.proofs.Some.{any-some, any-witness, any-ext, any-none, any-widen, any-or, any-through}
 use Rattle.pattern.specs.States.{endsFree, endsAnchored, emptyBranch, emptyFree, atomState, atomWord, holdsKey}
 use Rattle.pattern.specs.Moves.{into, intoEnd, jumps, target, move, accepting}
 use Rattle.pattern.specs.Automata.{keyTable, enterTable, accepts}
 use Rattle.pattern.proofs.Lookups.{entered-lt, entered-bit}
 use Rattle.pattern.proofs.AcceptedLines.{holds-below}
+use Rattle.runs.proofs.Tests.{and-both, and-fst, and-snd, tests-ext}
+use Rattle.pattern.specs.Form.{Pattern, atomCount}
+use Rattle.runs.specs.Keys.{lineKey}
 
 -- whether two sets have a member in common
 abbrev pub common : ℕ → ℕ → Bool

@@ -6,10 +6,10 @@ use mathlib.Core.Logic.{_⊎_, inl, inr, ⊎-elim}
 use mathlib.Core.Bool.{Bool, true, _&&_, _||_, false≢true}
 use lib.Dec.{eqb}
 use borrow.Author.Tests.{eqb-true}
-use Rattle.stateset.proofs.Some.{or-cases, and-fst, and-snd}
-use Rattle.brackets.specs.Form.{Expr, atom, group, star, plus, opt, seq, alt, atoms}
 use Rattle.brackets.specs.Sets.{setOf}
 use Rattle.pattern.specs.States.{nothing, first, last, follow, holds}
+use Rattle.runs.proofs.Tests.{or-cases, and-fst, and-snd}
+use Rattle.pattern.specs.Form.{Expr, atom, group, star, plus, opt, seq, alt, atoms}
 
 -- one of the n numbers from b on
 pub record Within (b n k : ℕ) : Type 0 where

@@ -7,16 +7,17 @@ use mathlib.Core.List.{List}
 use lib.Dec.{leb}
 use lib.ListN.{length}
 use borrow.Author.Tests.{leb-true}
-use Rattle.stateset.proofs.Some.{clash}
 use Rattle.refusal.specs.declared.Refusal.{Refusal}
 use Rattle.refusal.specs.declared.Refusal.the-variants.{PatternLength, PatternSyntax, TooManyAtoms}
 use Rattle.refusal.proofs.Number.{number-positive, number-injective}
 use Rattle.pattern.specs.declared.automaton.Accepting.{Accepting}
-use Rattle.brackets.specs.Form.{Pattern, atomCount, member}
 use Rattle.pattern.specs.Reader.{Read, accepted, refused, counted, readBranches, readPattern}
 use Rattle.brackets.specs.Brackets.{Parsed, parsed, fault}
 use Rattle.refusal.specs.Figures.{Figures, answered}
 use Rattle.pattern.specs.Automata.{ReadAs, refusedPattern, keyTable, enterTable, accepts}
+use Rattle.runs.proofs.Tests.{clash}
+use Rattle.pattern.specs.Form.{Pattern, atomCount}
+use Rattle.runs.specs.Keys.{member}
 
 -- an accepted pattern has at most 29 atoms
 counted-few : (r : Parsed Pattern) (t : Pattern) → counted r ≡ accepted t → atomCount t ≤ 29

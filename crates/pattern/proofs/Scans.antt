@@ -11,14 +11,15 @@ use lib.Seq.{take-suc, take-all}
 use borrow.Author.Tests.{le-leb, lt-leb, eq-eqb, ne-eqb}
 use Rattle.refusal.specs.declared.Refusal.the-variants.{PatternLength, PatternSyntax}
 use Rattle.pattern.specs.declared.automaton.Verdict.{Verdict}
-use Rattle.brackets.specs.Form.{member}
 use Rattle.pattern.specs.Reader.{readBranches, counted, readPattern}
 use Rattle.brackets.specs.Clean.{Clean, CleanDone}
 use Rattle.pattern.specs.Cycle.{Ready}
 use Rattle.refusal.specs.Figures.{Figures}
 use Rattle.pattern.specs.declared.automaton.Accepting.{Accepting}
 use Rattle.pattern.specs.Automata.{ReadAs, verdictFigures}
-use Rattle.brackets.proofs.Parses.{byte-of, clean-append, clean-member, clash}
+use Rattle.runs.specs.Keys.{member}
+use Rattle.runs.proofs.KeyLaws.{key-of, line-append, line-member}
+use Rattle.runs.proofs.Tests.{clash}
 
 member-at : (l : List ℕ) (i : ℕ) → i < length l → member (getD l i 0) l ≡ true
 unfolding member
@@ -44,7 +45,7 @@ module _ (s : List ℕ) (i : ℕ) where
     scan-on small no-zero no-ten h =
         let more : i + 1 ≡ suc i = omega arith in
         rw (more, take-suc s i 0 inside)
-        (clean-append (take i s) (getD s i 0 ∷ []) h (byte-of (getD s i 0) small (ne-eqb 0 (getD s i 0) (λ e. no-zero (sym e))) (ne-eqb 10 (getD s i 0) (λ e. no-ten (sym e))), tt))
+        (line-append (take i s) (getD s i 0 ∷ []) h (key-of (getD s i 0) small (ne-eqb 0 (getD s i 0) (λ e. no-zero (sym e))) (ne-eqb 10 (getD s i 0) (λ e. no-ten (sym e))), tt))
 
   pub scan-end : length s ≤ i → Clean (take i s) → CleanDone s true
   unfolding CleanDone
@@ -84,4 +85,4 @@ module _ (s keys enter : List ℕ) where
 
       pub pattern-clean : (f : Figures Accepting) (keys' enter' : List ℕ) → ReadAs (counted (readBranches (length s) s)) keys enter f keys' enter' → ReadAs (readPattern s) keys enter f keys' enter'
       unfolding readPattern
-      pattern-clean f keys' enter' h = rw (fits, absent 0 (λ m. clash (cc (clean-member 0 s m clean))), absent 10 (λ m. clash (cc (clean-member 10 s m clean)))) h
+      pattern-clean f keys' enter' h = rw (fits, absent 0 (λ m. clash (cc (line-member 0 s m clean))), absent 10 (λ m. clash (cc (line-member 10 s m clean)))) h

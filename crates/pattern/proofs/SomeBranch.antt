@@ -5,11 +5,11 @@ use mathlib.Core.Path.{_≡_, refl}
 use mathlib.Core.Logic.{_⊎_, inl, inr, ⊎-elim}
 use mathlib.Core.Bool.{Bool, true, false≢true}
 use mathlib.Core.List.{List, [], _∷_}
-use Rattle.stateset.proofs.Some.{or-cases, or-left, or-right}
-use Rattle.brackets.specs.Form.{Branch, Pattern, atomsIn, atomCount}
 use Rattle.pattern.specs.States.{someBranch}
 use Rattle.pattern.proofs.Numbering.{Within, apart}
 use Rattle.pattern.proofs.Continuations.{Step, lifted}
+use Rattle.runs.proofs.Tests.{or-cases, or-left, or-right}
+use Rattle.pattern.specs.Form.{Branch, Pattern, atomsIn, atomCount}
 
 -- some branch, whose atoms have the numbers from b on, has P
 abbrev pub Some : (ℕ → Branch → Type 0) → ℕ → Pattern → Type 0

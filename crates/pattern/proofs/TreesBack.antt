@@ -7,11 +7,15 @@ use mathlib.Core.List.{List, [], _∷_, _++_, append-assoc}
 use lib.Dec.{leb, eqb}
 use lib.ListN.{length, drop, length-append}
 use borrow.Author.Tests.{eqb-true, not-true}
-use Rattle.brackets.specs.Form.{Atom, plain, dot, escaped, bracket, Expr, atom, group, star, plus, opt, seq, alt, member, patternByte, marks, writeAtom, write, formedAtom, formed}
+use Rattle.brackets.specs.Form.{Atom, plain, dot, escaped, bracket, marks, writeAtom, formedAtom}
 use Rattle.brackets.specs.Brackets.{parsed, next, done, at}
 use Rattle.pattern.specs.Reader.{readAtom, readRepeat, endsPieces, Mode, readExpr}
-use Rattle.brackets.proofs.Parses.{clash, both, neither, other-than, Clean, clean-append, cleanBytes, clean-bytes, clean-member, byte-is}
+use Rattle.brackets.proofs.Parses.{Clean, cleanBytes, clean-bytes}
 use Rattle.pattern.proofs.BracketsBack.{bracket-back, bracket-clean}
+use Rattle.pattern.specs.Form.{Expr, atom, group, star, plus, opt, seq, alt, write, formed}
+use Rattle.runs.specs.Keys.{member, lineKey}
+use Rattle.runs.proofs.Tests.{clash, and-parts, neither}
+use Rattle.runs.proofs.KeyLaws.{other-than, line-append, line-member, key-is}
 
 -- What expressions begin with.
 
@@ -26,12 +30,12 @@ Starts b = (endsPieces b ≡ false) × (eqb b 94 ≡ false) × (repeats b ≡ fa
 -- a plain byte is no mark
 plain-apart : (b c : ℕ) → formedAtom (plain b) ≡ true → member c marks ≡ true → eqb b c ≡ false
 unfolding formedAtom
-plain-apart b c h g = other-than b c marks (not-true _ (both (patternByte b) (not (member b marks)) h .1)) g
+plain-apart b c h g = other-than b c marks (not-true _ (and-parts (lineKey b) (not (member b marks)) h .1)) g
 
 -- and not the end of the bytes
 plain-there : (b : ℕ) → formedAtom (plain b) ≡ true → eqb b 0 ≡ false
 unfolding formedAtom
-plain-there b h = byte-is b (both (patternByte b) (not (member b marks)) h .0) .2
+plain-there b h = key-is b (and-parts (lineKey b) (not (member b marks)) h .0) .2
 
 -- an atom of the form begins so, and not with `(`
 pub atom-starts : (a : Atom) (r : List ℕ) → formedAtom a ≡ true → Starts (at 0 (writeAtom a ++ r)) × (eqb (at 0 (writeAtom a ++ r)) 40 ≡ false)
@@ -46,11 +50,11 @@ pub expr-starts : (e : Expr) (k : ℕ) (r : List ℕ) → formed e k ≡ true �
 unfolding write formed
 expr-starts (atom a) k r h = atom-starts a r h .0
 expr-starts (group e) k r h = (refl, refl, refl)
-expr-starts (star e) k r h = rw append-assoc (expr-starts e 0 (42 ∷ r) (both (leb 1 k) (formed e 0) h .1))
-expr-starts (plus e) k r h = rw append-assoc (expr-starts e 0 (43 ∷ r) (both (leb 1 k) (formed e 0) h .1))
-expr-starts (opt e) k r h = rw append-assoc (expr-starts e 0 (63 ∷ r) (both (leb 1 k) (formed e 0) h .1))
-expr-starts (seq p q) k r h = rw append-assoc (expr-starts p 1 (write q ++ r) (both (formed p 1) (formed q 2) (both (leb 2 k) _ h .1) .0))
-expr-starts (alt p q) k r h = rw append-assoc (expr-starts p 2 (124 ∷ write q ++ r) (both (formed p 2) (formed q 3) (both (leb 3 k) _ h .1) .0))
+expr-starts (star e) k r h = rw append-assoc (expr-starts e 0 (42 ∷ r) (and-parts (leb 1 k) (formed e 0) h .1))
+expr-starts (plus e) k r h = rw append-assoc (expr-starts e 0 (43 ∷ r) (and-parts (leb 1 k) (formed e 0) h .1))
+expr-starts (opt e) k r h = rw append-assoc (expr-starts e 0 (63 ∷ r) (and-parts (leb 1 k) (formed e 0) h .1))
+expr-starts (seq p q) k r h = rw append-assoc (expr-starts p 1 (write q ++ r) (and-parts (formed p 1) (formed q 2) (and-parts (leb 2 k) _ h .1) .0))
+expr-starts (alt p q) k r h = rw append-assoc (expr-starts p 2 (124 ∷ write q ++ r) (and-parts (formed p 2) (formed q 3) (and-parts (leb 3 k) _ h .1) .0))
 
 -- an atom has a byte
 atom-long : (a : Atom) → 1 ≤ length (writeAtom a)
@@ -81,7 +85,7 @@ pub atom-back : (a : Atom) (rest : List ℕ) → formedAtom a ≡ true → readA
 unfolding readAtom writeAtom formedAtom
 atom-back (plain b) rest h =
     let (dot-not, open-not, slash-not) = plain-dot b h in
-    rw (dot-not, open-not, slash-not, plain-there b h, not-true (member b marks) (both (patternByte b) (not (member b marks)) h .1))
+    rw (dot-not, open-not, slash-not, plain-there b h, not-true (member b marks) (and-parts (lineKey b) (not (member b marks)) h .1))
 atom-back dot rest h = refl
 atom-back (escaped b) rest h = rw h
 atom-back (bracket n es) rest h = bracket-back n es rest h
@@ -185,7 +189,7 @@ module _ (f : ℕ) (ih : (m : Mode) → Back f m) where
   branch-back (plus e) rest h s l = one-back (plus e) rest h s l
   branch-back (opt e) rest h s l = one-back (opt e) rest h s l
   branch-back (seq p q) rest h s l =
-      let (hp, hq) = both (formed p 1) (formed q 2) h in
+      let (hp, hq) = and-parts (formed p 1) (formed q 2) h in
       let (on, start, mark) = expr-starts q 2 rest hq in
       let long : 4 * (length (write p) + length (write q)) + 2 ≤ suc f = rw length-append at l in
       let some : 1 ≤ length (write p) = expr-long p in
@@ -196,7 +200,7 @@ module _ (f : ℕ) (ih : (m : Mode) → Back f m) where
   only-back : (e : Expr) (rest : List ℕ) → formed e 2 ≡ true → stops Mode.alts (at 0 rest) ≡ true → room Mode.alts (length (write e)) ≤ suc f → readExpr (suc f) Mode.alts (write e ++ rest) ≡ parsed e rest
   unfolding readExpr
   only-back e rest h s l =
-      let (ends, bar) = both (endsPieces (at 0 rest)) (not (eqb (at 0 rest) 124)) s in
+      let (ends, bar) = and-parts (endsPieces (at 0 rest)) (not (eqb (at 0 rest) 124)) s in
       rw (ih Mode.branch e rest h ends (omega arith), not-true (eqb (at 0 rest) 124) bar)
 
   -- an alternative list is read again
@@ -209,7 +213,7 @@ module _ (f : ℕ) (ih : (m : Mode) → Back f m) where
   alts-back (opt e) rest h s l = only-back (opt e) rest h s l
   alts-back (seq p q) rest h s l = only-back (seq p q) rest h s l
   alts-back (alt p q) rest h s l =
-      let (hp, hq) = both (formed p 2) (formed q 3) h in
+      let (hp, hq) = and-parts (formed p 2) (formed q 3) h in
       let long : 4 * (length (write p) + suc (length (write q))) + 3 ≤ suc f = rw length-append at l in
       rw (append-assoc (write p) (124 ∷ write q) rest, ih Mode.branch p (124 ∷ write q ++ rest) hp refl (omega arith), ih Mode.alts q rest hq s (omega arith))
 
@@ -236,14 +240,14 @@ expr-back (suc f) Mode.piece e rest h s l = piece-back f (λ m d r. expr-back f 
 expr-back (suc f) Mode.inner e rest h s l = inner-back f (λ m d r. expr-back f m d r) e rest h s l
 
 -- a mark is a byte of a pattern
-mark-clean : (b : ℕ) → member b marks ≡ true → patternByte b ≡ true
+mark-clean : (b : ℕ) → member b marks ≡ true → lineKey b ≡ true
 unfolding cleanBytes
-mark-clean b h = clean-member b marks h (clean-bytes marks refl)
+mark-clean b h = line-member b marks h (clean-bytes marks refl)
 
 -- an atom of the form is written as bytes of a pattern
 atom-clean : (a : Atom) → formedAtom a ≡ true → Clean (writeAtom a)
 unfolding writeAtom formedAtom
-atom-clean (plain b) h = (both (patternByte b) (not (member b marks)) h .0, tt)
+atom-clean (plain b) h = (and-parts (lineKey b) (not (member b marks)) h .0, tt)
 atom-clean dot h = (refl, tt)
 atom-clean (escaped b) h = (refl, (mark-clean b h, tt))
 atom-clean (bracket n es) h = bracket-clean n es h
@@ -252,13 +256,13 @@ atom-clean (bracket n es) h = bracket-clean n es h
 pub expr-clean : (e : Expr) (k : ℕ) → formed e k ≡ true → Clean (write e)
 unfolding write formed
 expr-clean (atom a) k h = atom-clean a h
-expr-clean (group e) k h = (refl, clean-append (write e) (41 ∷ []) (expr-clean e 3 h) (refl, tt))
-expr-clean (star e) k h = clean-append (write e) (42 ∷ []) (expr-clean e 0 (both (leb 1 k) (formed e 0) h .1)) (refl, tt)
-expr-clean (plus e) k h = clean-append (write e) (43 ∷ []) (expr-clean e 0 (both (leb 1 k) (formed e 0) h .1)) (refl, tt)
-expr-clean (opt e) k h = clean-append (write e) (63 ∷ []) (expr-clean e 0 (both (leb 1 k) (formed e 0) h .1)) (refl, tt)
+expr-clean (group e) k h = (refl, line-append (write e) (41 ∷ []) (expr-clean e 3 h) (refl, tt))
+expr-clean (star e) k h = line-append (write e) (42 ∷ []) (expr-clean e 0 (and-parts (leb 1 k) (formed e 0) h .1)) (refl, tt)
+expr-clean (plus e) k h = line-append (write e) (43 ∷ []) (expr-clean e 0 (and-parts (leb 1 k) (formed e 0) h .1)) (refl, tt)
+expr-clean (opt e) k h = line-append (write e) (63 ∷ []) (expr-clean e 0 (and-parts (leb 1 k) (formed e 0) h .1)) (refl, tt)
 expr-clean (seq p q) k h =
-    let (hp, hq) = both (formed p 1) (formed q 2) (both (leb 2 k) (formed p 1 && formed q 2) h .1) in
-    clean-append (write p) (write q) (expr-clean p 1 hp) (expr-clean q 2 hq)
+    let (hp, hq) = and-parts (formed p 1) (formed q 2) (and-parts (leb 2 k) (formed p 1 && formed q 2) h .1) in
+    line-append (write p) (write q) (expr-clean p 1 hp) (expr-clean q 2 hq)
 expr-clean (alt p q) k h =
-    let (hp, hq) = both (formed p 2) (formed q 3) (both (leb 3 k) (formed p 2 && formed q 3) h .1) in
-    clean-append (write p) (124 ∷ write q) (expr-clean p 2 hp) (refl, expr-clean q 3 hq)
+    let (hp, hq) = and-parts (formed p 2) (formed q 3) (and-parts (leb 3 k) (formed p 2 && formed q 3) h .1) in
+    line-append (write p) (124 ∷ write q) (expr-clean p 2 hp) (refl, expr-clean q 3 hq)

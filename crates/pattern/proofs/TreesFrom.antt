@@ -7,11 +7,15 @@ use mathlib.Core.List.{List, [], _∷_, _++_, append-assoc}
 use lib.Dec.{leb, eqb}
 use lib.ListN.{drop}
 use borrow.Author.Tests.{eqb-true, leb-true, le-leb}
-use Rattle.brackets.specs.Form.{Atom, plain, dot, escaped, Expr, atom, group, star, plus, opt, seq, alt, member, marks, writeAtom, write, formedAtom, formed}
+use Rattle.brackets.specs.Form.{Atom, plain, dot, escaped, marks, writeAtom, formedAtom}
 use Rattle.brackets.specs.Brackets.{parsed, fault, next, done, at, readBracket}
 use Rattle.pattern.specs.Reader.{readAtom, readRepeat, endsPieces, Mode, readExpr}
-use Rattle.brackets.proofs.Parses.{clash, same-parsed, test-parsed, untest-parsed, next-parsed, made-parsed, both, neither, front, Clean, clean-after, clean-drop}
+use Rattle.brackets.proofs.Parses.{same-parsed, test-parsed, untest-parsed, next-parsed, made-parsed, front, Clean}
 use Rattle.pattern.proofs.BracketsFrom.{bracket-from}
+use Rattle.pattern.specs.Form.{Expr, atom, group, star, plus, opt, seq, alt, write, formed}
+use Rattle.runs.specs.Keys.{member}
+use Rattle.runs.proofs.Tests.{clash, and-parts, neither}
+use Rattle.runs.proofs.KeyLaws.{line-after, line-drop}
 
 -- what an atom that was read is
 abbrev Atom-from : List ℕ → Atom → List ℕ → Type 0
@@ -46,7 +50,7 @@ atom-from l rest a h p = go (eqb (at 0 l) 46) (eqb (at 0 l) 91) (eqb (at 0 l) 92
         let (same, after) = same-parsed q in
         rw (← same, ← after) (front l 46 (omega arith) d, refl)
     go false true z d b e q =
-        let (there, formed) = bracket-from (drop 1 l) rest a (clean-drop 1 l h) q in
+        let (there, formed) = bracket-from (drop 1 l) rest a (line-drop 1 l h) q in
         (front l 91 (omega arith) b ∙ there, formed)
     go false false true d b e q = escaped-from l rest a e q
     go false false false d b e q = plain-from l rest a h q
@@ -54,7 +58,7 @@ atom-from l rest a h p = go (eqb (at 0 l) 46) (eqb (at 0 l) 91) (eqb (at 0 l) 92
 -- a test of how loosely something may bind passes too where it may bind more loosely
 looser : (n k : ℕ) (t : Bool) → leb n k && t ≡ true → leb n (suc k) && t ≡ true
 looser n k t h =
-    let (less, others) = both (leb n k) t h in
+    let (less, others) = and-parts (leb n k) t h in
     let more : n ≤ suc k = omega (arith, leb-true n k less) in
     rw (le-leb n (suc k) more) others
 
@@ -152,16 +156,16 @@ expr-from zero m l rest e h r = clash (cc)
 expr-from (suc f) Mode.alts l rest e h r =
     let (p, mid, one, others) = next-parsed (readExpr f Mode.branch l) (λ p m. cond (eqb (at 0 m) 124) (next (readExpr f Mode.alts (drop 1 m)) (λ q. done (alt p q))) (parsed p m)) e rest r in
     let this = expr-from f Mode.branch l mid p h one in
-    let clean : Clean mid = clean-after (write p) mid (rw (this .0) at h) in
-    alts-from f l mid rest p e this (λ q s. expr-from f Mode.alts (drop 1 mid) rest q (clean-drop 1 mid clean) s) others
+    let clean : Clean mid = line-after (write p) mid (rw (this .0) at h) in
+    alts-from f l mid rest p e this (λ q s. expr-from f Mode.alts (drop 1 mid) rest q (line-drop 1 mid clean) s) others
 expr-from (suc f) Mode.branch l rest e h r =
     let (p, mid, one, others) = next-parsed (readExpr f Mode.piece l) (λ p m. cond (endsPieces (at 0 m)) (parsed p m) (next (readExpr f Mode.branch m) (λ q. done (seq p q)))) e rest r in
     let this = expr-from f Mode.piece l mid p h one in
-    let clean : Clean mid = clean-after (write p) mid (rw (this .0) at h) in
+    let clean : Clean mid = line-after (write p) mid (rw (this .0) at h) in
     branch-from f l mid rest p e this (λ q s. expr-from f Mode.branch mid rest q clean s) others
 expr-from (suc f) Mode.piece l rest e h r =
     let (p, mid, one, others) = next-parsed (cond (eqb (at 0 l) 40) (readExpr f Mode.inner (drop 1 l)) (next (readAtom l) (λ a. done (atom a)))) readRepeat e rest r in
-    repeat-from l mid rest p e (single-from f l mid p h (λ s. expr-from f Mode.inner (drop 1 l) mid p (clean-drop 1 l h) s) one) others
+    repeat-from l mid rest p e (single-from f l mid p h (λ s. expr-from f Mode.inner (drop 1 l) mid p (line-drop 1 l h) s) one) others
 expr-from (suc f) Mode.inner l rest e h r =
     let (p, mid, one, others) = next-parsed (readExpr f Mode.alts l) (λ e m. cond (eqb (at 0 m) 41) (parsed (group e) (drop 1 m)) fault) e rest r in
     inner-from l mid rest p e (expr-from f Mode.alts l mid p h one) others

@@ -8,11 +8,11 @@ use Rattle.refusal.specs.Figures.{Figures, answered, refusedWith}
 use Rattle.pattern.specs.declared.automaton.Accepting.{Accepting}
 use Rattle.pattern.specs.declared.automaton.Verdict.{Verdict}
 use Rattle.pattern.specs.declared.summary.Summary.{Summary}
-use Rattle.brackets.specs.Form.{Pattern, atomCount}
 use Rattle.pattern.specs.Reader.{Read, accepted, refused}
 use Rattle.pattern.specs.States.{endsFree, endsAnchored, holdsKey, emptyBranch, emptyFree, atomWord}
-use Rattle.brackets.specs.Tabled.{tabled}
 use Rattle.pattern.specs.Moves.{enters}
+use Rattle.pattern.specs.Form.{Pattern, atomCount}
+use Rattle.stateset.specs.Tabled.{tabled}
 
 -- for each key, the atoms whose set has it; for each state, the atoms that it may enter
 unfoldable pub keyTable : Pattern → List ℕ

@@ -9,9 +9,9 @@ use lib.ListN.{length, getD}
 use Rattle.pattern.specs.declared.branch.BranchRead.{BranchRead}
 use Rattle.pattern.specs.declared.cursor.Cursor.{Cursor}
 use Rattle.pattern.specs.declared.shape.Shape.{Shape}
-use Rattle.brackets.specs.Form.{Expr, Branch, atomsIn}
 use Rattle.brackets.specs.Brackets.{Parsed, parsed, fault}
 use Rattle.pattern.specs.Tables.{keysAfter, enterAfter, shapeOf}
+use Rattle.pattern.specs.Form.{Expr, Branch, atomsIn}
 
 -- the shape and the tables of a branch's pieces; "A branch with no pieces takes the empty part."
 abbrev pub shapeIn : ℕ → Option Expr → Shape

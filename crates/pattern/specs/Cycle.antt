@@ -8,11 +8,12 @@ use lib.ListN.{length, drop}
 use Rattle.pattern.specs.declared.cursor.Cursor.{Cursor}
 use Rattle.pattern.specs.declared.cursor.Part.{Part}
 use Rattle.pattern.specs.declared.shape.Shape.{Shape}
-use Rattle.brackets.specs.Form.{Atom, Expr, atom, atoms}
+use Rattle.brackets.specs.Form.{Atom}
 use Rattle.brackets.specs.Brackets.{Parsed, parsed, fault}
 use Rattle.pattern.specs.Reader.{Mode, readExpr}
 use Rattle.pattern.specs.Tables.{keysAfter, enterAfter, linked, shapeOf}
 use Rattle.brackets.specs.Clean.{Clean}
+use Rattle.pattern.specs.Form.{Expr, atom, atoms}
 
 -- a cursor inside a pattern that has such bytes alone, and no more atoms before it than bytes
 pub record Ready (s : List ℕ) (c : Cursor) : Type 0 where

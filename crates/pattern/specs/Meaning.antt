@@ -6,8 +6,9 @@ use mathlib.Core.List.{List, [], _∷_, _++_}
 use mathlib.Core.Option.{Option, none, some}
 use lib.Dec.{ltb}
 use lib.ListN.{length}
-use Rattle.brackets.specs.Form.{Atom, Expr, atom, group, star, plus, opt, seq, alt, Branch, Pattern}
+use Rattle.brackets.specs.Form.{Atom}
 use Rattle.brackets.specs.Sets.{setOf}
+use Rattle.pattern.specs.Form.{Expr, atom, group, star, plus, opt, seq, alt, Branch, Pattern}
 
 -- What an expression takes: one rule for each sentence.
 pub data Takes : Expr → List ℕ → Type 0 where

@@ -4,9 +4,9 @@ use mathlib.Core.Bool.{Bool, true, false, _&&_, _||_}
 use mathlib.Core.List.{List, [], _∷_}
 use lib.Dec.{eqb}
 use Rattle.stateset.specs.Set.{anyBelow}
-use Rattle.brackets.specs.Form.{Pattern, atomCount}
-use Rattle.brackets.specs.Sets.{lineKey}
 use Rattle.pattern.specs.States.{firstInBranch, firstInFree, endsFree, endsAnchored, follows, holdsKey, emptyBranch, emptyFree}
+use Rattle.pattern.specs.Form.{Pattern, atomCount}
+use Rattle.runs.specs.Keys.{lineKey}
 
 -- "line-start is 0, mid-line is 1, found is 2, atom k (from 0) is 3 + k; s = atoms + 3"
 abbrev pub states : Pattern → ℕ

@@ -7,8 +7,10 @@ use lib.Dec.{leb, eqb}
 use lib.ListN.{length, drop}
 use Rattle.refusal.specs.declared.Refusal.{Refusal}
 use Rattle.refusal.specs.declared.Refusal.the-variants.{PatternLength, PatternSyntax, TooManyAtoms}
-use Rattle.brackets.specs.Form.{byte, Atom, plain, dot, escaped, Expr, atom, group, star, plus, opt, seq, alt, Branch, Pattern, member, marks, atomCount}
+use Rattle.brackets.specs.Form.{byte, Atom, plain, dot, escaped, marks}
 use Rattle.brackets.specs.Brackets.{Parsed, Parser, at, done, fault, next, parsed, readBracket}
+use Rattle.pattern.specs.Form.{Expr, atom, group, star, plus, opt, seq, alt, Branch, Pattern, atomCount}
+use Rattle.runs.specs.Keys.{member}
 
 -- Brackets.
 

@@ -6,8 +6,8 @@ use mathlib.Core.List.{[], _∷_}
 use mathlib.Core.Option.{Option, none, some}
 use lib.Dec.{leb, eqb}
 use Rattle.stateset.specs.Set.{word}
-use Rattle.brackets.specs.Form.{Expr, atom, group, star, plus, opt, seq, alt, Branch, Pattern, atoms, atomsIn}
 use Rattle.brackets.specs.Sets.{setOf}
+use Rattle.pattern.specs.Form.{Expr, atom, group, star, plus, opt, seq, alt, Branch, Pattern, atoms, atomsIn}
 
 -- the expression can match nothing
 unfoldable pub nothing : Expr → Bool

@@ -12,24 +12,26 @@ use lib.ListN.{getD, set, replicate}
 use borrow.Author.Tests.{ltb-true, ltb-false, leb-true, leb-false, le-leb, lt-leb, eq-eqb, ne-eqb}
 use Rattle.stateset.specs.Set.{bit, word}
 use Rattle.stateset.proofs.Sets.{word-ext, word-one, bit-word, word-high, bits-ext}
-use Rattle.stateset.proofs.Some.{torn, and-snd, tests-ext}
-use Rattle.brackets.specs.Form.{Pattern, atomCount}
 use Rattle.pattern.specs.Meaning.{matches}
 use Rattle.pattern.specs.Moves.{states, accepting, leads, acceptedFrom}
-use Rattle.brackets.specs.Tabled.{tabled}
 use Rattle.pattern.proofs.Moving.{common}
 use Rattle.pattern.proofs.AcceptedLines.{states-match}
-use Rattle.brackets.proofs.Tabled.{tabled-same}
 use Rattle.lines.specs.declared.moves.Closing.{Closing}
 use Rattle.reports.specs.declared.report.Report.{Report}
-use Rattle.lines.specs.Lines.{lineEnd, isRun, countIn}
+use Rattle.lines.specs.Lines.{countIn}
 use Rattle.reports.specs.Reports.{firstPart, laterParts, lastPart, partsBefore, most, rowsOf, noRows, withoutEnd, withEnd, reportWith, report}
 use Rattle.lines.specs.Promises.{Automaton, Advances, closingOf, moved}
 use Rattle.reports.specs.Promises.{AdvancesRows, Extended, Ended}
 use Rattle.reports.proofs.Joins.{filled-none, filled-more, gathered-more}
 use Rattle.lines.proofs.Reaching.{leads-high, leads-more, leads-accepts}
-use Rattle.reports.proofs.PartLaws.{first-into, later-into, first-kept, later-kept, last-open, before-open, last-closed, before-closed, key-of-line, later-lines, last-line}
+use Rattle.reports.proofs.PartLaws.{first-into, later-into, first-kept, later-kept, last-open, before-open, last-closed, before-closed, later-lines, last-line}
 use Rattle.reports.proofs.JoinLaw.{row-of}
+use Rattle.runs.proofs.Tests.{torn, and-snd, tests-ext}
+use Rattle.pattern.specs.Form.{Pattern, atomCount}
+use Rattle.stateset.specs.Tabled.{tabled}
+use Rattle.stateset.proofs.Tabled.{tabled-same}
+use Rattle.runs.specs.Keys.{lineEnd, isRun}
+use Rattle.runs.proofs.KeyLaws.{key-of-line}
 
 -- The states whose rows accept, gathered one by one.
 

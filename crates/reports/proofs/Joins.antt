@@ -13,15 +13,16 @@ use lib.Bits.{bitAnd, bitOr, or-lt, and-mask}
 use borrow.Author.Tests.{ltb-true, ltb-false, lt-ltb, le-ltb, leb-true, leb-false, le-leb, lt-leb, eqb-true, eqb-false, eq-eqb, ne-eqb, not-true, not-false}
 use Rattle.stateset.specs.Set.{bit, word, anyBelow, imageOf}
 use Rattle.stateset.proofs.Sets.{bit-zero, bit-or, bit-mod, bit-word, bit-chosen, word-ext, word-high, word-lt, word-unique}
-use Rattle.stateset.proofs.Some.{and-snd, any-ext, any-widen}
+use Rattle.stateset.proofs.Some.{any-ext, any-widen}
 use Rattle.stateset.proofs.Images.{bit-image}
-use Rattle.brackets.specs.Tabled.{tabled}
-use Rattle.brackets.proofs.Tabled.{tabled-length, tabled-at, tabled-same}
 use Rattle.reports.specs.declared.joining.Closed.{Closed}
 use Rattle.reports.specs.declared.report.Report.{Report}
 use Rattle.reports.specs.Reports.{most, common, rowsOf, alike, joinedReports, noReport}
 use Rattle.reports.specs.Answers.{joinResult}
 use Rattle.reports.specs.Joins.{onwardBy, closedBy, closedOf, Adds, withLines, wholeJoin, openingJoin, endingJoin, acrossJoin}
+use Rattle.runs.proofs.Tests.{and-snd}
+use Rattle.stateset.specs.Tabled.{tabled}
+use Rattle.stateset.proofs.Tabled.{tabled-length, tabled-at, tabled-same}
 
 -- Sets of states below s.
 

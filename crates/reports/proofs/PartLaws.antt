@@ -6,10 +6,10 @@ use mathlib.Core.Bool.{Bool, true, false, not, cond, _&&_}
 use mathlib.Core.List.{List, [], _∷_, _++_}
 use lib.Dec.{leb, eqb}
 use borrow.Author.Tests.{eqb-false, ne-eqb}
-use Rattle.stateset.proofs.Some.{clash, and-both, and-fst, and-snd}
-use Rattle.brackets.specs.Sets.{lineKey, isLine}
-use Rattle.lines.specs.Lines.{lineEnd, isRun, countIn}
+use Rattle.lines.specs.Lines.{countIn}
 use Rattle.reports.specs.Reports.{firstPart, laterParts, lastPart, partsBefore}
+use Rattle.runs.proofs.Tests.{clash, and-both, and-fst, and-snd}
+use Rattle.runs.specs.Keys.{lineKey, isLine, lineEnd, isRun}
 
 -- a run without a line end
 pub first-whole : (u : List ℕ) → laterParts u ≡ [] → firstPart u ≡ u
@@ -95,13 +95,6 @@ module _ (l : List ℕ) (ls : List (List ℕ)) (v : List ℕ) where
 
 -- The parts of a run are lines.
 
--- a key of a run that is no line end
-pub key-of-line : (c : ℕ) → (leb 1 c && leb c 255) ≡ true → eqb lineEnd c ≡ false → lineKey c ≡ true
-key-of-line c k e =
-    let other : eqb c lineEnd ≡ false = ne-eqb c lineEnd (λ s. eqb-false lineEnd c e (sym s)) in
-    and-both (leb 1 c) (leb c 255 && not (eqb c lineEnd)) (and-fst (leb 1 c) (leb c 255) k)
-    (and-both (leb c 255) (not (eqb c lineEnd)) (and-snd (leb 1 c) (leb c 255) k) (rw other refl))
-
 pub first-line : (w : List ℕ) → isRun w ≡ true → isLine (firstPart w) ≡ true
 unfolding isRun firstPart isLine
 first-line [] h = refl
@@ -129,9 +122,3 @@ pub last-line : (l : List ℕ) (ls : List (List ℕ)) → allLines (l ∷ ls) �
 unfolding allLines lastPart
 last-line l [] h = and-fst (isLine l) true h
 last-line l (m ∷ ms) h = last-line m ms (and-snd (isLine l) (isLine m && allLines ms) h)
-
--- one line after another
-pub line-append : (u v : List ℕ) → isLine u ≡ true → isLine v ≡ true → isLine (u ++ v) ≡ true
-unfolding isLine
-line-append [] v g h = h
-line-append (c ∷ u) v g h = and-both (lineKey c) (isLine (u ++ v)) (and-fst (lineKey c) (isLine u) g) (line-append u v (and-snd (lineKey c) (isLine u) g) h)

@@ -6,22 +6,25 @@ use mathlib.Core.Bool.{Bool, true, false, cond, _&&_}
 use mathlib.Core.List.{List, [], _∷_, _++_}
 use lib.Dec.{leb, eqb}
 use lib.ListN.{getD}
-use Rattle.stateset.specs.Set.{bit, word, countBelow}
+use Rattle.stateset.specs.Set.{bit, word}
 use Rattle.stateset.proofs.Sets.{word-one}
-use Rattle.stateset.proofs.Counts.{count-le, count-word}
-use Rattle.stateset.proofs.Some.{and-both, and-fst, and-snd}
-use Rattle.brackets.specs.Form.{Pattern, atomCount}
+use Rattle.stateset.proofs.Counts.{count-word}
 use Rattle.pattern.specs.Meaning.{matches}
 use Rattle.pattern.specs.Moves.{states, leads}
 use Rattle.reports.specs.declared.report.Report.{Report}
-use Rattle.lines.specs.Lines.{isRun, countIn}
+use Rattle.lines.specs.Lines.{countIn}
 use Rattle.reports.specs.Reports.{laterParts, lastPart, partsBefore, rowsOf, reportWith, report, joinedWith, joinedReports}
-use Rattle.reports.specs.Words.{sumBelow, pairsWith, pairs}
+use Rattle.reports.specs.Words.{pairsWith, pairs}
 use Rattle.reports.specs.Promises.{pairsIn}
 use Rattle.reports.specs.Empty.{emptyReport}
 use Rattle.reports.proofs.JoinLaw.{row-of, flag-set}
 use Rattle.reports.proofs.Joins.{shifted}
 use Rattle.reports.proofs.WordLaws.{sizes-le}
+use Rattle.runs.specs.Counts.{countBelow, sumBelow}
+use Rattle.runs.proofs.CountLaws.{count-le}
+use Rattle.runs.proofs.Tests.{and-both, and-fst, and-snd}
+use Rattle.pattern.specs.Form.{Pattern, atomCount}
+use Rattle.runs.specs.Keys.{isRun}
 
 -- the empty run
 pub empty-is : (t : Pattern) → emptyReport (states t) ≡ report t []
@@ -51,12 +54,6 @@ joined-size a b = go (eqb (a .flag) 0) (eqb (b .flag) 0)
     go false true = refl
     go false false = refl
 
--- Pairs.
-pub sum-ext : (n : ℕ) (f g : ℕ → ℕ) → ((k : ℕ) → k < n → f k ≡ g k) → sumBelow n f ≡ sumBelow n g
-unfolding sumBelow
-sum-ext zero f g e = refl
-sum-ext (suc n) f g e = rw (sum-ext n f g (λ k h. e k (omega arith)), e n (omega arith)) refl
-
 -- a report shows the pairs of its run
 pub pairs-of : (t : Pattern) → atomCount t ≤ 29 → (w : List ℕ) → pairsIn (report t w) ≡ pairs t w
 unfolding report pairs
@@ -75,9 +72,3 @@ pairs-le r h = go (eqb (r .flag) 0)
     go : (b : Bool) → cond b (sumBelow (r .s) (λ q. countBelow 64 (bit (getD (r .rows) q 0)))) (countBelow 64 (bit (r .tail))) ≤ 2048
     go true = omega (arith, sizes-le (r .rows) (r .s))
     go false = omega (arith, count-le 64 (bit (r .tail)))
-
--- Runs.
-pub run-append : (u v : List ℕ) → isRun u ≡ true → isRun v ≡ true → isRun (u ++ v) ≡ true
-unfolding isRun
-run-append [] v g h = h
-run-append (c ∷ u) v g h = and-both (leb 1 c && leb c 255) (isRun (u ++ v)) (and-fst (leb 1 c && leb c 255) (isRun u) g) (run-append u v (and-snd (leb 1 c && leb c 255) (isRun u) g) h)

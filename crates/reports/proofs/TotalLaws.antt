@@ -11,8 +11,6 @@ use borrow.Author.Tests.{not-true, not-false, eq-eqb, le-leb, lt-leb, leb-true, 
 use Rattle.stateset.specs.Set.{bit, word}
 use Rattle.stateset.proofs.Sets.{bit-word, bit-one}
 use Rattle.stateset.proofs.Some.{any-ext, any-at}
-use Rattle.brackets.specs.Form.{Pattern, atomCount}
-use Rattle.brackets.specs.Sets.{isLine}
 use Rattle.pattern.specs.Moves.{states, leads, acceptedFrom}
 use Rattle.pattern.proofs.Moving.{common}
 use Rattle.pattern.proofs.AcceptedLines.{states-match}
@@ -21,7 +19,7 @@ use Rattle.pattern.specs.Meaning.{matches}
 use Rattle.lines.specs.declared.moves.Closing.{Closing}
 use Rattle.reports.specs.declared.report.Report.{Report}
 use Rattle.reports.specs.declared.total.Total.{Total}
-use Rattle.lines.specs.Lines.{isRun, lineEnd, onto, lines, countIn, matching}
+use Rattle.lines.specs.Lines.{onto, lines, countIn, matching}
 use Rattle.reports.specs.Reports.{firstPart, laterParts, lastPart, partsBefore, most, withoutEnd, withEnd, reportWith, report}
 use Rattle.lines.specs.Promises.{closingOf, isOpen}
 use Rattle.reports.specs.Promises.{LastLine, Totals, totalOf}
@@ -29,6 +27,8 @@ use Rattle.reports.proofs.PartLaws.{first-whole, first-line, later-line
 use Rattle.reports.proofs.JoinLaw.{row-of, flag-set}
 use Rattle.lines.proofs.Tallying.{at-most-one}
 use Rattle.reports.proofs.Extending.{row-accepts}
+use Rattle.pattern.specs.Form.{Pattern, atomCount}
+use Rattle.runs.specs.Keys.{isLine, isRun, lineEnd}
 
 -- the lines of a run, by its parts: the last part is a line if it has a key
 abbrev lastOnly : List ℕ → List (List ℕ)

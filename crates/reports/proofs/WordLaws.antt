@@ -10,11 +10,12 @@ use mir.Val.{Fits}
 use mir.Syntax.{w64}
 use lib.ListN.{length, getD, take, drop, set, replicate, length-set, length-drop}
 use lib.Seq.{length-take-le, take-suc, append-snoc, set-at, getD-drop, drop-drop, paste, paste-zero, paste-suc, length-paste, take-paste, drop-paste, sets-eq}
-use Rattle.stateset.specs.Set.{bit, countBelow}
-use Rattle.stateset.proofs.Counts.{count-le}
+use Rattle.stateset.specs.Set.{bit}
 use Rattle.reports.specs.declared.report.Report.{Report}
-use Rattle.reports.specs.Words.{reportWords, sumBelow}
+use Rattle.reports.specs.Words.{reportWords}
 use Rattle.reports.specs.Promises.{loaded, pairsIn}
+use Rattle.runs.specs.Counts.{countBelow, sumBelow}
+use Rattle.runs.proofs.CountLaws.{count-le}
 
 -- Reading rows.
 
@@ -103,11 +104,6 @@ stored-all old at r {work} e p l =
     (sets-eq (r .flag ∷ r .heads ∷ r .closed ∷ r .tail ∷ []) work n (omega arith) ∙ rw (head, rest) (simp append-assoc))
 
 -- Counting members.
-
--- one number more to sum over
-pub sum-more : (n : ℕ) (f : ℕ → ℕ) → sumBelow (n + 1) f ≡ sumBelow n f + f n
-unfolding sumBelow
-sum-more n f = rw add-one
 
 -- how many members the first n rows have together
 abbrev pub sizesOf : List ℕ → ℕ → ℕ

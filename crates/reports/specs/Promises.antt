@@ -5,19 +5,19 @@ use mathlib.Core.Bool.{true, cond, _&&_}
 use mathlib.Core.List.{List, [], _∷_, _++_}
 use lib.Dec.{leb, ltb, eqb}
 use lib.ListN.{getD, take, replicate}
-use Rattle.stateset.specs.Set.{bit, word, countBelow}
-use Rattle.brackets.specs.Form.{Pattern, atomCount}
-use Rattle.brackets.specs.Sets.{lineKey, isLine}
+use Rattle.stateset.specs.Set.{bit, word}
 use Rattle.pattern.specs.Meaning.{matches}
-use Rattle.brackets.specs.Tabled.{tabled}
 use Rattle.pattern.specs.Moves.{states, move, leads}
-use Rattle.lines.specs.Lines.{lineEnd, isKey, isRun, matching}
+use Rattle.lines.specs.Lines.{matching}
 use Rattle.reports.specs.Reports.{most, report}
-use Rattle.reports.specs.Words.{sumBelow}
 use Rattle.reports.specs.declared.report.Report.{Report}
 use Rattle.reports.specs.declared.total.Total.{Total}
 use Rattle.lines.specs.declared.moves.Closing.{Closing}
 use Rattle.lines.specs.Promises.{closingOf, Automaton, moved, isOpen}
+use Rattle.runs.specs.Counts.{countBelow, sumBelow}
+use Rattle.pattern.specs.Form.{Pattern, atomCount}
+use Rattle.runs.specs.Keys.{lineKey, isLine, lineEnd, isKey, isRun}
+use Rattle.stateset.specs.Tabled.{tabled}
 
 -- the first s rows move so, and there are no others
 unfoldable pub AdvancesRows : List ℕ → List ℕ → Closing → List ℕ → ℕ → ℕ → List ℕ → Type 0

@@ -5,12 +5,13 @@ use mathlib.Core.List.{List, [], _∷_}
 use lib.Dec.{leb, ltb, eqb}
 use lib.ListN.{getD, replicate}
 use Rattle.stateset.specs.Set.{bit, word, anyBelow}
-use Rattle.brackets.specs.Form.{Pattern}
 use Rattle.pattern.specs.Meaning.{matches}
 use Rattle.pattern.specs.Moves.{states, leads, acceptedFrom}
-use Rattle.brackets.specs.Tabled.{tabled}
 use Rattle.reports.specs.declared.report.Report.{Report}
-use Rattle.lines.specs.Lines.{lineEnd, countIn}
+use Rattle.lines.specs.Lines.{countIn}
+use Rattle.pattern.specs.Form.{Pattern}
+use Rattle.stateset.specs.Tabled.{tabled}
+use Rattle.runs.specs.Keys.{lineEnd}
 
 -- The parts of a run between line ends.
 

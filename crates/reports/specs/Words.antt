@@ -2,17 +2,12 @@
 use Prim.Native.Nat.{ℕ, zero, suc, _+_}
 use mathlib.Core.List.{List, [], _∷_, _++_}
 use lib.ListN.{take}
-use Rattle.stateset.specs.Set.{countBelow}
-use Rattle.brackets.specs.Form.{Pattern}
 use Rattle.pattern.specs.Moves.{states, leads}
 use Rattle.pattern.specs.Reader as reader
 use Rattle.reports.specs.declared.report.Report.{Report}
 use Rattle.reports.specs.Reports.{laterParts, lastPart}
-
--- the sum of f over the numbers below n
-unfoldable pub sumBelow : ℕ → (ℕ → ℕ) → ℕ
-sumBelow zero f = 0
-sumBelow (suc n) f = sumBelow n f + f n
+use Rattle.runs.specs.Counts.{countBelow}
+use Rattle.pattern.specs.Form.{Pattern}
 
 -- "the pairs of states (q, p) such that the items before it in that macro lead from q to p", where w is the run of those items:
 -- "Before any LF in them q is every state; after one, q is line-start alone, moving since the last LF."

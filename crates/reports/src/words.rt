@@ -6,9 +6,10 @@ ghost use mathlib.Core.Path.{_≡_};
 ghost use mathlib.Core.List.{_++_};
 ghost use lib.ListN.{length, getD, take, drop, replicate};
 ghost use lib.Seq.{paste};
-ghost use Rattle.stateset.specs.Set.{bit, countBelow};
-ghost use Rattle.reports.specs.Words.{reportWords, sumBelow};
+ghost use Rattle.stateset.specs.Set.{bit};
+ghost use Rattle.reports.specs.Words.{reportWords};
 ghost use Rattle.reports.specs.Promises.{loaded, pairsIn};
+ghost use Rattle.runs.specs.Counts.{countBelow, sumBelow};
 
 // The rows whose words start at `at`, and zeros for the states that there are not.
 fn load_rows(work: &[u64], at: usize, s: usize) -> [u64; 32]

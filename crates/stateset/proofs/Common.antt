@@ -7,7 +7,8 @@ use lib.Bits.{bitAnd, and-lt}
 use borrow.Author.Tests.{eqb-true, eq-eqb}
 use Rattle.stateset.specs.Set.{bit, word, anyBelow}
 use Rattle.stateset.proofs.Sets.{bit-zero, bit-and, bit-word, word-high, word-unique, word-none}
-use Rattle.stateset.proofs.Some.{torn, any-ext, any-none, any-lacks, any-widen}
+use Rattle.stateset.proofs.Some.{any-ext, any-none, any-lacks, any-widen}
+use Rattle.runs.proofs.Tests.{torn}
 
 -- words of two sets have a member in common exactly if some number below the width is in both
 pub common-words : (s : ℕ) (X Y : ℕ → Bool) → s ≤ 64 → anyBelow 64 (λ p. bit (word s X) p && bit (word s Y) p) ≡ anyBelow s (λ p. X p && Y p)

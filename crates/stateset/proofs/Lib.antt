@@ -5,3 +5,4 @@ pub mod Lowest
 pub mod Images
 pub mod Counts
 pub mod Common
+pub mod Tabled

@@ -8,45 +8,7 @@ use mathlib.Core.Bool.{Bool, true, false, _&&_, _||_, or-true, or-false, and-eq-
 use lib.Dec.{ltb, eqb}
 use borrow.Author.Tests.{ltb-true, ltb-false, eqb-true, eq-eqb}
 use Rattle.stateset.specs.Set.{anyBelow}
-
--- two constructors that are equal prove anything
-pub clash : {A : Type 0} → _≡_ {A = ℕ} 0 1 → A
-clash z = absurd (no-less z)
-  where
-    no-less : _≡_ {A = ℕ} 0 1 → ⊥
-    no-less z = omega arith
-
--- and so does a test that passed and failed
-pub torn : {A : Type 0} (t : Bool) → t ≡ true → t ≡ false → A
-torn t p q = clash (cc)
-
--- a true `||` has a true side
-pub or-cases : (a b : Bool) → (a || b) ≡ true → (a ≡ true) ⊎ (b ≡ true)
-or-cases true b h = inl refl
-or-cases false b h = inr h
-
--- a true side makes a true `||`
-pub or-left : (a b : Bool) → a ≡ true → (a || b) ≡ true
-or-left a b h = rw h
-
-pub or-right : (a b : Bool) → b ≡ true → (a || b) ≡ true
-or-right a b h = rw h (or-true a)
-
--- both sides of a true `&&`
-pub and-both : (a b : Bool) → a ≡ true → b ≡ true → (a && b) ≡ true
-and-both a b g h = rw (g, h)
-
-pub and-fst : (a b : Bool) → (a && b) ≡ true → a ≡ true
-and-fst a b h = and-eq-true-iff a b .0 h .0
-
-pub and-snd : (a b : Bool) → (a && b) ≡ true → b ≡ true
-and-snd a b h = and-eq-true-iff a b .0 h .1
-
--- two tests that are true together are one
-pub tests-ext : (a b : Bool) → (a ≡ true → b ≡ true) → (b ≡ true → a ≡ true) → a ≡ b
-tests-ext true b f g = sym (f refl)
-tests-ext false true f g = g refl
-tests-ext false false f g = refl
+use Rattle.runs.proofs.Tests.{and-both, and-fst, and-snd, or-cases, or-left, torn, or-right, tests-ext}
 
 -- a number below n that has X
 pub record Witness (n : ℕ) (X : ℕ → Bool) : Type 0 where

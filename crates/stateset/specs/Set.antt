@@ -23,8 +23,3 @@ anyBelow (suc n) X = anyBelow n X || X n
 -- the union of the rows of the members of x; a member that has no row adds nothing
 unfoldable pub imageOf : List ℕ → ℕ → ℕ
 imageOf rows x = word 64 (λ p. anyBelow (length rows) (λ q. bit x q && bit (getD rows q 0) p))
-
--- how many numbers below n have X
-unfoldable pub countBelow : ℕ → (ℕ → Bool) → ℕ
-countBelow zero X = 0
-countBelow (suc n) X = countBelow n X + cond (X n) 1 0

@@ -3,7 +3,8 @@ ghost use mathlib.Core.Path.{_≡_};
 ghost use mathlib.Core.Bool.{cond, _&&_};
 ghost use Prim.Native.Nat.{_%_, _^_};
 ghost use lib.Bits.{bitAnd, bitOr};
-ghost use Rattle.stateset.specs.Set.{bit, anyBelow, countBelow, imageOf};
+ghost use Rattle.stateset.specs.Set.{bit, anyBelow, imageOf};
+ghost use Rattle.runs.specs.Counts.{countBelow};
 
 // The set of p alone; a p that no word holds gives the empty set.
 pub fn only(p: u32) -> u64

@@ -2,10 +2,10 @@
 use borrow.Author.Needs.{needs}
 use Rattle.brackets.specs.Form.{classNames}
 use Rattle.brackets.specs.Sets.{classRanges}
-use Rattle.brackets.specs.Tabled.{tabled}
 use Rattle.brackets.proofs.ClassTables.{nameByte, rangeByte, classRow, classRows, name-entry}
 use Rattle.brackets.proofs.class.name_byte.Statement.{statement}
 use Rattle.brackets.proofs.class.name_byte.Tie as tie
+use Rattle.stateset.specs.Tabled.{tabled}
 
 mul-class : tie.Need-mul-class
 mul-class c = search needs

@@ -1,9 +1,10 @@
 -- `line::is_line_key`: a byte is a key of a line unless it is 0 or a line end.
 use borrow.Author.Needs.{needs}
 use borrow.Author.Tests.{ne-eqb}
-use Rattle.lines.proofs.Testing.{no-zero, key-test}
+use Rattle.lines.proofs.Testing.{no-zero}
 use Rattle.lines.proofs.line.is_line_key.Statement.{statement}
 use Rattle.lines.proofs.line.is_line_key.Tie as tie
+use Rattle.runs.proofs.KeyLaws.{key-test}
 
 returns : tie.Need-returns
 returns c = search (no-zero)

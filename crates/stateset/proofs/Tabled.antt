@@ -4,7 +4,7 @@ use native.Mathlib.Omega.{arith}
 use native.Mathlib.Nat.{not-suc-le-zero, add-zero, zero-add}
 use mathlib.Core.Path.{_≡_, refl, ap}
 use lib.ListN.{length, getD}
-use Rattle.brackets.specs.Tabled.{tabled}
+use Rattle.stateset.specs.Tabled.{tabled}
 
 pub tabled-length : (f : ℕ → ℕ) (n i : ℕ) → length (tabled f n i) ≡ n
 unfolding tabled
