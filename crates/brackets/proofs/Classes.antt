@@ -24,7 +24,7 @@ fitting : List ℕ → Bool
 fitting n = let t = n ++ (58 ∷ 93 ∷ []) in eqb (length n + 2) (cond (eqb (getD t 7 0) 0) 7 8) && not (member 0 t)
 
 all-fitting : every fitting classNames ≡ true
-unfolding every fitting classNames member
+unfolding every fitting classNames
 all-fitting = refl
 
 twelve : length classNames ≡ 12
@@ -55,7 +55,6 @@ module _ (c : ℕ) (low : c < 12) where
 
 -- no byte of a list is 0
 no-zero : (l : List ℕ) (j : ℕ) → not (member 0 l) ≡ true → j < length l → getD l j 0 ≡ 0 → ⊥
-unfolding member
 no-zero [] j e h z = omega arith
 no-zero (x ∷ xs) zero e h z = false≢true (rw (eq-eqb 0 x (sym z)) at e)
 no-zero (x ∷ xs) (suc j) e h z = no-zero xs j (tail (eqb 0 x) e) (omega arith) z

@@ -33,16 +33,13 @@ module _ (b c : ℕ) where
 
   module _ (h : b ≡ 91) where
     pub opens-stop : c ≡ 46 → true ≡ eqb b 91 && member c (46 ∷ 61 ∷ 58 ∷ [])
-    unfolding member
     opens-stop g = rw (eq-eqb b 91 h, eq-eqb c 46 g)
 
     module _ (n : c ≡ 46 → ⊥) where
       pub opens-equals : c ≡ 61 → true ≡ eqb b 91 && member c (46 ∷ 61 ∷ 58 ∷ [])
-      unfolding member
       opens-equals g = rw (eq-eqb b 91 h, ne-eqb c 46 n, eq-eqb c 61 g)
 
       pub opens-colon : (c ≡ 61 → ⊥) → eqb c 58 ≡ eqb b 91 && member c (46 ∷ 61 ∷ 58 ∷ [])
-      unfolding member
       opens-colon m = rw (eq-eqb b 91 h, ne-eqb c 46 n, ne-eqb c 61 m) (sym (or-false (eqb c 58)))
 
 -- where it is none of the three, it is not the third, nor one of the others
@@ -156,12 +153,10 @@ module _ (s : List ℕ) (p : ℕ) where
       element-class r h g = rw (chosen, opened .0, eq-eqb b 58 h) g
 
       pub element-opens : (b ≡ 58 → ⊥) → Fault ≡ elementShown p (readElement first (drop p s))
-      unfolding member
       element-opens h = let m = rw (ne-eqb b 58 h) at (opened .1) in rw (chosen, opened .0, ne-eqb b 58 h, m)
 
     module _ (t : o ≡ false) where
       not-opened : (q : Bool) → startsRange (drop (p + 1) s) ≡ q → readElement first (drop p s) ≡ cond q (readRange first (drop p s)) (readByte first (drop p s))
-      unfolding member
       not-opened q h =
           let (colon, others) = neither (eqb a 91) (eqb b 46) (eqb b 61) (eqb b 58) (sym n ∙ t) in
           chosen ∙ rw (colon, others, h)

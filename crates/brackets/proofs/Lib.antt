@@ -12,3 +12,7 @@ pub mod Ranges
 pub mod Shorter
 pub mod Stored
 pub mod Taken
+pub mod BracketsFrom
+pub mod BracketsBack
+pub mod AtomsFrom
+pub mod AtomsBack

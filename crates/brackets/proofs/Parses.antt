@@ -9,8 +9,8 @@ use lib.Dec.{leb, eqb}
 use lib.ListN.{getD, drop}
 use borrow.Author.Tests.{eqb-true, eqb-false, leb-true, le-leb, ne-eqb, not-true}
 use Rattle.brackets.specs.Brackets.{Parsed, Parser, parsed, fault, next, done, at}
-pub use Rattle.brackets.specs.Clean.{Clean}
-use Rattle.runs.specs.Keys.{member, lineKey}
+use Rattle.runs.specs.Keys.{member, lineKey, isLine}
+use Rattle.runs.proofs.KeyLaws.{key-is, line-first}
 pub use Rattle.runs.proofs.Tests.{clash, torn}
 
 -- Answers.
@@ -61,6 +61,6 @@ front (x ∷ l) c h e = rw (eqb-true x c e)
 -- The bytes of a pattern.
 
 -- among such bytes a 0 at the front is the end
-pub clean-end : (l : List ℕ) → Clean l → eqb (at 0 l) 0 ≡ true → l ≡ []
+pub clean-end : (l : List ℕ) → isLine l ≡ true → eqb (at 0 l) 0 ≡ true → l ≡ []
 clean-end [] h e = refl
-clean-end (b ∷ l) h e = torn (eqb b 0) e (byte-is b (h .0) .2)
+clean-end (b ∷ l) h e = torn (eqb b 0) e (key-is b (line-first b l h) .2)

@@ -114,5 +114,5 @@ module _ (first : Bool) (s : List ℕ) (p : ℕ) (r : ElementRead) (e : r ≡ el
 
 -- nothing can be read where nothing is
 pub none-read : (first : Bool) → readElement first [] ≡ fault
-unfolding readElement member
+unfolding readElement
 none-read first = refl

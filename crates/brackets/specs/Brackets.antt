@@ -5,7 +5,7 @@ use mathlib.Core.List.{List, [], _∷_, _++_}
 use mathlib.Core.Option.{Option, none, some}
 use lib.Dec.{leb, eqb}
 use lib.ListN.{length, getD, take, drop}
-use Rattle.brackets.specs.Form.{Element, byte, range, class, Atom, bracket, className}
+use Rattle.brackets.specs.Form.{Element, byte, range, class, Atom, plain, dot, escaped, bracket, className, marks}
 use Rattle.runs.specs.Keys.{member}
 
 -- what was read and the bytes after it, or a fault
@@ -89,3 +89,11 @@ unfoldable pub readBracket : Parser Atom
 readBracket l =
     cond (eqb (at 0 l) 94) (next (readElements (length l) true (drop 1 l)) (λ es. done (bracket true es)))
     (next (readElements (length l) true l) (λ es. done (bracket false es)))
+
+-- "Atoms: a plain byte (any but the twelve marks ..); `.` ..; `\` before one of ..; a bracket."
+unfoldable pub readAtom : Parser Atom
+readAtom l =
+    cond (eqb (at 0 l) 46) (parsed dot (drop 1 l))
+    (cond (eqb (at 0 l) 91) (readBracket (drop 1 l))
+    (cond (eqb (at 0 l) 92) (cond (member (at 1 l) marks) (parsed (escaped (at 1 l)) (drop 2 l)) fault)
+    (cond (eqb (at 0 l) 0 || member (at 0 l) marks) fault (parsed (plain (at 0 l)) (drop 1 l)))))

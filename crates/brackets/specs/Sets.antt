@@ -5,6 +5,7 @@ use mathlib.Core.List.{List, [], _∷_}
 use lib.Dec.{leb, eqb}
 use lib.ListN.{getD}
 use Rattle.brackets.specs.Form.{Element, byte, range, class, Atom, plain, dot, escaped, bracket}
+use Rattle.runs.specs.Keys.{lineKey}
 
 -- a range of bytes, both ends in it
 pub record Range : Type 0 where

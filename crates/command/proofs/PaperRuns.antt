@@ -15,8 +15,8 @@ use Rattle.pattern.specs.Meaning.{repeated, takes, matchesFrom, matches}
 use Rattle.pattern.specs.States.{nothing, first, last, follow, someBranch}
 use Rattle.pattern.specs.States as positions
 use Rattle.pattern.specs.Moves.{enters, target, move, leads}
-use Rattle.pattern.specs.Reader.{Read, accepted, refused, readAtom, readRepeat, readExpr, readBranch, readBranches, readPattern}
-use Rattle.brackets.specs.Brackets.{sameBytes, findClass, readElement, readElements, readBracket}
+use Rattle.pattern.specs.Reader.{Read, accepted, refused, readRepeat, readExpr, readBranch, readBranches, readPattern}
+use Rattle.brackets.specs.Brackets.{sameBytes, findClass, readElement, readElements, readBracket, readAtom}
 use Rattle.lines.specs.Lines.{lines, countIn, matching}
 use Rattle.reports.specs.Reports.{firstPart, laterParts, lastPart}
 use Rattle.counter.specs.Counting.{Outcome, itemSteps, steps, countResult}
@@ -117,5 +117,5 @@ allHold (r ∷ rs) = holds r && allHold rs
 
 -- every row is as document 01 says
 pub paper-runs : allHold table ≡ true
-unfolding table allHold answerTo classNames member atoms atomCount sameBytes findClass readElement readElements readBracket readAtom readRepeat readExpr readBranch readBranches readPattern classRanges inRanges inElement inElements named setOf repeated takes matchesFrom matches lines countIn matching readItem readItems readMacro readMacros readHeader readAll readBook expand expandTo expansion lineResult runResult countResult firstPart laterParts lastPart sumBelow pairs itemSteps steps anyBelow countBelow nothing first last follow someBranch positions.holds enters target move leads patternEnd lastResult programResult programAnswer xor
+unfolding table allHold answerTo classNames atoms atomCount sameBytes findClass readElement readElements readBracket readAtom readRepeat readExpr readBranch readBranches readPattern classRanges inRanges inElement inElements named setOf repeated takes matchesFrom matches lines countIn matching readItem readItems readMacro readMacros readHeader readAll readBook expand expandTo expansion lineResult runResult countResult firstPart laterParts lastPart sumBelow pairs itemSteps steps anyBelow countBelow nothing first last follow someBranch positions.holds enters target move leads patternEnd lastResult programResult programAnswer xor
 paper-runs = refl

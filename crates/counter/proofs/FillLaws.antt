@@ -58,7 +58,6 @@ module _ (t : Pattern) (few : atomCount t ≤ 29) (ms : List Macro) where
 -- A macro's items are served by the reports of those below it.
 module _ (t : Pattern) (few : atomCount t ≤ 29) (ms : List Macro) (well : wellFormed ms ≡ true) where
   run-keys : (l : List ℕ) → ((k : ℕ) → List·Memᴰ k l → (1 ≤ k) × (k ≤ 255)) → isRun l ≡ true
-  unfolding isRun
   run-keys [] f = refl
   run-keys (k ∷ l) f =
       let b = f k (List·Memᴰ·head refl) in

@@ -74,7 +74,6 @@ call-room i f = rw i at (f .room)
 
 -- the run of an item
 run-of-item : (t : Pattern) (called : ℕ → List ℕ) (work : List ℕ) (i : Item) → Served t called work i → isRun (keysOf called i) ≡ true
-unfolding isRun
 run-of-item t called work (Key k) h = and-both (leb 1 k && leb k 255) true h refl
 run-of-item t called work (Call j) h = h .1
 
@@ -89,7 +88,7 @@ pub record ItemsSoFar (keys enter : List ℕ) (c : Closing) (work : List ℕ) (s
 
 module _ {keys enter : List ℕ} {c : Closing} {work : List ℕ} {s : ℕ} {body : List ℕ} where
   pub items-start : {a : Report} → a ≡ emptyReport s → ItemsSoFar keys enter c work s body a 0 0
-  unfolding expand itemSteps sumBelow isRun
+  unfolding expand itemSteps sumBelow
   items-start {a} e =
       record {
         size = ap (λ (x : Report). x .s) e;

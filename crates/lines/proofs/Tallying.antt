@@ -81,7 +81,6 @@ pub record RunSoFar (keys enter : List ℕ) (c : Closing) (run : List ℕ) (a : 
 
 module _ {keys enter : List ℕ} {c : Closing} {run : List ℕ} where
   pub run-start : RunSoFar keys enter c run (record { set = 1; pending = false; lines = 0 }) 0
-  unfolding member isLine
   run-start =
       record {
         inside = omega arith;
@@ -96,7 +95,7 @@ module _ {keys enter : List ℕ} {c : Closing} {run : List ℕ} where
     run-refused h e t i = rw (member-at 0 run at h e) refl
 
     pub run-on : {b : Tally} → at < length run → getD run at 0 < 256 → (getD run at 0 ≡ 0 → ⊥) → AfterKey keys enter c a (getD run at 0) b → RunSoFar keys enter c run b (at + 1)
-    unfolding tallyAfter isLine
+    unfolding tallyAfter
     run-on {b} h i n g =
         record {
           inside = omega arith;

@@ -49,7 +49,6 @@ pub record LineSoFar (keys enter : List ℕ) (c : Closing) (line : List ℕ) (se
 
 module _ {keys enter : List ℕ} {c : Closing} {line : List ℕ} where
   pub line-start : LineSoFar keys enter c line 1 0
-  unfolding isLine
   line-start = record { inside = omega arith; clean = refl; leads = λ t a. reached-none t }
 
   module _ {set at : ℕ} (s : LineSoFar keys enter c line set at) where

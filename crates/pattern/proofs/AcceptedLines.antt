@@ -395,7 +395,7 @@ module _ (t : Pattern) where
       (leads-sees w r p (and-snd (move t q c r) (leads t r w p) (n .has)) s)
 
   sees-accepted : (w : List ℕ) (q : ℕ) → q < states t → isLine w ≡ true → Sees t q w → Witness (states t) (λ p. leads t q w p && accepting t p)
-  unfolding leads isLine
+  unfolding leads
   sees-accepted [] q b l s = record { which = q; below = b; has = and-both (eqb q q) (accepting t q) (eq-eqb q q refl) (accepts-end q s) }
   sees-accepted (c ∷ w) q b l s =
       let n = sees-next q c w (and-fst (lineKey c) (isLine w) l) s in

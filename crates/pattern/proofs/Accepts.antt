@@ -11,7 +11,6 @@ use borrow.Author.Tests.{leb-true, leb-false, le-leb, lt-leb}
 use Rattle.refusal.specs.declared.Refusal.the-variants.{PatternLength, PatternSyntax, TooManyAtoms}
 use Rattle.brackets.specs.Brackets.{Parsed, parsed, fault}
 use Rattle.pattern.specs.Reader.{readBranches, accepted, refused, counted, readPattern}
-use Rattle.brackets.proofs.Parses.{Clean, clean-without}
 use Rattle.pattern.proofs.Branches.{branches-from, pattern-back, pattern-clean}
 use Rattle.pattern.specs.Form.{Pattern, writePattern, formedPattern, atomCount}
 use Rattle.runs.specs.Keys.{member, Bytes}
@@ -80,7 +79,7 @@ verdict p h low high = go (member 0 p || member 10 p) refl
     is-bad : readPattern p ≡ refused PatternSyntax → Finding p
     is-bad e = bad (λ t g w. not-bad p t low high g w e) e
 
-    of-parsed : Clean p → member 0 p || member 10 p ≡ false → (r : Parsed Pattern) → readBranches (length p) p ≡ r → Finding p
+    of-parsed : isLine p ≡ true → member 0 p || member 10 p ≡ false → (r : Parsed Pattern) → readBranches (length p) p ≡ r → Finding p
     of-parsed clean e (parsed t rest) q = let (w, g) = branches-from (length p) p rest t clean q in tree-verdict p t low high g w
     of-parsed clean e fault q = is-bad (rw (le-leb 1 (length p) low, le-leb (length p) 128 high, e, q))
 

@@ -17,8 +17,7 @@ use Rattle.brackets.specs.declared.bracket.BracketRead.{BracketRead}
 use Rattle.pattern.specs.declared.cursor.Cursor.{Cursor}
 use Rattle.pattern.specs.declared.cursor.Part.{Part}
 use Rattle.brackets.specs.Form.{marks, Atom, plain, dot, escaped}
-use Rattle.brackets.specs.Brackets.{Parsed, parsed, fault, at, readBracket}
-use Rattle.pattern.specs.Reader.{readAtom}
+use Rattle.brackets.specs.Brackets.{Parsed, parsed, fault, at, readBracket, readAtom}
 use Rattle.brackets.specs.Steps.{keysWith, BracketDone}
 use Rattle.pattern.specs.Cycle.{AtomDone}
 use Rattle.pattern.proofs.Tables.{keys-atom}
@@ -30,15 +29,12 @@ use Rattle.runs.specs.Keys.{member}
 -- a search through a list: what is left has the byte exactly if the whole has it
 module _ (l : List ℕ) (b i : ℕ) (t : Bool) (inv : member b (drop i l) ≡ t) where
   pub search-here : i < length l → b ≡ getD l i 0 → true ≡ t
-  unfolding member
   search-here h e = rw (drop-cons l i 0 h, eq-eqb _ _ e) at inv
 
   pub search-on : i < length l → (b ≡ getD l i 0 → ⊥) → member b (drop (i + 1) l) ≡ t
-  unfolding member
   search-on h e = rw (add-one i) (rw (drop-cons l i 0 h, ne-eqb _ _ e) at inv)
 
   pub search-end : length l ≡ i → false ≡ t
-  unfolding member
   search-end e = rw (← e, drop-length) at inv
 
 -- the state of atom k as a set: one that is stored
@@ -136,7 +132,7 @@ module _ (s keys : List ℕ) (c : Cursor) (b bit : ℕ) (eb : b ≡ getD s (c .a
       module _ (no-bracket : b ≡ 91 → ⊥) where
         module _ (x : ℕ) (ex : x ≡ getD s (c .at + 1) 0) (m : Bool) (em : m ≡ member x marks) (e : b ≡ 92) where
           pub atom-escaped : m ≡ true → Behind (c .at + 2) → after ≡ keysWith (plain x) bit keys → AtomRead
-          unfolding readAtom setOf named member
+          unfolding readAtom setOf named
           atom-escaped f g h = rw (front, e, after-front, ← ex, ← em, f) (read-on (escaped x) 2 r after (two (inside s (c .at + 1) (λ z. zero-no x (ex ∙ z) (sym em ∙ f)))) g h)
             where
               torn : false ≡ true → ⊥

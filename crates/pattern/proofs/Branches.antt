@@ -9,7 +9,7 @@ use lib.Dec.{eqb}
 use lib.ListN.{length, drop, length-append}
 use Rattle.brackets.specs.Brackets.{parsed, fault, next, done, at}
 use Rattle.pattern.specs.Reader.{endsPieces, Mode, readExpr, enough, anchored, readRest, readBranch, readBranches}
-use Rattle.brackets.proofs.Parses.{same-parsed, test-parsed, next-parsed, made-parsed, front, Clean, clean-end}
+use Rattle.brackets.proofs.Parses.{same-parsed, test-parsed, next-parsed, made-parsed, front, clean-end}
 use Rattle.pattern.proofs.TreesFrom.{expr-from}
 use Rattle.pattern.proofs.TreesBack.{expr-starts, expr-long, expr-back, expr-clean}
 use Rattle.pattern.specs.Form.{Expr, Branch, Pattern, write, writePieces, writeBranch, writePattern, formedPieces, formedBranch, formedBranches, formedPattern}
@@ -40,7 +40,7 @@ spelled : (a p z l mid rest : List ℕ) → l ≡ p ++ mid → mid ≡ z ++ rest
 spelled a p z l mid rest h g = rw (append-assoc a (p ++ z) rest, append-assoc p z rest, ← g, ← h)
 
 -- a branch after its `^` or without one
-rest-from : (s : Bool) (l rest : List ℕ) (b : Branch) → Clean l → readRest s l ≡ parsed b rest → Branch-from (mark 94 s ++ l) b rest
+rest-from : (s : Bool) (l rest : List ℕ) (b : Branch) → isLine l ≡ true → readRest s l ≡ parsed b rest → Branch-from (mark 94 s ++ l) b rest
 unfolding writeBranch formedBranch
 rest-from s l rest b h r = go (endsPieces (at 0 l)) refl r
   where
@@ -56,7 +56,7 @@ rest-from s l rest b h r = go (endsPieces (at 0 l)) refl r
         rw same (spelled (mark 94 s) (write e) (mark 36 (eqb (at 0 mid) 36)) l mid rest there ends, formed-e)
 
 -- a branch that was read is what the bytes begin with, and of the form
-pub branch-from : (l rest : List ℕ) (b : Branch) → Clean l → readBranch l ≡ parsed b rest → Branch-from l b rest
+pub branch-from : (l rest : List ℕ) (b : Branch) → isLine l ≡ true → readBranch l ≡ parsed b rest → Branch-from l b rest
 unfolding readBranch
 branch-from l rest b h r = go (eqb (at 0 l) 94) refl r
   where
@@ -80,16 +80,16 @@ more-from l mid b [] t h g = clash (cc)
 more-from l mid b (c ∷ bs) t h g = (rw (h .0, g .0, ← front mid 124 (omega arith) t), rw (h .1) (g .1))
 
 -- branches that were read are all of the bytes, and of the form
-pub branches-from : (f : ℕ) (l rest : List ℕ) (t : Pattern) → Clean l → readBranches f l ≡ parsed t rest → Pattern-from l t
+pub branches-from : (f : ℕ) (l rest : List ℕ) (t : Pattern) → isLine l ≡ true → readBranches f l ≡ parsed t rest → Pattern-from l t
 unfolding readBranches
 branches-from zero l rest t h r = clash (cc)
 branches-from (suc f) l rest t h r =
     let (b, mid, one, others) = next-parsed (readBranch l) (λ b m. cond (eqb (at 0 m) 0) (parsed (b ∷ []) m) (cond (eqb (at 0 m) 124) (next (readBranches f (drop 1 m)) (λ bs. done (b ∷ bs))) fault)) t rest r in
     let this = branch-from l mid b h one in
-    let clean : Clean mid = line-after (writeBranch b) mid (rw (this .0) at h) in
+    let clean : isLine mid ≡ true = line-after (writeBranch b) mid (rw (this .0) at h) in
     go b mid this clean (λ bs s. branches-from f (drop 1 mid) rest bs (line-drop 1 mid clean) s) (eqb (at 0 mid) 0) refl others
   where
-    go : (b : Branch) (mid : List ℕ) → Branch-from l b mid → Clean mid → ((bs : Pattern) → readBranches f (drop 1 mid) ≡ parsed bs rest → Pattern-from (drop 1 mid) bs) → (z : Bool) → eqb (at 0 mid) 0 ≡ z → cond z (parsed (b ∷ []) mid) (cond (eqb (at 0 mid) 124) (next (readBranches f (drop 1 mid)) (λ bs. done (b ∷ bs))) fault) ≡ parsed t rest → Pattern-from l t
+    go : (b : Branch) (mid : List ℕ) → Branch-from l b mid → isLine mid ≡ true → ((bs : Pattern) → readBranches f (drop 1 mid) ≡ parsed bs rest → Pattern-from (drop 1 mid) bs) → (z : Bool) → eqb (at 0 mid) 0 ≡ z → cond z (parsed (b ∷ []) mid) (cond (eqb (at 0 mid) 124) (next (readBranches f (drop 1 mid)) (λ bs. done (b ∷ bs))) fault) ≡ parsed t rest → Pattern-from l t
     go b mid this clean ih true z q = let (same, after) = same-parsed q in rw (← same) (last-from l mid b (clean-end mid clean z) this)
     go b mid this clean ih false z q =
         let (bar, s) = test-parsed (eqb (at 0 mid) 124) (next (readBranches f (drop 1 mid)) (λ bs. done (b ∷ bs))) t rest q in
@@ -179,20 +179,20 @@ pattern-back [] h = clash (cc)
 pattern-back (b ∷ bs) h = branches-back (length (writePattern (b ∷ bs))) (b ∷ bs) h (pattern-long (b ∷ bs) h)
 
 -- a branch of the form is written as bytes of a pattern
-branch-clean : (b : Branch) → formedBranch b ≡ true → Clean (writeBranch b)
+branch-clean : (b : Branch) → formedBranch b ≡ true → isLine (writeBranch b) ≡ true
 unfolding writeBranch formedBranch
 branch-clean b h = line-append (mark 94 (b .start)) _ (anchor 94 (b .start) refl) (line-append (writePieces (b .pieces)) (mark 36 (b .end)) (inside (b .pieces) h) (anchor 36 (b .end) refl))
   where
-    anchor : (c : ℕ) (t : Bool) → lineKey c ≡ true → Clean (mark c t)
+    anchor : (c : ℕ) (t : Bool) → lineKey c ≡ true → isLine (mark c t) ≡ true
     anchor c true g = (g, tt)
     anchor c false g = tt
 
-    inside : (p : Option Expr) → formedPieces (b .start || b .end) p ≡ true → Clean (writePieces p)
+    inside : (p : Option Expr) → formedPieces (b .start || b .end) p ≡ true → isLine (writePieces p) ≡ true
     inside none g = tt
     inside (some e) g = expr-clean e 2 g
 
 -- and so is a pattern
-branches-clean : (t : Pattern) → formedBranches t ≡ true → Clean (writePattern t)
+branches-clean : (t : Pattern) → formedBranches t ≡ true → isLine (writePattern t) ≡ true
 unfolding writePattern formedBranches
 branches-clean [] h = tt
 branches-clean (b ∷ []) h = branch-clean b (and-parts (formedBranch b) true h .0)
@@ -201,7 +201,7 @@ branches-clean (b ∷ c ∷ bs) h =
     line-append (writeBranch b) (124 ∷ writePattern (c ∷ bs)) (branch-clean b one) (refl, branches-clean (c ∷ bs) others)
 
 -- the same for a pattern of at least one branch
-pub pattern-clean : (t : Pattern) → formedPattern t ≡ true → Clean (writePattern t)
+pub pattern-clean : (t : Pattern) → formedPattern t ≡ true → isLine (writePattern t) ≡ true
 unfolding formedPattern
 pattern-clean [] h = clash (cc)
 pattern-clean (b ∷ bs) h = branches-clean (b ∷ bs) h

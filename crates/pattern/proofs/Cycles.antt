@@ -14,18 +14,18 @@ use Rattle.pattern.specs.declared.cursor.Cursor.{Cursor}
 use Rattle.pattern.specs.declared.cursor.Part.{Part}
 use Rattle.pattern.specs.declared.shape.Shape.{Shape}
 use Rattle.brackets.specs.Form.{Atom, plain, dot, escaped, bracket, writeAtom}
-use Rattle.brackets.specs.Brackets.{Parsed, parsed, fault, next, done, at}
-use Rattle.pattern.specs.Reader.{Mode, endsPieces, readAtom, readRepeat, readExpr}
+use Rattle.brackets.specs.Brackets.{Parsed, parsed, fault, next, done, at, readAtom}
+use Rattle.pattern.specs.Reader.{Mode, endsPieces, readRepeat, readExpr}
 use Rattle.pattern.specs.States.{nothing, first, last, follow, holds, atomState}
 use Rattle.pattern.specs.Tables.{keysAfter, enterAfter, linked, shapeOf, seqShape, altShape}
-use Rattle.brackets.specs.Clean.{Clean}
 use Rattle.pattern.specs.Cycle.{Ready, Done, room, Reads, AtomDone, repeatShape, repeatEnter, repeatAt}
-use Rattle.pattern.proofs.TreesFrom.{expr-from, inner-group, atom-from}
+use Rattle.pattern.proofs.TreesFrom.{expr-from, inner-group}
 use Rattle.pattern.proofs.Atoms.{inside}
 use Rattle.pattern.proofs.Tables.{keys-seq, keys-alt, enter-seq, enter-alt, enter-again, enter-atom, first-seq, last-seq, first-alt, last-alt}
 use Rattle.pattern.specs.Form.{Expr, atom, group, star, plus, opt, seq, alt, atoms, write}
 use Rattle.runs.proofs.Tests.{clash}
 use Rattle.runs.proofs.KeyLaws.{line-drop}
+use Rattle.brackets.proofs.AtomsFrom.{atom-from}
 
 -- an expression has an atom, and each atom has a byte
 pub atoms-some : (e : Expr) → 1 ≤ atoms e
@@ -69,7 +69,7 @@ inner-bytes x e l rest same h =
     let many : atoms x ≤ length (write x) = atoms-written x in
     (write x ++ (41 ∷ []), cc, rw (same, length-append) (omega arith))
 
-bytes-of : (f : ℕ) (m : Mode) (l rest : List ℕ) (e : Expr) → Clean l → readExpr f m l ≡ parsed e rest → (w : List ℕ) × (l ≡ w ++ rest) × (atoms e ≤ length w)
+bytes-of : (f : ℕ) (m : Mode) (l rest : List ℕ) (e : Expr) → isLine l ≡ true → readExpr f m l ≡ parsed e rest → (w : List ℕ) × (l ≡ w ++ rest) × (atoms e ≤ length w)
 bytes-of f Mode.alts l rest e h q = (write e, expr-from f Mode.alts l rest e h q .0, atoms-written e)
 bytes-of f Mode.branch l rest e h q = (write e, expr-from f Mode.branch l rest e h q .0, atoms-written e)
 bytes-of f Mode.piece l rest e h q = (write e, expr-from f Mode.piece l rest e h q .0, atoms-written e)

@@ -12,8 +12,6 @@ pub mod Readings
 pub mod Lookups
 pub mod Moving
 pub mod Tables
-pub mod BracketsFrom
-pub mod BracketsBack
 pub mod TreesFrom
 pub mod TreesBack
 pub mod Branches

@@ -12,7 +12,7 @@ use borrow.Author.Tests.{le-leb, lt-leb, eq-eqb, ne-eqb}
 use Rattle.refusal.specs.declared.Refusal.the-variants.{PatternLength, PatternSyntax}
 use Rattle.pattern.specs.declared.automaton.Verdict.{Verdict}
 use Rattle.pattern.specs.Reader.{readBranches, counted, readPattern}
-use Rattle.brackets.specs.Clean.{Clean, CleanDone}
+use Rattle.brackets.specs.Clean.{CleanDone}
 use Rattle.pattern.specs.Cycle.{Ready}
 use Rattle.refusal.specs.Figures.{Figures}
 use Rattle.pattern.specs.declared.automaton.Accepting.{Accepting}
@@ -22,7 +22,6 @@ use Rattle.runs.proofs.KeyLaws.{key-of, line-append, line-member}
 use Rattle.runs.proofs.Tests.{clash}
 
 member-at : (l : List ℕ) (i : ℕ) → i < length l → member (getD l i 0) l ≡ true
-unfolding member
 member-at [] i h = absurd (not-suc-le-zero h)
 member-at (x ∷ l) zero h = rw (eq-eqb x x refl)
 member-at (x ∷ l) (suc i) h = rw (member-at l i (omega arith)) (always (eqb (getD l i 0) x))
@@ -41,13 +40,13 @@ module _ (s : List ℕ) (i : ℕ) where
     unfolding CleanDone
     scan-ten e = rw (rw e at (member-at s i inside)) (or-comm (member 0 s) true)
 
-    pub scan-on : getD s i 0 < 256 → (getD s i 0 ≡ 0 → ⊥) → (getD s i 0 ≡ 10 → ⊥) → Clean (take i s) → Clean (take (i + 1) s)
+    pub scan-on : getD s i 0 < 256 → (getD s i 0 ≡ 0 → ⊥) → (getD s i 0 ≡ 10 → ⊥) → isLine (take i s) ≡ true → isLine (take (i + 1) s) ≡ true
     scan-on small no-zero no-ten h =
         let more : i + 1 ≡ suc i = omega arith in
         rw (more, take-suc s i 0 inside)
         (line-append (take i s) (getD s i 0 ∷ []) h (key-of (getD s i 0) small (ne-eqb 0 (getD s i 0) (λ e. no-zero (sym e))) (ne-eqb 10 (getD s i 0) (λ e. no-ten (sym e))), tt))
 
-  pub scan-end : length s ≤ i → Clean (take i s) → CleanDone s true
+  pub scan-end : length s ≤ i → isLine (take i s) ≡ true → CleanDone s true
   unfolding CleanDone
   scan-end e h = rw (take-all i s e) at h
 
@@ -69,7 +68,7 @@ module _ (s keys enter : List ℕ) where
     pattern-unclean e = rw (fits, rw e at d) (refl, refl, refl)
 
     module _ (e : t ≡ true) where
-      clean : Clean s
+      clean : isLine s ≡ true
       unfolding CleanDone
       clean = rw e at d
 

@@ -8,14 +8,13 @@ use lib.Dec.{leb, eqb}
 use lib.ListN.{length, drop, length-append}
 use borrow.Author.Tests.{eqb-true, not-true}
 use Rattle.brackets.specs.Form.{Atom, plain, dot, escaped, bracket, marks, writeAtom, formedAtom}
-use Rattle.brackets.specs.Brackets.{parsed, next, done, at}
-use Rattle.pattern.specs.Reader.{readAtom, readRepeat, endsPieces, Mode, readExpr}
-use Rattle.brackets.proofs.Parses.{Clean, cleanBytes, clean-bytes}
-use Rattle.pattern.proofs.BracketsBack.{bracket-back, bracket-clean}
+use Rattle.brackets.specs.Brackets.{parsed, next, done, at, readAtom}
+use Rattle.pattern.specs.Reader.{readRepeat, endsPieces, Mode, readExpr}
 use Rattle.pattern.specs.Form.{Expr, atom, group, star, plus, opt, seq, alt, write, formed}
 use Rattle.runs.specs.Keys.{member, lineKey}
 use Rattle.runs.proofs.Tests.{clash, and-parts, neither}
 use Rattle.runs.proofs.KeyLaws.{other-than, line-append, line-member, key-is}
+use Rattle.brackets.proofs.BracketsBack.{bracket-back, bracket-clean}
 
 -- What expressions begin with.
 
@@ -26,24 +25,6 @@ repeats b = eqb b 42 || (eqb b 43 || eqb b 63)
 -- the first byte of an expression: no byte that ends pieces, no `^`, no repetition mark
 abbrev pub Starts : ℕ → Type 0
 Starts b = (endsPieces b ≡ false) × (eqb b 94 ≡ false) × (repeats b ≡ false)
-
--- a plain byte is no mark
-plain-apart : (b c : ℕ) → formedAtom (plain b) ≡ true → member c marks ≡ true → eqb b c ≡ false
-unfolding formedAtom
-plain-apart b c h g = other-than b c marks (not-true _ (and-parts (lineKey b) (not (member b marks)) h .1)) g
-
--- and not the end of the bytes
-plain-there : (b : ℕ) → formedAtom (plain b) ≡ true → eqb b 0 ≡ false
-unfolding formedAtom
-plain-there b h = key-is b (and-parts (lineKey b) (not (member b marks)) h .0) .2
-
--- an atom of the form begins so, and not with `(`
-pub atom-starts : (a : Atom) (r : List ℕ) → formedAtom a ≡ true → Starts (at 0 (writeAtom a ++ r)) × (eqb (at 0 (writeAtom a ++ r)) 40 ≡ false)
-unfolding writeAtom member
-atom-starts (plain b) r h = ((rw (plain-there b h, plain-apart b 124 h refl, plain-apart b 41 h refl) (plain-apart b 36 h refl), plain-apart b 94 h refl, rw (plain-apart b 42 h refl, plain-apart b 43 h refl) (plain-apart b 63 h refl)), plain-apart b 40 h refl)
-atom-starts dot r h = ((refl, refl, refl), refl)
-atom-starts (escaped b) r h = ((refl, refl, refl), refl)
-atom-starts (bracket n es) r h = ((refl, refl, refl), refl)
 
 -- and an expression of the form begins so
 pub expr-starts : (e : Expr) (k : ℕ) (r : List ℕ) → formed e k ≡ true → Starts (at 0 (write e ++ r))
@@ -56,14 +37,6 @@ expr-starts (opt e) k r h = rw append-assoc (expr-starts e 0 (63 ∷ r) (and-par
 expr-starts (seq p q) k r h = rw append-assoc (expr-starts p 1 (write q ++ r) (and-parts (formed p 1) (formed q 2) (and-parts (leb 2 k) _ h .1) .0))
 expr-starts (alt p q) k r h = rw append-assoc (expr-starts p 2 (124 ∷ write q ++ r) (and-parts (formed p 2) (formed q 3) (and-parts (leb 3 k) _ h .1) .0))
 
--- an atom has a byte
-atom-long : (a : Atom) → 1 ≤ length (writeAtom a)
-unfolding writeAtom
-atom-long (plain b) = omega arith
-atom-long dot = omega arith
-atom-long (escaped b) = omega arith
-atom-long (bracket n es) = omega arith
-
 -- and so has an expression
 pub expr-long : (e : Expr) → 1 ≤ length (write e)
 unfolding write
@@ -74,21 +47,6 @@ expr-long (plus e) = rw length-append (omega (arith, expr-long e))
 expr-long (opt e) = rw length-append (omega (arith, expr-long e))
 expr-long (seq p q) = rw length-append (omega (arith, expr-long p))
 expr-long (alt p q) = rw length-append (omega (arith, expr-long p))
-
--- a plain byte of the form is read as nothing else
-plain-dot : (b : ℕ) → formedAtom (plain b) ≡ true → (eqb b 46 ≡ false) × (eqb b 91 ≡ false) × (eqb b 92 ≡ false)
-unfolding member
-plain-dot b h = (plain-apart b 46 h refl, plain-apart b 91 h refl, plain-apart b 92 h refl)
-
--- an atom of the form is read again
-pub atom-back : (a : Atom) (rest : List ℕ) → formedAtom a ≡ true → readAtom (writeAtom a ++ rest) ≡ parsed a rest
-unfolding readAtom writeAtom formedAtom
-atom-back (plain b) rest h =
-    let (dot-not, open-not, slash-not) = plain-dot b h in
-    rw (dot-not, open-not, slash-not, plain-there b h, not-true (member b marks) (and-parts (lineKey b) (not (member b marks)) h .1))
-atom-back dot rest h = refl
-atom-back (escaped b) rest h = rw h
-atom-back (bracket n es) rest h = bracket-back n es rest h
 
 -- The cycle.
 
@@ -239,21 +197,8 @@ expr-back (suc f) Mode.branch e rest h s l = branch-back f (λ m d r. expr-back 
 expr-back (suc f) Mode.piece e rest h s l = piece-back f (λ m d r. expr-back f m d r) e rest h s l
 expr-back (suc f) Mode.inner e rest h s l = inner-back f (λ m d r. expr-back f m d r) e rest h s l
 
--- a mark is a byte of a pattern
-mark-clean : (b : ℕ) → member b marks ≡ true → lineKey b ≡ true
-unfolding cleanBytes
-mark-clean b h = line-member b marks h (clean-bytes marks refl)
-
--- an atom of the form is written as bytes of a pattern
-atom-clean : (a : Atom) → formedAtom a ≡ true → Clean (writeAtom a)
-unfolding writeAtom formedAtom
-atom-clean (plain b) h = (and-parts (lineKey b) (not (member b marks)) h .0, tt)
-atom-clean dot h = (refl, tt)
-atom-clean (escaped b) h = (refl, (mark-clean b h, tt))
-atom-clean (bracket n es) h = bracket-clean n es h
-
 -- and so is an expression
-pub expr-clean : (e : Expr) (k : ℕ) → formed e k ≡ true → Clean (write e)
+pub expr-clean : (e : Expr) (k : ℕ) → formed e k ≡ true → isLine (write e) ≡ true
 unfolding write formed
 expr-clean (atom a) k h = atom-clean a h
 expr-clean (group e) k h = (refl, line-append (write e) (41 ∷ []) (expr-clean e 3 h) (refl, tt))

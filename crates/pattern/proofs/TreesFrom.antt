@@ -8,52 +8,14 @@ use lib.Dec.{leb, eqb}
 use lib.ListN.{drop}
 use borrow.Author.Tests.{eqb-true, leb-true, le-leb}
 use Rattle.brackets.specs.Form.{Atom, plain, dot, escaped, marks, writeAtom, formedAtom}
-use Rattle.brackets.specs.Brackets.{parsed, fault, next, done, at, readBracket}
-use Rattle.pattern.specs.Reader.{readAtom, readRepeat, endsPieces, Mode, readExpr}
-use Rattle.brackets.proofs.Parses.{same-parsed, test-parsed, untest-parsed, next-parsed, made-parsed, front, Clean}
-use Rattle.pattern.proofs.BracketsFrom.{bracket-from}
+use Rattle.brackets.specs.Brackets.{parsed, fault, next, done, at, readBracket, readAtom}
+use Rattle.pattern.specs.Reader.{readRepeat, endsPieces, Mode, readExpr}
+use Rattle.brackets.proofs.Parses.{same-parsed, test-parsed, untest-parsed, next-parsed, made-parsed, front}
 use Rattle.pattern.specs.Form.{Expr, atom, group, star, plus, opt, seq, alt, write, formed}
 use Rattle.runs.specs.Keys.{member}
 use Rattle.runs.proofs.Tests.{clash, and-parts, neither}
 use Rattle.runs.proofs.KeyLaws.{line-after, line-drop}
-
--- what an atom that was read is
-abbrev Atom-from : List ℕ → Atom → List ℕ → Type 0
-Atom-from l a rest = (l ≡ writeAtom a ++ rest) × (formedAtom a ≡ true)
-
--- an escaped byte that was read
-escaped-from : (l rest : List ℕ) (a : Atom) → eqb (at 0 l) 92 ≡ true → cond (member (at 1 l) marks) (parsed (escaped (at 1 l)) (drop 2 l)) fault ≡ parsed a rest → Atom-from l a rest
-unfolding writeAtom formedAtom member
-escaped-from [] rest a t p = clash (cc)
-escaped-from (x ∷ []) rest a t p = clash (cc)
-escaped-from (x ∷ b ∷ l) rest a t p =
-    let (mark, q) = test-parsed (member b marks) (parsed (escaped b) l) a rest p in
-    let (same, after) = same-parsed q in
-    rw (← same, ← after, eqb-true x 92 t) (refl, mark)
-
--- a plain byte that was read
-plain-from : (l rest : List ℕ) (a : Atom) → Clean l → cond (eqb (at 0 l) 0 || member (at 0 l) marks) fault (parsed (plain (at 0 l)) (drop 1 l)) ≡ parsed a rest → Atom-from l a rest
-unfolding writeAtom formedAtom
-plain-from [] rest a h p = clash (cc)
-plain-from (x ∷ l) rest a h p =
-    let (t, q) = untest-parsed (eqb x 0 || member x marks) (parsed (plain x) l) a rest p in
-    let (same, after) = same-parsed q in
-    rw (← same, ← after) (refl, rw (h .0, neither (eqb x 0) (member x marks) t .1))
-
--- an atom that was read is what the bytes begin with, and of the form
-pub atom-from : (l rest : List ℕ) (a : Atom) → Clean l → readAtom l ≡ parsed a rest → Atom-from l a rest
-unfolding readAtom writeAtom formedAtom
-atom-from l rest a h p = go (eqb (at 0 l) 46) (eqb (at 0 l) 91) (eqb (at 0 l) 92) refl refl refl p
-  where
-    go : (x y z : Bool) → eqb (at 0 l) 46 ≡ x → eqb (at 0 l) 91 ≡ y → eqb (at 0 l) 92 ≡ z → cond x (parsed dot (drop 1 l)) (cond y (readBracket (drop 1 l)) (cond z (cond (member (at 1 l) marks) (parsed (escaped (at 1 l)) (drop 2 l)) fault) (cond (eqb (at 0 l) 0 || member (at 0 l) marks) fault (parsed (plain (at 0 l)) (drop 1 l))))) ≡ parsed a rest → Atom-from l a rest
-    go true y z d b e q =
-        let (same, after) = same-parsed q in
-        rw (← same, ← after) (front l 46 (omega arith) d, refl)
-    go false true z d b e q =
-        let (there, formed) = bracket-from (drop 1 l) rest a (line-drop 1 l h) q in
-        (front l 91 (omega arith) b ∙ there, formed)
-    go false false true d b e q = escaped-from l rest a e q
-    go false false false d b e q = plain-from l rest a h q
+use Rattle.brackets.proofs.BracketsFrom.{bracket-from}
 
 -- a test of how loosely something may bind passes too where it may bind more loosely
 looser : (n k : ℕ) (t : Bool) → leb n k && t ≡ true → leb n (suc k) && t ≡ true
@@ -130,7 +92,7 @@ branch-from f l mid rest p e h ih r = go (endsPieces (at 0 mid)) r
         rw same (rw (append-assoc (write p) (write q) rest, ← there) (h .0), rw (h .1) formed-q)
 
 -- an atom or a group
-single-from : (f : ℕ) (l mid : List ℕ) (e : Expr) → Clean l → (readExpr f Mode.inner (drop 1 l) ≡ parsed e mid → Expr-from Mode.inner (drop 1 l) e mid) → cond (eqb (at 0 l) 40) (readExpr f Mode.inner (drop 1 l)) (next (readAtom l) (λ a. done (atom a))) ≡ parsed e mid → (l ≡ write e ++ mid) × (formed e 0 ≡ true)
+single-from : (f : ℕ) (l mid : List ℕ) (e : Expr) → isLine l ≡ true → (readExpr f Mode.inner (drop 1 l) ≡ parsed e mid → Expr-from Mode.inner (drop 1 l) e mid) → cond (eqb (at 0 l) 40) (readExpr f Mode.inner (drop 1 l)) (next (readAtom l) (λ a. done (atom a))) ≡ parsed e mid → (l ≡ write e ++ mid) × (formed e 0 ≡ true)
 unfolding write formed
 single-from f l mid e h ih r = go (eqb (at 0 l) 40) refl r
   where
@@ -150,18 +112,18 @@ inner-from l mid rest p e h r =
     rw (← same) (ap (λ (m : List ℕ). 40 ∷ m) (rw (append-assoc (write p) (41 ∷ []) rest, ← closes) (h .0)), h .1)
 
 -- what was read in any mode is what the bytes begin with, and of the form
-pub expr-from : (f : ℕ) (m : Mode) (l rest : List ℕ) (e : Expr) → Clean l → readExpr f m l ≡ parsed e rest → Expr-from m l e rest
+pub expr-from : (f : ℕ) (m : Mode) (l rest : List ℕ) (e : Expr) → isLine l ≡ true → readExpr f m l ≡ parsed e rest → Expr-from m l e rest
 unfolding readExpr
 expr-from zero m l rest e h r = clash (cc)
 expr-from (suc f) Mode.alts l rest e h r =
     let (p, mid, one, others) = next-parsed (readExpr f Mode.branch l) (λ p m. cond (eqb (at 0 m) 124) (next (readExpr f Mode.alts (drop 1 m)) (λ q. done (alt p q))) (parsed p m)) e rest r in
     let this = expr-from f Mode.branch l mid p h one in
-    let clean : Clean mid = line-after (write p) mid (rw (this .0) at h) in
+    let clean : isLine mid ≡ true = line-after (write p) mid (rw (this .0) at h) in
     alts-from f l mid rest p e this (λ q s. expr-from f Mode.alts (drop 1 mid) rest q (line-drop 1 mid clean) s) others
 expr-from (suc f) Mode.branch l rest e h r =
     let (p, mid, one, others) = next-parsed (readExpr f Mode.piece l) (λ p m. cond (endsPieces (at 0 m)) (parsed p m) (next (readExpr f Mode.branch m) (λ q. done (seq p q)))) e rest r in
     let this = expr-from f Mode.piece l mid p h one in
-    let clean : Clean mid = line-after (write p) mid (rw (this .0) at h) in
+    let clean : isLine mid ≡ true = line-after (write p) mid (rw (this .0) at h) in
     branch-from f l mid rest p e this (λ q s. expr-from f Mode.branch mid rest q clean s) others
 expr-from (suc f) Mode.piece l rest e h r =
     let (p, mid, one, others) = next-parsed (cond (eqb (at 0 l) 40) (readExpr f Mode.inner (drop 1 l)) (next (readAtom l) (λ a. done (atom a)))) readRepeat e rest r in

@@ -12,7 +12,6 @@ use Rattle.brackets.specs.Form.{Atom}
 use Rattle.brackets.specs.Brackets.{Parsed, parsed, fault}
 use Rattle.pattern.specs.Reader.{Mode, readExpr}
 use Rattle.pattern.specs.Tables.{keysAfter, enterAfter, linked, shapeOf}
-use Rattle.brackets.specs.Clean.{Clean}
 use Rattle.pattern.specs.Form.{Expr, atom, atoms}
 
 -- a cursor inside a pattern that has such bytes alone, and no more atoms before it than bytes
@@ -20,7 +19,7 @@ pub record Ready (s : List ℕ) (c : Cursor) : Type 0 where
   pub inside : c .at ≤ length s
   pub short : length s ≤ 128
   pub few : c .atoms ≤ c .at
-  pub clean : Clean s
+  pub clean : isLine s ≡ true
 
 -- what a reader at cursor c of n bytes answers, and what it makes of the tables
 abbrev pub Done : ℕ → Cursor → List ℕ → List ℕ → Part → List ℕ → List ℕ → Parsed Expr → Type 0

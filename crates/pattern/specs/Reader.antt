@@ -12,17 +12,6 @@ use Rattle.brackets.specs.Brackets.{Parsed, Parser, at, done, fault, next, pars
 use Rattle.pattern.specs.Form.{Expr, atom, group, star, plus, opt, seq, alt, Branch, Pattern, atomCount}
 use Rattle.runs.specs.Keys.{member}
 
--- Brackets.
-
--- Atoms, pieces, groups.
-
-unfoldable pub readAtom : Parser Atom
-readAtom l =
-    cond (eqb (at 0 l) 46) (parsed dot (drop 1 l))
-    (cond (eqb (at 0 l) 91) (readBracket (drop 1 l))
-    (cond (eqb (at 0 l) 92) (cond (member (at 1 l) marks) (parsed (escaped (at 1 l)) (drop 2 l)) fault)
-    (cond (eqb (at 0 l) 0 || member (at 0 l) marks) fault (parsed (plain (at 0 l)) (drop 1 l)))))
-
 -- "then at most one of `*` `+` `?`"
 unfoldable pub readRepeat : Expr → Parser Expr
 readRepeat e l =

@@ -15,10 +15,10 @@ ghost use mathlib.Core.Bool.{false};
 ghost use lib.Dec.{eqb};
 ghost use lib.ListN.{drop, length};
 ghost use Rattle.brackets.specs.Form.{marks};
-ghost use Rattle.pattern.specs.Reader.{readAtom};
 ghost use Rattle.pattern.specs.States.{atomWord};
 ghost use Rattle.pattern.specs.Cycle.{AtomDone};
 ghost use Rattle.runs.specs.Keys.{member};
+ghost use Rattle.brackets.specs.Brackets.{readAtom};
 
 // The twelve marks.
 const MARKS: [u8; 12] = *b"^.[$()|*+?{\\";

@@ -165,9 +165,7 @@ module _ (t : Pattern) (few : atomCount t ≤ 29) where
 
   -- the report of the empty run changes nothing
   pub join-empty-left : (v : List ℕ) → isRun v ≡ true → joinedReports (report t []) (report t v) ≡ report t v
-  unfolding isRun
   join-empty-left v h = join-reports [] v refl h
 
   pub join-empty-right : (u : List ℕ) → isRun u ≡ true → joinedReports (report t u) (report t []) ≡ report t u
-  unfolding isRun
   join-empty-right u h = join-reports u [] h refl ∙ ap (report t) (append-nil u)

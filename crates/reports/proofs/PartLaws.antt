@@ -96,7 +96,7 @@ module _ (l : List ℕ) (ls : List (List ℕ)) (v : List ℕ) where
 -- The parts of a run are lines.
 
 pub first-line : (w : List ℕ) → isRun w ≡ true → isLine (firstPart w) ≡ true
-unfolding isRun firstPart isLine
+unfolding firstPart
 first-line [] h = refl
 first-line (c ∷ w) h = go (first-line w (and-snd (leb 1 c && leb c 255) (isRun w) h)) (eqb lineEnd c) refl
   where
@@ -110,7 +110,7 @@ allLines [] = true
 allLines (l ∷ ls) = isLine l && allLines ls
 
 pub later-lines : (w : List ℕ) → isRun w ≡ true → allLines (laterParts w) ≡ true
-unfolding isRun laterParts allLines
+unfolding laterParts allLines
 later-lines [] h = refl
 later-lines (c ∷ w) h = let r = and-snd (leb 1 c && leb c 255) (isRun w) h in go (first-line w r) (later-lines w r) (eqb lineEnd c)
   where

@@ -12,31 +12,21 @@ use Rattle.runs.proofs.Tests.{clash, torn, and-both, and-fst, and-snd, 
 
 -- Numbers among others.
 
-pub member-none : (k : ℕ) → member k [] ≡ false
-unfolding member
-member-none k = refl
-
-pub member-cons : (k b : ℕ) (l : List ℕ) → member k (b ∷ l) ≡ (eqb k b || member k l)
-unfolding member
-member-cons k b l = refl
-
 -- a number that is in no list of these stands not at its front, nor behind
 pub member-first : (k b : ℕ) (l : List ℕ) → member k (b ∷ l) ≡ false → eqb k b ≡ false
-member-first k b l h = neither (eqb k b) (member k l) (sym (member-cons k b l) ∙ h) .0
+member-first k b l h = neither (eqb k b) (member k l) h .0
 
 pub member-rest : (k b : ℕ) (l : List ℕ) → member k (b ∷ l) ≡ false → member k l ≡ false
-member-rest k b l h = neither (eqb k b) (member k l) (sym (member-cons k b l) ∙ h) .1
+member-rest k b l h = neither (eqb k b) (member k l) h .1
 
 -- the number at a place is one of them
 pub member-at : (k : ℕ) (w : List ℕ) (i : ℕ) → i < length w → getD w i 0 ≡ k → member k w ≡ true
-unfolding member
 member-at k [] i h e = absurd (omega arith)
 member-at k (c ∷ w) zero h e = or-left (eqb k c) (member k w) (eq-eqb k c (sym e))
 member-at k (c ∷ w) (suc i) h e = or-right (eqb k c) (member k w) (member-at k w i (omega arith) e)
 
 -- one more, which is not k
 pub member-more : (k : ℕ) (w : List ℕ) (c : ℕ) → member k w ≡ false → eqb k c ≡ false → member k (w ++ (c ∷ [])) ≡ false
-unfolding member
 member-more k [] c g h = rw h refl
 member-more k (d ∷ w) c g h = rw (member-first k d w g) (member-more k w c (member-rest k d w g) h)
 
@@ -79,19 +69,15 @@ key-of-line c k e =
 -- Lines.
 
 pub line-none : isLine [] ≡ true
-unfolding isLine
 line-none = refl
 
 pub line-cons : (k : ℕ) (w : List ℕ) → lineKey k ≡ true → isLine w ≡ true → isLine (k ∷ w) ≡ true
-unfolding isLine
 line-cons k w g h = and-both (lineKey k) (isLine w) g h
 
 pub line-first : (k : ℕ) (w : List ℕ) → isLine (k ∷ w) ≡ true → lineKey k ≡ true
-unfolding isLine
 line-first k w h = and-fst (lineKey k) (isLine w) h
 
 pub line-rest : (k : ℕ) (w : List ℕ) → isLine (k ∷ w) ≡ true → isLine w ≡ true
-unfolding isLine
 line-rest k w h = and-snd (lineKey k) (isLine w) h
 
 -- one after another
@@ -115,7 +101,6 @@ line-drop (suc n) (c ∷ w) h = line-drop n w (line-rest c w h)
 
 -- a number among its keys is one
 pub line-member : (b : ℕ) (w : List ℕ) → member b w ≡ true → isLine w ≡ true → lineKey b ≡ true
-unfolding member
 line-member b [] h g = clash (cc)
 line-member b (c ∷ w) h g = go (eqb b c) refl (λ m. line-member b w m (line-rest c w g)) h
   where
@@ -140,19 +125,15 @@ line-of (b ∷ p) h z t =
 -- Runs.
 
 pub run-none : isRun [] ≡ true
-unfolding isRun
 run-none = refl
 
 pub run-cons : (k : ℕ) (w : List ℕ) → isKey k ≡ true → isRun w ≡ true → isRun (k ∷ w) ≡ true
-unfolding isRun
 run-cons k w g h = and-both (isKey k) (isRun w) g h
 
 pub run-first : (k : ℕ) (w : List ℕ) → isRun (k ∷ w) ≡ true → isKey k ≡ true
-unfolding isRun
 run-first k w h = and-fst (isKey k) (isRun w) h
 
 pub run-rest : (k : ℕ) (w : List ℕ) → isRun (k ∷ w) ≡ true → isRun w ≡ true
-unfolding isRun
 run-rest k w h = and-snd (isKey k) (isRun w) h
 
 pub run-append : (u v : List ℕ) → isRun u ≡ true → isRun v ≡ true → isRun (u ++ v) ≡ true

@@ -1,4 +1,4 @@
--- Document 01: bytes, keys, runs of keys, and the keys of a line.
+-- Document 01: bytes, keys, runs of keys, and the keys of a line. The tests of lists compute wherever a list is known.
 use Prim.Native.Nat.{ℕ, _<_}
 use mathlib.Core.Bool.{Bool, true, false, not, _&&_, _||_}
 use mathlib.Core.List.{List, [], _∷_}
@@ -10,7 +10,7 @@ abbrev pub Bytes : List ℕ → Type 0
 Bytes b = (i : ℕ) → getD b i 0 < 256
 
 -- k is one of the numbers
-unfoldable pub member : ℕ → List ℕ → Bool
+abbrev pub member : ℕ → List ℕ → Bool
 member k [] = false
 member k (b ∷ bs) = eqb k b || member k bs
 
@@ -23,7 +23,7 @@ abbrev pub lineEnd : ℕ
 lineEnd = 10
 
 -- a run of keys
-unfoldable pub isRun : List ℕ → Bool
+abbrev pub isRun : List ℕ → Bool
 isRun [] = true
 isRun (k ∷ w) = isKey k && isRun w
 
@@ -32,6 +32,6 @@ abbrev pub lineKey : ℕ → Bool
 lineKey k = leb 1 k && (leb k 255 && not (eqb k lineEnd))
 
 -- "A line is the keys between line ends"
-unfoldable pub isLine : List ℕ → Bool
+abbrev pub isLine : List ℕ → Bool
 isLine [] = true
 isLine (k ∷ w) = lineKey k && isLine w

@@ -4,13 +4,12 @@ use native.Mathlib.Omega.{arith}
 use lib.ListN.{length, getD, take}
 use denote.Ref.{now}
 use borrow.Author.Needs.{needs}
-use Rattle.brackets.specs.Clean.{Clean}
 use Rattle.pattern.proofs.Scans as laws
 use Rattle.pattern.proofs.clean.clean.Statement.{statement}
 use Rattle.pattern.proofs.clean.clean.Tie as tie
 
 abbrev Inv-loop : tie.InvT-loop
-Inv-loop s i₀ i = Clean (take i s)
+Inv-loop s i₀ i = isLine (take i s) ≡ true
 
 abbrev μ-loop : tie.MeasureT-loop
 μ-loop s i₀ i = length s - i

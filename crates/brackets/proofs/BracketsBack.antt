@@ -9,13 +9,13 @@ use lib.Dec.{leb, eqb}
 use lib.ListN.{length, drop, length-append}
 use lib.Seq.{drop-at}
 use borrow.Author.Tests.{ltb-true, not-true}
 use Rattle.brackets.specs.Form.{Element, byte, range, class, bracket, className, writeElement, writeElements, writeAtom, opening, endsOpen, formedElement, meets, formedElements, plainStart, formedAtom}
 use Rattle.brackets.specs.Brackets.{parsed, at, findClass, startsRange, readElement, readElements, readBracket}
-use Rattle.brackets.proofs.Parses.{Clean}
-use Rattle.pattern.proofs.BracketsFrom.{class-back, name-clean, opens, open-out, opening-front, elements-front, goes-on}
-use Rattle.runs.specs.Keys.{member, lineKey}
+use Rattle.brackets.proofs.BracketsFrom.{class-back, opens, open-out, opening-front, elements-front, goes-on}
+use Rattle.runs.specs.Keys.{member, lineKey, isLine}
 use Rattle.runs.proofs.Tests.{clash, and-parts}
-use Rattle.runs.proofs.KeyLaws.{line-append, key-is}
+use Rattle.runs.proofs.KeyLaws.{line-append, key-is, line-cons}
+use Rattle.brackets.proofs.BracketsFrom.{name-clean}
 
 -- the parts of a byte's form
 pub byte-form : (first last : Bool) (b : ℕ) → formedElement first last (byte b) ≡ true → (lineKey b ≡ true) × (first || not (eqb b 93) ≡ true) × (first || (last || not (eqb b 45)) ≡ true)
@@ -38,7 +38,7 @@ range-form first last a b h =
 
 -- an element of the form is read again
 element-back : (first : Bool) (e : Element) (m : List ℕ) → formedElement first (eqb (at 0 m) 93) e ≡ true → opens e m ≡ false → startsRange m ≡ false → readElement first (writeElement e ++ m) ≡ parsed e m
-unfolding readElement writeElement formedElement member
+unfolding readElement writeElement formedElement
 element-back first (byte b) m h o s =
     let (r, pq) = open-out (eqb b 91) (eqb (at 0 m) 46) (eqb (at 0 m) 61) (eqb (at 0 m) 58) o in
     let (fine, close, dash) = byte-form first (eqb (at 0 m) 93) b h in
@@ -105,7 +105,7 @@ more-back f first e d es m rest h same others =
 
 -- elements of the form are read again, up to the end of the bracket
 elements-back : (f : ℕ) (first : Bool) (es : List Element) (rest : List ℕ) → formedElements first es ≡ true → length es < f → readElements f first (writeElements es ++ (93 ∷ rest)) ≡ parsed es rest
-unfolding formedElements writeElements member readElements
+unfolding formedElements writeElements readElements
 elements-back zero first es rest h l = absurd (omega arith)
 elements-back (suc f) first [] rest h l = clash (cc)
 elements-back (suc zero) first (e ∷ []) rest h l = absurd (omega arith)
@@ -150,29 +150,29 @@ bracket-back n es rest h =
     (inside-back n es rest h)
 
 -- an element of the form is written as bytes of a pattern
-element-clean : (first last : Bool) (e : Element) → formedElement first last e ≡ true → Clean (writeElement e)
+element-clean : (first last : Bool) (e : Element) → formedElement first last e ≡ true → isLine (writeElement e) ≡ true
 unfolding writeElement formedElement
-element-clean first last (byte b) h = (byte-form first last b h .0, tt)
-element-clean first last (range a b) h = (range-form first last a b h .0, (refl, (range-form first last a b h .1, tt)))
-element-clean first last (class c) h = (refl, (refl, line-append (className c) (58 ∷ 93 ∷ []) (name-clean c (ltb-true c 12 h)) (refl, (refl, tt))))
+element-clean first last (byte b) h = line-cons b [] (byte-form first last b h .0) refl
+element-clean first last (range a b) h = line-cons a (45 ∷ b ∷ []) (range-form first last a b h .0) (line-cons b [] (range-form first last a b h .1) refl)
+element-clean first last (class c) h = line-append (className c) (58 ∷ 93 ∷ []) (name-clean c (ltb-true c 12 h)) refl
 
 -- and so are elements of the form
-elements-clean : (first : Bool) (es : List Element) → formedElements first es ≡ true → Clean (writeElements es)
+elements-clean : (first : Bool) (es : List Element) → formedElements first es ≡ true → isLine (writeElements es) ≡ true
 unfolding writeElements formedElements
-elements-clean first [] h = tt
-elements-clean first (e ∷ []) h = line-append (writeElement e) [] (element-clean first true e h) tt
+elements-clean first [] h = refl
+elements-clean first (e ∷ []) h = line-append (writeElement e) [] (element-clean first true e h) refl
 elements-clean first (e ∷ d ∷ es) h =
     let (one, t) = and-parts (formedElement first false e) (meets e d && formedElements false (d ∷ es)) h in
     let (meet, others) = and-parts (meets e d) (formedElements false (d ∷ es)) t in
     line-append (writeElement e) (writeElements (d ∷ es)) (element-clean first false e one) (elements-clean false (d ∷ es) others)
 
 -- and so is a bracket of the form
-pub bracket-clean : (n : Bool) (es : List Element) → formedAtom (bracket n es) ≡ true → Clean (writeAtom (bracket n es))
+pub bracket-clean : (n : Bool) (es : List Element) → formedAtom (bracket n es) ≡ true → isLine (writeAtom (bracket n es)) ≡ true
 unfolding writeAtom formedAtom
 bracket-clean n es h =
-    let inside : Clean (writeElements es ++ (93 ∷ [])) = line-append (writeElements es) (93 ∷ []) (elements-clean true es (and-parts (n || plainStart es) (formedElements true es) h .1)) (refl, tt) in
-    (refl, go n inside)
+    let inside : isLine (writeElements es ++ (93 ∷ [])) ≡ true = line-append (writeElements es) (93 ∷ []) (elements-clean true es (and-parts (n || plainStart es) (formedElements true es) h .1)) refl in
+    go n inside
   where
-    go : (t : Bool) → Clean (writeElements es ++ (93 ∷ [])) → Clean (cond t (94 ∷ []) [] ++ (writeElements es ++ (93 ∷ [])))
-    go true h = (refl, h)
+    go : (t : Bool) → isLine (writeElements es ++ (93 ∷ [])) ≡ true → isLine (cond t (94 ∷ []) [] ++ (writeElements es ++ (93 ∷ []))) ≡ true
+    go true h = h
     go false h = h

@@ -10,12 +10,12 @@ use mathlib.Core.Option.{Option, none, some}
 use lib.Dec.{leb, eqb}
 use lib.ListN.{length, take, drop, take-append-drop}
 use borrow.Author.Tests.{lt-ltb, eqb-true, leb-true, not-true}
 use Rattle.brackets.specs.Form.{Element, byte, range, class, Atom, bracket, classNames, className, writeElement, writeElements, writeAtom, opening, endsOpen, formedElement, formedElements, plainStart, formedAtom}
 use Rattle.brackets.specs.Brackets.{Parsed, parsed, fault, next, done, at, sameBytes, isClass, findClass, startsRange, classFound, readClass, readRange, readByte, readElement, readElements, readBracket}
-use Rattle.brackets.proofs.Parses.{same-parsed, one-parsed, test-parsed, untest-parsed, made-parsed, more-parsed, front, Clean, cleanBytes, clean-bytes}
-use Rattle.runs.specs.Keys.{member}
+use Rattle.brackets.proofs.Parses.{same-parsed, one-parsed, test-parsed, untest-parsed, made-parsed, more-parsed, front}
+use Rattle.runs.specs.Keys.{member, isLine}
 use Rattle.runs.proofs.Tests.{clash, torn, and-parts}
-use Rattle.runs.proofs.KeyLaws.{line-after, line-drop, key-is}
+use Rattle.runs.proofs.KeyLaws.{line-after, line-drop, key-is, line-first}
 
 -- Classes.
 
@@ -61,13 +61,13 @@ pub class-back : (c : ℕ) (m : List ℕ) → c < 12 → findClass 12 0 (classNa
 class-back c m h = rw zero-add at (each-same 12 0 c (λ d. findClass 12 0 (className d ++ (58 ∷ 93 ∷ m))) (λ d. some d) (classes-back m) h)
 
 -- a class's name holds bytes of a pattern: again one computation
-names-clean : each 12 0 (λ d. cleanBytes (className d)) ≡ each 12 0 (λ d. true)
-unfolding each cleanBytes classNames
+names-clean : each 12 0 (λ d. isLine (className d)) ≡ each 12 0 (λ d. true)
+unfolding each classNames
 names-clean = refl
 
 -- and so for one class
-pub name-clean : (c : ℕ) → c < 12 → Clean (className c)
-name-clean c h = clean-bytes (className c) (rw zero-add at (each-same 12 0 c (λ d. cleanBytes (className d)) (λ d. true) names-clean h))
+pub name-clean : (c : ℕ) → c < 12 → isLine (className c) ≡ true
+name-clean c h = rw zero-add at (each-same 12 0 c (λ d. isLine (className d)) (λ d. true) names-clean h)
 
 -- a class that was read
 class-from : (l rest : List ℕ) (e : Element) → readClass l ≡ parsed e rest → (c : ℕ) × (e ≡ class c) × (c < 12) × (l ≡ (className c ++ (58 ∷ 93 ∷ [])) ++ rest) × (startsRange rest ≡ false)
@@ -118,25 +118,25 @@ range-parts first l rest e p =
     (dash, le, not-true _ apart, sym same, sym after)
 
 -- a range that was read is what the bytes begin with, and of the form
-range-from : (first : Bool) (l rest : List ℕ) (e : Element) → Clean l → first || not (eqb (at 0 l) 93) ≡ true → startsRange (drop 1 l) ≡ true → readRange first l ≡ parsed e rest → Element-from first l e rest
+range-from : (first : Bool) (l rest : List ℕ) (e : Element) → isLine l ≡ true → first || not (eqb (at 0 l) 93) ≡ true → startsRange (drop 1 l) ≡ true → readRange first l ≡ parsed e rest → Element-from first l e rest
 unfolding writeElement formedElement
 range-from first [] rest e h n s p = clash (cc)
 range-from first (a ∷ []) rest e h n s p = clash (cc)
 range-from first (a ∷ d ∷ []) rest e h n s p =
     let (dash, le, apart, same, after) = range-parts first (a ∷ d ∷ []) rest e p in
-    absurd (omega (arith, key-is a (h .0) .0, leb-true a 0 le))
+    absurd (omega (arith, key-is a (line-first a (d ∷ []) h) .0, leb-true a 0 le))
 range-from first (a ∷ d ∷ b ∷ m) rest e h n s p =
     let (dash, le, apart, same, after) = range-parts first (a ∷ d ∷ b ∷ m) rest e p in
     let (mid, close) = and-parts (eqb d 45) (not (eqb b 93)) s in
     rw (same, after) (
       rw (eqb-true d 45 mid),
-      rw (h .0, h .1 .1 .0, le, or-and-distrib-left, n, dash) close,
+      rw (line-first a (d ∷ b ∷ m) h, line-first b m (line-drop 2 (a ∷ d ∷ b ∷ m) h), le, or-and-distrib-left, n, dash) close,
       apart,
     )
 
 -- a byte that was read is what the bytes begin with, and of the form
-byte-from : (first : Bool) (l rest : List ℕ) (e : Element) → Clean l → first || not (eqb (at 0 l) 93) ≡ true → eqb (at 0 l) 91 && eqb (at 1 l) 58 ≡ false → eqb (at 0 l) 91 && member (at 1 l) (46 ∷ 61 ∷ []) ≡ false → readByte first l ≡ parsed e rest → Element-from first l e rest
-unfolding writeElement formedElement member
+byte-from : (first : Bool) (l rest : List ℕ) (e : Element) → isLine l ≡ true → first || not (eqb (at 0 l) 93) ≡ true → eqb (at 0 l) 91 && eqb (at 1 l) 58 ≡ false → eqb (at 0 l) 91 && member (at 1 l) (46 ∷ 61 ∷ []) ≡ false → readByte first l ≡ parsed e rest → Element-from first l e rest
+unfolding writeElement formedElement
 byte-from first [] rest e h n r pq p = clash (cc)
 byte-from first (b ∷ m) rest e h n r pq p =
     let (t, q) = test-parsed (not (eqb b 0) && (first || (not (eqb b 45) || eqb (at 0 m) 93))) (parsed (byte b) m) e rest p in
@@ -144,7 +144,7 @@ byte-from first (b ∷ m) rest e h n r pq p =
     let (same, after) = same-parsed q in
     rw (← same, ← after) (
       refl,
-      rw (h .0, n, or-comm (eqb (at 0 m) 93) (not (eqb b 45))) dash,
+      rw (line-first b m h, n, or-comm (eqb (at 0 m) 93) (not (eqb b 45))) dash,
       open-in (eqb b 91) (eqb (at 0 m) 46) (eqb (at 0 m) 61) (eqb (at 0 m) 58) r pq,
     )
 
@@ -155,7 +155,7 @@ class-front (a ∷ []) h = torn (eqb a 91 && false) h (and-false (eqb a 91))
 class-front (a ∷ b ∷ l) h = let (p, q) = and-parts (eqb a 91) (eqb b 58) h in rw (eqb-true a 91 p, eqb-true b 58 q)
 
 -- an element that was read is what the bytes begin with, and of the form
-element-from : (first : Bool) (l rest : List ℕ) (e : Element) → Clean l → first || not (eqb (at 0 l) 93) ≡ true → readElement first l ≡ parsed e rest → Element-from first l e rest
+element-from : (first : Bool) (l rest : List ℕ) (e : Element) → isLine l ≡ true → first || not (eqb (at 0 l) 93) ≡ true → readElement first l ≡ parsed e rest → Element-from first l e rest
 unfolding readElement writeElement formedElement
 element-from first l rest e h n p = ⊎-elim (λ (t, f). named t f) (λ (t, f). plain t f) (one-parsed (eqb (at 0 l) 91 && eqb (at 1 l) 58) (readClass (drop 2 l)) _ e rest p)
   where
@@ -216,13 +216,13 @@ more-from first l mid rest e (d ∷ es) t h g =
     (rw (append-assoc (writeElement e), ← g .0) (h .0), rw (formed, apart) (g .1))
 
 -- elements that were read, up to the end of the bracket
-elements-from : (f : ℕ) (first : Bool) (l rest : List ℕ) (es : List Element) → Clean l → first || not (eqb (at 0 l) 93) ≡ true → readElements f first l ≡ parsed es rest → Elements-from first l es rest
+elements-from : (f : ℕ) (first : Bool) (l rest : List ℕ) (es : List Element) → isLine l ≡ true → first || not (eqb (at 0 l) 93) ≡ true → readElements f first l ≡ parsed es rest → Elements-from first l es rest
 unfolding readElements
 elements-from zero first l rest es h n p = clash (cc)
 elements-from (suc f) first l rest es h n p =
     let (e, ds, mid, same, one, others) = more-parsed (readElement first l) (readElements f false) es rest (rw (goes-on first (eqb (at 0 l) 93) n) at p) in
     let this = element-from first l mid e h n one in
-    let clean : Clean mid = line-after (writeElement e) mid (rw (this .0) at h) in
+    let clean : isLine mid ≡ true = line-after (writeElement e) mid (rw (this .0) at h) in
     rw same (go e ds mid this others (λ t. elements-from f false mid rest ds clean (rw t refl) others) (eqb (at 0 mid) 93) refl)
   where
     go : (e : Element) (ds : List Element) (mid : List ℕ) → Element-from first l e mid → readElements f false mid ≡ parsed ds rest → (eqb (at 0 mid) 93 ≡ false → Elements-from false mid ds rest) → (t : Bool) → eqb (at 0 mid) 93 ≡ t → Elements-from first l (e ∷ ds) rest
@@ -239,7 +239,7 @@ plain-start l rest (e ∷ es) t h =
     rw (← begins, t)
 
 -- a bracket that was read is what the bytes begin with, and of the form
-pub bracket-from : (l rest : List ℕ) (a : Atom) → Clean l → readBracket l ≡ parsed a rest → (91 ∷ l ≡ writeAtom a ++ rest) × (formedAtom a ≡ true)
+pub bracket-from : (l rest : List ℕ) (a : Atom) → isLine l ≡ true → readBracket l ≡ parsed a rest → (91 ∷ l ≡ writeAtom a ++ rest) × (formedAtom a ≡ true)
 unfolding readBracket writeAtom formedAtom
 bracket-from l rest a h p = go (eqb (at 0 l) 94) refl p
   where
