@@ -11,8 +11,9 @@ use borrow.Author.Tests.{le-leb, lt-leb, eq-eqb, ne-eqb}
 use Rattle.brackets.specs.declared.element.Element as declared
 use Rattle.brackets.specs.Form.{Element, byte, range}
 use Rattle.brackets.specs.Sets.{inElement}
-use Rattle.brackets.specs.Steps.{mapWith, withElement, hasKey, withKey, elementOf, Known}
+use Rattle.brackets.specs.Promises.{withElement, hasKey, withKey, elementOf, Known}
 use Rattle.brackets.proofs.Entries.{partly, entry-first, entry-none, entry-set, entry-kept, entry-last}
+use Rattle.brackets.specs.Answers.{mapWith}
 
 -- a key that an element has, and one that it has not
 module _ (e : Element) (k : ℕ) where
@@ -97,24 +98,24 @@ module _ (s : List Bool) (negated : Bool) (k : ℕ) where
       rw (le-leb 1 k l, le-leb k 255 g, ne-eqb k 10 n) (unlike (getD s k false) negated)
 
 -- what a set puts into the words of its keys
-module _ (s : List Bool) (negated : Bool) (bit : ℕ) where
+module _ (s : List Bool) (negated : Bool) (states : ℕ) where
   no-key-high : (k : ℕ) → 256 ≤ k → hasKey s negated k ≡ false
   unfolding hasKey
   no-key-high k h = let g : 255 < k = omega arith in rw (lt-leb k 255 g) (rw (and-false (leb 1 k)))
 
-  pub keys-first : (keys : List ℕ) → keys ≡ partly (withKey s negated bit) 0 keys
-  keys-first keys = entry-none (withKey s negated bit) keys
+  pub keys-first : (keys : List ℕ) → keys ≡ partly (withKey s negated states) 0 keys
+  keys-first keys = entry-none (withKey s negated states) keys
 
-  module _ (k : ℕ) (now before : List ℕ) (inv : now ≡ partly (withKey s negated bit) k before) where
+  module _ (k : ℕ) (now before : List ℕ) (inv : now ≡ partly (withKey s negated states) k before) where
     module _ (has : Bool) (e : has ≡ hasKey s negated k) where
-      pub keys-in : (after : List ℕ) → after ≡ set now k (bitOr (getD now k 0) bit) → has ≡ true → after ≡ partly (withKey s negated bit) (k + 1) before
+      pub keys-in : (after : List ℕ) → after ≡ set now k (bitOr (getD now k 0) states) → has ≡ true → after ≡ partly (withKey s negated states) (k + 1) before
       unfolding withKey
-      keys-in after g h = g ∙ entry-set 0 (withKey s negated bit) k now before inv (bitOr (getD now k 0) bit) (rw (sym e ∙ h))
+      keys-in after g h = g ∙ entry-set 0 (withKey s negated states) k now before inv (bitOr (getD now k 0) states) (rw (sym e ∙ h))
 
-      pub keys-out : (after : List ℕ) → after ≡ now → has ≡ false → after ≡ partly (withKey s negated bit) (k + 1) before
+      pub keys-out : (after : List ℕ) → after ≡ now → has ≡ false → after ≡ partly (withKey s negated states) (k + 1) before
       unfolding withKey
-      keys-out after g h = g ∙ entry-kept 0 (withKey s negated bit) k now before inv (rw (sym e ∙ h))
+      keys-out after g h = g ∙ entry-kept 0 (withKey s negated states) k now before inv (rw (sym e ∙ h))
 
-    pub keys-last : 256 ≤ k → now ≡ mapWith (withKey s negated bit) 0 before
+    pub keys-last : 256 ≤ k → now ≡ mapWith (withKey s negated states) 0 before
     unfolding withKey
-    keys-last h = entry-last 0 (withKey s negated bit) k now before inv (λ j x g. rw (no-key-high j (omega arith)))
+    keys-last h = entry-last 0 (withKey s negated states) k now before inv (λ j x g. rw (no-key-high j (omega arith)))

@@ -11,7 +11,7 @@ use Rattle.runs.specs.Keys.{member, isLine}
 use Rattle.runs.proofs.Tests.{clash, neither}
 use Rattle.runs.proofs.KeyLaws.{line-drop, line-first}
 use Rattle.brackets.specs.Form.{Atom, plain, dot, escaped, marks, writeAtom, formedAtom}
-use Rattle.brackets.specs.Brackets.{parsed, fault, at, readBracket, readAtom}
+use Rattle.brackets.specs.Brackets.{parsed, fault, at, readBracket, readAtomBy, readAtom}
 use Rattle.brackets.proofs.Parses.{same-parsed, test-parsed, untest-parsed, front}
 use Rattle.brackets.proofs.BracketsFrom.{bracket-from}
 
@@ -40,7 +40,7 @@ plain-from (x ∷ l) rest a h p =
 
 -- an atom that was read is what the bytes begin with, and of the form
 pub atom-from : (l rest : List ℕ) (a : Atom) → isLine l ≡ true → readAtom l ≡ parsed a rest → Atom-from l a rest
-unfolding readAtom writeAtom formedAtom
+unfolding readAtom readAtomBy writeAtom formedAtom
 atom-from l rest a h p = go (eqb (at 0 l) 46) (eqb (at 0 l) 91) (eqb (at 0 l) 92) refl refl refl p
   where
     go : (x y z : Bool) → eqb (at 0 l) 46 ≡ x → eqb (at 0 l) 91 ≡ y → eqb (at 0 l) 92 ≡ z → cond x (parsed dot (drop 1 l)) (cond y (readBracket (drop 1 l)) (cond z (cond (member (at 1 l) marks) (parsed (escaped (at 1 l)) (drop 2 l)) fault) (cond (eqb (at 0 l) 0 || member (at 0 l) marks) fault (parsed (plain (at 0 l)) (drop 1 l))))) ≡ parsed a rest → Atom-from l a rest

@@ -9,18 +9,19 @@ use lib.Dec.{eqb}
 use lib.ListN.{length, getD, drop, replicate, length-drop, drop-of-length-le}
 use lib.Seq.{getD-drop}
 use borrow.Author.Tests.{eq-eqb, ne-eqb}
-use Rattle.brackets.specs.declared.bracket.BracketRead.{BracketRead}
-use Rattle.brackets.specs.declared.bracket.BracketRead.the-variants.{At, Fault}
+use Rattle.brackets.specs.declared.atom.AtomRead.{AtomRead}
+use Rattle.brackets.specs.declared.atom.AtomRead.the-variants.{At, Fault}
 use Rattle.brackets.specs.declared.element.Element as declared
 use Rattle.brackets.specs.declared.element.ElementRead as element
 use Rattle.brackets.specs.Form.{Element, bracket}
 use Rattle.brackets.specs.Sets.{inElement, inElements, named}
 use Rattle.brackets.specs.Brackets.{Parsed, parsed, fault, next, done, readElement, readElements, readBracket}
-use Rattle.brackets.specs.Steps.{mapWith, withElement, withElements, withKey, elementOf, elementShown, elementsFrom, bracketFrom, ElementsDone, BracketDone}
+use Rattle.brackets.specs.Promises.{withElement, withElements, withKey, elementOf, elementShown, elementsFrom, bracketFrom, ElementsDone}
 use Rattle.brackets.proofs.Entries.{with-same, with-with, with-none}
 use Rattle.brackets.proofs.Stored.{set-stored, filled-set}
 use Rattle.brackets.proofs.Taken.{Shown, shown-fault, shown-found, none-read}
 use Rattle.runs.proofs.Tests.{clash}
+use Rattle.brackets.specs.Answers.{placeBehind, mapWith, keysBehind}
 
 pub closes-later : (first : Bool) (b : ℕ) → first ≡ false → eqb b 93 ≡ not first && eqb b 93
 closes-later first b h = rw h
@@ -45,7 +46,7 @@ elements-empty (suc f) first = rw (and-false, none-read first)
 pub record Going (s : List ℕ) (start : ℕ) (before : List Bool) (at : ℕ) (first : Bool) (now : List Bool) : Type 0 where
   pub bound : ℕ
   pub enough : length s ≤ bound + at
-  pub whole : (after : List Bool) (r : BracketRead) → ElementsDone (length s) (readElements bound first (drop at s)) now after r → ElementsDone (length s) (elementsFrom start s) before after r
+  pub whole : (after : List Bool) (r : AtomRead) → ElementsDone (length s) (readElements bound first (drop at s)) now after r → ElementsDone (length s) (elementsFrom start s) before after r
 
 pub going-first : (s : List ℕ) (start : ℕ) (before : List Bool) → Going s start before start true before
 unfolding elementsFrom
@@ -92,37 +93,77 @@ module _ (s : List ℕ) (start : ℕ) (before : List Bool) (p : ℕ) (first : Bo
           onward : readElements (g .bound) first (drop p s) ≡ next (readElements (g .bound - 1) false (drop n s)) (λ es. done (elementOf d ∷ es))
           onward = rw (turn, h, shown .parse, shown .same)
 
-          more : (a : Parsed (List Element)) (last : List Bool) (b : BracketRead) → ElementsDone (length s) a after last b → ElementsDone (length s) (next a (λ es. done (elementOf d ∷ es))) now last b
+          more : (a : Parsed (List Element)) (last : List Bool) (b : AtomRead) → ElementsDone (length s) a after last b → ElementsDone (length s) (next a (λ es. done (elementOf d ∷ es))) now last b
           more (parsed es rest) last b (x, y) = (x, y ∙ rw m (elements-more now (elementOf d) es))
           more fault last b x = x
 
--- a set that was filled, and what it puts into the table
-module _ (l : List ℕ) (start bit : ℕ) (negated : Bool) (s : List Bool) (before : List ℕ) (r : BracketRead) (d : ElementsDone (length l) (elementsFrom start l) (replicate 256 false) s r) where
-  pub set-done : (end : ℕ) (after : List ℕ) → r ≡ At end → after ≡ mapWith (withKey s negated bit) 0 before → BracketDone (length l) (bracketFrom negated start l) bit before after (At end)
-  unfolding ElementsDone BracketDone bracketFrom withElements named
-  set-done end after h e = go (elementsFrom start l) d
-    where
-      same : (es : List Element) → s ≡ mapWith (withElements es) 0 (replicate 256 false) → (k : ℕ) → k < 256 → xor negated (getD s k false) ≡ named (bracket negated es) k
-      same es f k l = rw (f, filled-set (withElements es) k l)
+-- a set that has the bytes of some elements
+bracket-set : (es : List Element) (s : List Bool) (negated : Bool) → s ≡ mapWith (withElements es) 0 (replicate 256 false) → (k : ℕ) → k < 256 → xor negated (getD s k false) ≡ named (bracket negated es) k
+unfolding withElements named
+bracket-set es s negated e k h = rw (e, filled-set (withElements es) k h)
 
-      go : (a : Parsed (List Element)) → ElementsDone (length l) a (replicate 256 false) s r → BracketDone (length l) (next a (λ es. done (bracket negated es))) bit before after (At end)
-      go (parsed es rest) (f, g) = (sym h ∙ f, e ∙ set-stored (bracket negated es) s negated (same es g) bit before)
-      go fault f = clash (cc)
+-- a set that was filled, or not
+module _ (l : List ℕ) (start : ℕ) (s : List Bool) (r : AtomRead) (d : ElementsDone (length l) (elementsFrom start l) (replicate 256 false) s r) where
+  record Filled (end : ℕ) : Type 0 where
+    elements : List Element
+    rest : List ℕ
+    parse : elementsFrom start l ≡ parsed elements rest
+    place : At end ≡ At (length l - length rest)
+    full : s ≡ mapWith (withElements elements) 0 (replicate 256 false)
 
-  pub set-fault : r ≡ Fault → BracketDone (length l) (bracketFrom negated start l) bit before before Fault
-  unfolding ElementsDone BracketDone bracketFrom
-  set-fault h = go (elementsFrom start l) d
+  filled : (end : ℕ) → r ≡ At end → Filled end
+  unfolding ElementsDone
+  filled end h = go (elementsFrom start l) refl d
     where
-      go : (a : Parsed (List Element)) → ElementsDone (length l) a (replicate 256 false) s r → BracketDone (length l) (next a (λ es. done (bracket negated es))) bit before before Fault
+      go : (a : Parsed (List Element)) → elementsFrom start l ≡ a → ElementsDone (length l) a (replicate 256 false) s r → Filled end
+      go (parsed es rest) e (f, g) = record { elements = es; rest = rest; parse = e; place = sym h ∙ f; full = g }
+      go fault e f = clash (cc)
+
+  not-filled : r ≡ Fault → elementsFrom start l ≡ fault
+  unfolding ElementsDone
+  not-filled h = go (elementsFrom start l) d
+    where
+      go : (a : Parsed (List Element)) → ElementsDone (length l) a (replicate 256 false) s r → a ≡ fault
       go (parsed es rest) (f, g) = clash (cc)
-      go fault f = (refl, refl)
+      go fault f = refl
+
+  -- and what it puts into the table
+  module _ (negated : Bool) where
+    pub set-fault : r ≡ Fault → bracketFrom negated start l ≡ fault
+    unfolding bracketFrom
+    set-fault h = rw (not-filled h)
+
+    module _ (end : ℕ) (h : r ≡ At end) where
+      pub set-place : At end ≡ placeBehind (length l) (bracketFrom negated start l)
+      unfolding bracketFrom
+      set-place = let f = filled end h in rw (f .parse) (f .place)
+
+      pub set-table : (states : ℕ) (before after : List ℕ) → after ≡ mapWith (withKey s negated states) 0 before → after ≡ keysBehind (bracketFrom negated start l) states before
+      unfolding bracketFrom
+      set-table states before after e =
+          let f = filled end h in
+          rw (f .parse) (e ∙ set-stored (bracket negated (f .elements)) s negated (bracket-set (f .elements) s negated (f .full)) states before)
 
 -- the bytes after `[`
-module _ (l : List ℕ) (b : ℕ) (e : b ≡ getD l 0 0) (n bit : ℕ) (before after : List ℕ) (r : BracketRead) where
-  pub text-negated : b ≡ 94 → BracketDone n (bracketFrom true 1 l) bit before after r → BracketDone n (readBracket l) bit before after r
-  unfolding readBracket bracketFrom elementsFrom
-  text-negated h d = rw (← e, eq-eqb b 94 h) d
+module _ (l : List ℕ) (b : ℕ) (e : b ≡ getD l 0 0) where
+  module _ (h : b ≡ 94) where
+    negated : bracketFrom true 1 l ≡ readBracket l
+    unfolding readBracket bracketFrom elementsFrom
+    negated = rw (← e, eq-eqb b 94 h)
 
-  pub text-plain : (b ≡ 94 → ⊥) → BracketDone n (bracketFrom false 0 l) bit before after r → BracketDone n (readBracket l) bit before after r
-  unfolding readBracket bracketFrom elementsFrom
-  text-plain h d = rw (← e, ne-eqb b 94 h) d
+    pub negated-place : (r : AtomRead) → r ≡ placeBehind (length l) (bracketFrom true 1 l) → r ≡ placeBehind (length l) (readBracket l)
+    negated-place r d = rw (← negated) d
+
+    pub negated-table : (states : ℕ) (before after : List ℕ) → after ≡ keysBehind (bracketFrom true 1 l) states before → after ≡ keysBehind (readBracket l) states before
+    negated-table states before after d = rw (← negated) d
+
+  module _ (h : b ≡ 94 → ⊥) where
+    not-negated : bracketFrom false 0 l ≡ readBracket l
+    unfolding readBracket bracketFrom elementsFrom
+    not-negated = rw (← e, ne-eqb b 94 h)
+
+    pub plain-place : (r : AtomRead) → r ≡ placeBehind (length l) (bracketFrom false 0 l) → r ≡ placeBehind (length l) (readBracket l)
+    plain-place r d = rw (← not-negated) d
+
+    pub plain-table : (states : ℕ) (before after : List ℕ) → after ≡ keysBehind (bracketFrom false 0 l) states before → after ≡ keysBehind (readBracket l) states before
+    plain-table states before after d = rw (← not-negated) d

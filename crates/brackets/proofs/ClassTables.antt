@@ -9,7 +9,7 @@ use mathlib.Core.List.{List, [], _∷_}
 use lib.Dec.{eqb}
 use lib.ListN.{length, getD}
 use Rattle.brackets.specs.declared.class.Class.{Class}
-use Rattle.brackets.specs.Steps.{classText, classRange}
+use Rattle.brackets.specs.Promises.{classText, classRange}
 use Rattle.stateset.specs.Tabled.{tabled}
 use Rattle.runs.proofs.Tests.{and-parts}
 use Rattle.stateset.proofs.Tabled.{tabled-at}

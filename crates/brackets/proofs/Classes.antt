@@ -14,7 +14,7 @@ use borrow.Author.Tests.{ltb-true, ltb-false, eqb-true, eq-eqb, ne-eqb}
 use Rattle.brackets.specs.declared.class.ClassRead.the-variants.{Found, Unknown}
 use Rattle.brackets.specs.Form.{classNames, className}
 use Rattle.brackets.specs.Brackets.{sameBytes, isClass, findClass}
-use Rattle.brackets.specs.Steps.{classText, classShown}
+use Rattle.brackets.specs.Promises.{classText, classShown}
 use Rattle.brackets.proofs.ClassTables.{every, every-at}
 use Rattle.runs.specs.Keys.{member}
 use Rattle.runs.proofs.Tests.{clash, and-parts}

@@ -5,16 +5,16 @@ use mathlib.Core.Path.{_≡_, refl, sym, ap, _∙_}
 use mathlib.Core.Bool.{cond}
 use mathlib.Core.List.{List}
 use lib.Dec.{ltb}
-use lib.ListN.{length, getD, set, take, drop, replicate, length-drop, length-replicate}
+use lib.ListN.{length, getD, set, take, drop, replicate, length-drop, length-replicate, drop-of-length-le}
 use lib.Seq.{ext-getD, getD-take, getD-drop, length-take-le}
-use borrow.Author.Tests.{lt-ltb}
+use borrow.Author.Tests.{lt-ltb, le-leb, lt-leb}
 use mir.Syntax.{w64}
 use mir.Val.{Fits}
-use Rattle.brackets.specs.declared.bracket.BracketRead.{BracketRead}
-use Rattle.brackets.specs.declared.bracket.BracketRead.the-variants.{At, Fault}
+use Rattle.brackets.specs.declared.atom.AtomRead.{AtomRead}
+use Rattle.brackets.specs.declared.atom.AtomRead.the-variants.{At, Fault}
 use Rattle.brackets.specs.Form.{Atom}
-use Rattle.brackets.specs.Brackets.{Parsed, parsed, fault, readBracket}
-use Rattle.brackets.specs.Steps.{BracketDone}
+use Rattle.brackets.specs.Brackets.{Parsed, parsed, fault, readElements, readBracket, bracketWithin}
+use Rattle.brackets.specs.Answers.{placeBehind, keysBehind}
 use Rattle.brackets.proofs.Entries.{partly, entry-none, entry-set, with-length, with-getD}
 use Rattle.brackets.proofs.Shorter.{bracket-shorter}
 use Rattle.runs.proofs.Tests.{clash}
@@ -22,6 +22,21 @@ use Rattle.runs.proofs.Tests.{clash}
 -- the entry that a byte is copied to
 unfoldable pub copiedByte : List ℕ → ℕ → ℕ → ℕ → ℕ
 copiedByte s p k x = getD s (p + k) 0
+
+module _ (s : List ℕ) where
+  -- a text that the copy holds, and one that it might not hold
+  within : (l : List ℕ) → length s ≤ 128 → bracketWithin (length s) l ≡ readBracket l
+  unfolding bracketWithin
+  within l h = rw (le-leb (length s) 128 h)
+
+  pub within-long : (l : List ℕ) → 128 < length s → bracketWithin (length s) l ≡ fault
+  unfolding bracketWithin
+  within-long l h = rw (lt-leb (length s) 128 h)
+
+  -- nothing stands behind the end
+  pub within-behind : (p : ℕ) → length s ≤ 128 → length s < p → bracketWithin (length s) (drop p s) ≡ fault
+  unfolding readBracket readElements
+  within-behind p most h = let g : length s ≤ p = omega arith in within (drop p s) most ∙ rw (drop-of-length-le s g)
 
 module _ (s : List ℕ) (p : ℕ) where
   pub copy-first : (l : List ℕ) → l ≡ partly (copiedByte s p) 0 l
@@ -50,35 +65,37 @@ module _ (s : List ℕ) (p : ℕ) where
         at : (j : ℕ) → j < length s - p → getD (take (length s - p) now) j 0 ≡ getD (drop p s) j 0
         at j h = rw (getD-take (length s - p) now j 0 h, getD-drop p s j 0) (entry j (omega arith))
 
-  -- what was done with the copy
+  -- what was read from the copy
   module _ (copy : List ℕ) (e : take (length s - p) copy ≡ drop p s) where
     pub copy-size : length s - p ≡ length (take (length s - p) copy)
     copy-size = sym (ap length e ∙ length-drop p s)
 
-    module _ (bit : ℕ) (before after : List ℕ) (r : BracketRead) (d : BracketDone (length (take (length s - p) copy)) (readBracket (take (length s - p) copy)) bit before after r) where
-      read : BracketDone (length s - p) (readBracket (drop p s)) bit before after r
-      read = rw (e, length-drop p s) at d
+    module _ (most : length s ≤ 128) where
+      pub copy-table : (states : ℕ) (before after : List ℕ) → after ≡ keysBehind (readBracket (take (length s - p) copy)) states before → after ≡ keysBehind (bracketWithin (length s) (drop p s)) states before
+      copy-table states before after h = rw (within s (drop p s) most, ← e) h
 
-      pub copy-fault : r ≡ Fault → BracketDone (length s) (readBracket (drop p s)) bit before after Fault
-      unfolding BracketDone
-      copy-fault h = go (readBracket (drop p s)) read
-        where
-          go : (a : Parsed Atom) → BracketDone (length s - p) a bit before after r → BracketDone (length s) a bit before after Fault
-          go (parsed a rest) (f, g) = clash (cc)
-          go fault (f, g) = (refl, g)
+      module _ (r : AtomRead) (d : r ≡ placeBehind (length (take (length s - p) copy)) (readBracket (take (length s - p) copy))) where
+        read : r ≡ placeBehind (length s - p) (readBracket (drop p s))
+        read = rw (e, length-drop p s) at d
 
-      module _ (low : p ≤ length s) (end : ℕ) (h : r ≡ At end) where
-        shift : (a : Parsed Atom) → readBracket (drop p s) ≡ a → BracketDone (length s - p) a bit before after r → (p + end ≤ length s) × BracketDone (length s) a bit before after (At (p + end))
-        unfolding BracketDone
-        shift (parsed a rest) q (f, g) =
-            let short : length rest ≤ length s - p = rw length-drop at (bracket-shorter (drop p s) a rest q) in
-            let place : end ≡ length s - p - length rest = cc in
-            let sum : p + end ≡ length s - length rest = omega arith in
-            (omega arith, (ap At sum, g))
-        shift fault q (f, g) = clash (cc)
+        pub copy-fault : r ≡ Fault → Fault ≡ placeBehind (length s) (bracketWithin (length s) (drop p s))
+        copy-fault h = rw (within s (drop p s) most) (go (readBracket (drop p s)) (sym h ∙ read))
+          where
+            go : (a : Parsed Atom) → Fault ≡ placeBehind (length s - p) a → Fault ≡ placeBehind (length s) a
+            go (parsed a rest) f = clash (cc)
+            go fault f = refl
 
-        pub copy-fits : length s ≤ 128 → Fits w64 (p + end)
-        copy-fits most = let fits : p + end ≤ length s = shift (readBracket (drop p s)) refl read .0 in omega arith
+        module _ (low : p ≤ length s) (end : ℕ) (h : r ≡ At end) where
+          shift : (a : Parsed Atom) → readBracket (drop p s) ≡ a → At end ≡ placeBehind (length s - p) a → (p + end ≤ length s) × (At (p + end) ≡ placeBehind (length s) a)
+          shift (parsed a rest) q f =
+              let short : length rest ≤ length s - p = rw length-drop at (bracket-shorter (drop p s) a rest q) in
+              let place : end ≡ length s - p - length rest = cc in
+              let sum : p + end ≡ length s - length rest = omega arith in
+              (omega arith, ap At sum)
+          shift fault q f = clash (cc)
 
-        pub copy-at : BracketDone (length s) (readBracket (drop p s)) bit before after (At (p + end))
-        copy-at = shift (readBracket (drop p s)) refl read .1
+          pub copy-fits : Fits w64 (p + end)
+          copy-fits = let fits : p + end ≤ length s = shift (readBracket (drop p s)) refl (sym h ∙ read) .0 in omega arith
+
+          pub copy-at : At (p + end) ≡ placeBehind (length s) (bracketWithin (length s) (drop p s))
+          copy-at = rw (within s (drop p s) most) (shift (readBracket (drop p s)) refl (sym h ∙ read) .1)

@@ -17,7 +17,7 @@ use Rattle.brackets.specs.declared.element.ElementRead.the-variants.{Fou
 use Rattle.brackets.specs.declared.element.Element.the-variants.{Byte, Range, Class}
 use Rattle.brackets.specs.Form.{byte, range, class, className, writeElement}
 use Rattle.brackets.specs.Brackets.{parsed, fault, at, startsRange, findClass, classFound, readClass, readRange, readByte, readElement}
-use Rattle.brackets.specs.Steps.{classShown, elementShown}
+use Rattle.brackets.specs.Promises.{classShown, elementShown}
 use Rattle.brackets.proofs.Classes.{found-below}
 use Rattle.runs.specs.Keys.{member}
 use Rattle.runs.proofs.Tests.{clash, and-parts}

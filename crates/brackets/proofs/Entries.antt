@@ -9,7 +9,7 @@ use lib.Dec.{ltb, eqb}
 use lib.ListN.{length, getD, set, length-set}
 use lib.Seq.{ext-getD, getD-set-same, getD-set-other, set-getD}
 use borrow.Author.Tests.{lt-ltb, le-ltb, ltb-true, ltb-false, eqb-true, eqb-false}
-use Rattle.brackets.specs.Steps.{mapWith}
+use Rattle.brackets.specs.Answers.{mapWith}
 
 module _ {A : Type 0} where
   pub with-length : (f : ℕ → A → A) (j : ℕ) (l : List A) → length (mapWith f j l) ≡ length l

@@ -1,5 +1,8 @@
--- Laws.
+-- Laws of atoms and brackets: of lists and parsers, of their sets, of their reader step by step as the code goes, and that reading and writing are each
+-- other's inverse.
 pub mod Adding
+pub mod Answers
+pub mod Atoms
 pub mod Bracketed
 pub mod Bytes
 pub mod ClassTables

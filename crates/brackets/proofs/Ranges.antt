@@ -10,9 +10,10 @@ use lib.ListN.{length, getD, drop, drop-of-length-le}
 use borrow.Author.Tests.{leb-true, lt-leb}
 use Rattle.brackets.specs.Form.{class, range}
 use Rattle.brackets.specs.Sets.{Range, to, classRanges, inRanges, inElement}
-use Rattle.brackets.specs.Steps.{mapWith, withElement}
+use Rattle.brackets.specs.Promises.{withElement}
 use Rattle.brackets.proofs.Entries.{with-same, with-with, with-none}
 use Rattle.brackets.proofs.ClassTables.{every, every-at}
+use Rattle.brackets.specs.Answers.{mapWith}
 
 -- an entry of a set, with some ranges added
 unfoldable pub withRanges : List Range → ℕ → Bool → Bool

@@ -13,7 +13,7 @@ use Rattle.brackets.specs.declared.element.ElementRead.the-variants.{Fou
 use Rattle.brackets.specs.declared.element.Element as declared
 use Rattle.brackets.specs.Form.{Element, byte, range, class, className, writeElement}
 use Rattle.brackets.specs.Brackets.{Parsed, parsed, fault, at, findClass, classFound, startsRange, readElement}
-use Rattle.brackets.specs.Steps.{shownElement, elementOf, elementShown, Known}
+use Rattle.brackets.specs.Promises.{shownElement, elementOf, elementShown, Known}
 use Rattle.brackets.proofs.Classes.{found-below}
 use Rattle.runs.specs.Keys.{member}
 use Rattle.runs.proofs.Tests.{clash}

@@ -1,4 +1,4 @@
--- The reader of patterns: the tree of some bytes, or none. A pattern holds no byte 0, so a 0 here stands for the end.
+-- The reader of atoms and brackets: what some bytes begin with, or a fault. A pattern holds no byte 0, so a 0 here stands for the end.
 use Prim.Native.Nat.{ℕ, zero, suc, _+_}
 use mathlib.Core.Bool.{Bool, true, false, not, _&&_, _||_, cond}
 use mathlib.Core.List.{List, [], _∷_, _++_}
@@ -90,10 +90,21 @@ readBracket l =
     cond (eqb (at 0 l) 94) (next (readElements (length l) true (drop 1 l)) (λ es. done (bracket true es)))
     (next (readElements (length l) true l) (λ es. done (bracket false es)))
 
--- "Atoms: a plain byte (any but the twelve marks ..); `.` ..; `\` before one of ..; a bracket."
-unfoldable pub readAtom : Parser Atom
-readAtom l =
+-- "Atoms: a plain byte (any but the twelve marks ..); `.` ..; `\` before one of ..; a bracket", which another parser reads
+unfoldable pub readAtomBy : Parser Atom → Parser Atom
+readAtomBy bracketBy l =
     cond (eqb (at 0 l) 46) (parsed dot (drop 1 l))
-    (cond (eqb (at 0 l) 91) (readBracket (drop 1 l))
+    (cond (eqb (at 0 l) 91) (bracketBy (drop 1 l))
     (cond (eqb (at 0 l) 92) (cond (member (at 1 l) marks) (parsed (escaped (at 1 l)) (drop 2 l)) fault)
     (cond (eqb (at 0 l) 0 || member (at 0 l) marks) fault (parsed (plain (at 0 l)) (drop 1 l)))))
+
+unfoldable pub readAtom : Parser Atom
+readAtom l = readAtomBy readBracket l
+
+-- "In the first release a bracket is copied to a buffer of 128 bytes": in a text of n bytes, over 128, it is a fault
+unfoldable pub bracketWithin : ℕ → Parser Atom
+bracketWithin n l = cond (leb n 128) (readBracket l) fault
+
+-- the atom at a place of a text
+unfoldable pub atomAt : List ℕ → ℕ → Parsed Atom
+atomAt s p = readAtomBy (bracketWithin (length s)) (drop p s)

@@ -1,5 +1,6 @@
 // A bracket (document 01, "Patterns"): "In the first release a bracket is copied to a buffer of 128 bytes and read
 // there." Nothing outside this file knows of the copy.
+use crate::atom::AtomRead;
 use crate::element::ElementRead;
 use crate::element::read_element;
 use crate::look::peek;
@@ -10,14 +11,9 @@ ghost use mathlib.Core.Bool.{_&&_, not};
 ghost use Prim.Native.Nat.{_-_, _≤_};
 ghost use lib.Dec.{eqb};
 ghost use lib.ListN.{drop, length, take};
-ghost use Rattle.brackets.specs.Brackets.{readBracket};
-ghost use Rattle.brackets.specs.Steps.{BracketDone, ElementsDone, bracketFrom, elementsFrom};
-
-// The place behind a bracket.
-pub enum BracketRead {
-    At(usize),
-    Fault,
-}
+ghost use Rattle.brackets.specs.Brackets.{bracketWithin, readBracket};
+ghost use Rattle.brackets.specs.Answers.{keysBehind, placeBehind};
+ghost use Rattle.brackets.specs.Promises.{ElementsDone, bracketFrom, elementsFrom};
 
 // Whether a `]` closes the bracket. "A `]` as first element is itself".
 fn closes(first: bool, b: u8) -> bool
@@ -30,14 +26,14 @@ fn closes(first: bool, b: u8) -> bool
 }
 
 // Adds the elements from a place on to a set, up to the `]` that closes the bracket.
-fn read_elements(text: &[u8], start: usize, set: &mut [bool; 256]) -> BracketRead
+fn read_elements(text: &[u8], start: usize, set: &mut [bool; 256]) -> AtomRead
     ensures { λ r. ⌜ ElementsDone (length (now (text .entry))) (elementsFrom start (now (text .entry))) (now (set .entry)) (now (set .exit)) r ⌝ }
 {
     let mut at = start;
     let mut first = true;
     while at < text.len() {
         if closes(first, peek(text, at)) {
-            return BracketRead::At(at + 1);
+            return AtomRead::At(at + 1);
         }
         match read_element(text, at, first) {
             ElementRead::Found(e, next) => {
@@ -45,43 +41,45 @@ fn read_elements(text: &[u8], start: usize, set: &mut [bool; 256]) -> BracketRea
                 at = next;
             }
             ElementRead::Fault => {
-                return BracketRead::Fault;
+                return AtomRead::Fault;
             }
         }
         first = false;
     }
-    BracketRead::Fault
+    AtomRead::Fault
 }
 
-// Reads the elements from a place on, and puts the states of `bit` into the words of their keys, or of all others if
+// Reads the elements from a place on, and puts these states into the words of their keys, or of all others if
 // they are negated.
 fn read_set(
     text: &[u8],
     start: usize,
     negated: bool,
-    bit: u64,
+    states: u64,
     keys: &mut [u64; 256],
-) -> BracketRead
-    ensures { λ r. ⌜ BracketDone (length (now (text .entry))) (bracketFrom negated start (now (text .entry))) bit (now (keys .entry)) (now (keys .exit)) r ⌝ }
+) -> AtomRead
+    ensures place { λ r. ⌜ r ≡ placeBehind (length (now (text .entry))) (bracketFrom negated start (now (text .entry))) ⌝ }
+    ensures table { λ _. ⌜ now (keys .exit) ≡ keysBehind (bracketFrom negated start (now (text .entry))) states (now (keys .entry)) ⌝ }
 {
     let mut set = [false; 256];
     match read_elements(text, start, &mut set) {
-        BracketRead::At(end) => {
-            store(&set, negated, bit, keys);
-            BracketRead::At(end)
+        AtomRead::At(end) => {
+            store(&set, negated, states, keys);
+            AtomRead::At(end)
         }
-        BracketRead::Fault => BracketRead::Fault,
+        AtomRead::Fault => AtomRead::Fault,
     }
 }
 
 // The bytes after `[`: "optional `^` for all keys but these, elements, `]`".
-fn read_text(text: &[u8], bit: u64, keys: &mut [u64; 256]) -> BracketRead
-    ensures { λ r. ⌜ BracketDone (length (now (text .entry))) (readBracket (now (text .entry))) bit (now (keys .entry)) (now (keys .exit)) r ⌝ }
+fn read_text(text: &[u8], states: u64, keys: &mut [u64; 256]) -> AtomRead
+    ensures place { λ r. ⌜ r ≡ placeBehind (length (now (text .entry))) (readBracket (now (text .entry))) ⌝ }
+    ensures table { λ _. ⌜ now (keys .exit) ≡ keysBehind (readBracket (now (text .entry))) states (now (keys .entry)) ⌝ }
 {
     if peek(text, 0) == b'^' {
-        return read_set(text, 1, true, bit, keys);
+        return read_set(text, 1, true, states, keys);
     }
-    read_set(text, 0, false, bit, keys)
+    read_set(text, 0, false, states, keys)
 }
 
 // A copy of the bytes from a place on.
@@ -99,16 +97,22 @@ fn copied(s: &[u8], at: usize) -> [u8; 128]
     copy
 }
 
-// The bracket whose `[` stands before a place. Its keys get the states of `bit` into their words; a fault leaves the
-// words as they are.
-pub fn read_bracket(s: &[u8], at: usize, bit: u64, keys: &mut [u64; 256]) -> BracketRead
-    requires { ⌜ (at ≤ length (now s)) × (length (now s) ≤ 128) ⌝ }
-    ensures { λ r. ⌜ BracketDone (length (now (s .entry))) (readBracket (drop at (now (s .entry)))) bit (now (keys .entry)) (now (keys .exit)) r ⌝ }
+// The bracket whose `[` stands before a place. Its keys get these states into their words; a fault leaves the words as
+// they are. A text that the copy might not hold is a fault.
+pub(crate) fn read_bracket(s: &[u8], at: usize, states: u64, keys: &mut [u64; 256]) -> AtomRead
+    ensures place { λ r. ⌜ r ≡ placeBehind (length (now (s .entry))) (bracketWithin (length (now (s .entry))) (drop at (now (s .entry)))) ⌝ }
+    ensures table { λ _. ⌜ now (keys .exit) ≡ keysBehind (bracketWithin (length (now (s .entry))) (drop at (now (s .entry)))) states (now (keys .entry)) ⌝ }
 {
+    if s.len() > 128 {
+        return AtomRead::Fault;
+    }
+    if at > s.len() {
+        return AtomRead::Fault;
+    }
     let copy = copied(s, at);
     let n = s.len() - at;
-    match read_text(&copy[..n], bit, keys) {
-        BracketRead::At(end) => BracketRead::At(at + end),
-        BracketRead::Fault => BracketRead::Fault,
+    match read_text(&copy[..n], states, keys) {
+        AtomRead::At(end) => AtomRead::At(at + end),
+        AtomRead::Fault => AtomRead::Fault,
     }
 }

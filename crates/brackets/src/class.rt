@@ -5,7 +5,7 @@ ghost use Prim.Native.Nat.{_+_, _<_, _≤_};
 ghost use lib.ListN.{drop, getD, length};
 ghost use Rattle.brackets.specs.Form.{className};
 ghost use Rattle.brackets.specs.Brackets.{findClass, isClass};
-ghost use Rattle.brackets.specs.Steps.{classRange, classShown, classText};
+ghost use Rattle.brackets.specs.Promises.{classRange, classShown, classText};
 
 // A class: its name and `:]`, filled up to eight bytes with 0, and the ranges that it stands for, four at the most, each as its first
 // and last byte. Those from `1` to `0` are empty.
@@ -67,7 +67,7 @@ const CLASSES: [Class; 12] = [
 ];
 
 // A class's place in the table.
-pub enum ClassRead {
+pub(crate) enum ClassRead {
     Found(u8),
     Unknown,
 }
@@ -82,7 +82,7 @@ fn name_byte(c: u8, j: usize) -> u8
 }
 
 // The first byte of a class's range j.
-pub fn range_first(c: u8, j: usize) -> u8
+pub(crate) fn range_first(c: u8, j: usize) -> u8
     requires { ⌜ (c < 12) × (j < 4) ⌝ }
     ensures { λ r. ⌜ r ≡ classRange c j .first ⌝ }
 {
@@ -91,7 +91,7 @@ pub fn range_first(c: u8, j: usize) -> u8
 }
 
 // And the last one.
-pub fn range_last(c: u8, j: usize) -> u8
+pub(crate) fn range_last(c: u8, j: usize) -> u8
     requires { ⌜ (c < 12) × (j < 4) ⌝ }
     ensures { λ r. ⌜ r ≡ classRange c j .last ⌝ }
 {
@@ -100,7 +100,7 @@ pub fn range_last(c: u8, j: usize) -> u8
 }
 
 // How many bytes a class's name and its `:]` have.
-pub fn class_size(c: u8) -> usize
+pub(crate) fn class_size(c: u8) -> usize
     requires { ⌜ c < 12 ⌝ }
     ensures { λ r. ⌜ (r ≡ length (className c) + 2) × (r ≤ 8) ⌝ }
 {
@@ -130,7 +130,7 @@ fn is_class(s: &[u8], at: usize, c: u8) -> bool
 }
 
 // The class whose name and `:]` stand at a place.
-pub fn find_class(s: &[u8], at: usize) -> ClassRead
+pub(crate) fn find_class(s: &[u8], at: usize) -> ClassRead
     requires { ⌜ at ≤ length (now s) + 2 ⌝ }
     ensures { λ r. ⌜ r ≡ classShown (findClass 12 0 (drop at (now (s .entry)))) ⌝ }
 {

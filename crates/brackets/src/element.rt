@@ -10,18 +10,18 @@ ghost use Prim.Native.Nat.{_+_, _<_, _≤_};
 ghost use lib.Dec.{eqb};
 ghost use lib.ListN.{drop, length};
 ghost use Rattle.brackets.specs.Brackets.{readByte, readClass, readElement, readRange, startsRange};
-ghost use Rattle.brackets.specs.Steps.{elementShown};
+ghost use Rattle.brackets.specs.Promises.{elementShown};
 ghost use Rattle.runs.specs.Keys.{member};
 
 // A byte, a range as its first and last byte, or a class as its place in the tables.
-pub enum Element {
+pub(crate) enum Element {
     Byte(u8),
     Range(u8, u8),
     Class(u8),
 }
 
 // An element and the place behind it.
-pub enum ElementRead {
+pub(crate) enum ElementRead {
     Found(Element, usize),
     Fault,
 }
@@ -119,7 +119,7 @@ fn read_byte(s: &[u8], at: usize, first: bool) -> ElementRead
 }
 
 // The element at a place, the bracket's first or a later one. In it "a `[.` and a `[=` are refused".
-pub fn read_element(s: &[u8], at: usize, first: bool) -> ElementRead
+pub(crate) fn read_element(s: &[u8], at: usize, first: bool) -> ElementRead
     requires { ⌜ at < length (now s) ⌝ }
     ensures { λ r. ⌜ r ≡ elementShown at (readElement first (drop at (now (s .entry)))) ⌝ }
 {

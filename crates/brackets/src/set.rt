@@ -5,17 +5,18 @@ use crate::element::Element;
 ghost use mathlib.Core.Path.{_≡_};
 ghost use Prim.Native.Nat.{_<_};
 ghost use Rattle.brackets.specs.Form.{byte, class, dot, plain, range};
-ghost use Rattle.brackets.specs.Steps.{Known, elementOf, hasKey, keysWith, mapWith, withElement, withKey};
+ghost use Rattle.brackets.specs.Promises.{Known, elementOf, hasKey, withElement, withKey};
+ghost use Rattle.brackets.specs.Answers.{keysWith, mapWith};
 
 // Adds one byte.
-pub fn add_byte(set: &mut [bool; 256], b: u8)
+pub(crate) fn add_byte(set: &mut [bool; 256], b: u8)
     ensures { λ _. ⌜ now (set .exit) ≡ mapWith (withElement (byte b)) 0 (now (set .entry)) ⌝ }
 {
     set[b as usize] = true;
 }
 
 // Adds the bytes from `first` to `last`, both included.
-pub fn add_range(set: &mut [bool; 256], first: u8, last: u8)
+pub(crate) fn add_range(set: &mut [bool; 256], first: u8, last: u8)
     ensures { λ _. ⌜ now (set .exit) ≡ mapWith (withElement (range first last)) 0 (now (set .entry)) ⌝ }
 {
     let end = last as usize;
@@ -27,7 +28,7 @@ pub fn add_range(set: &mut [bool; 256], first: u8, last: u8)
 }
 
 // Adds the bytes of a class.
-pub fn add_class(set: &mut [bool; 256], c: u8)
+pub(crate) fn add_class(set: &mut [bool; 256], c: u8)
     requires { ⌜ c < 12 ⌝ }
     ensures { λ _. ⌜ now (set .exit) ≡ mapWith (withElement (class c)) 0 (now (set .entry)) ⌝ }
 {
@@ -39,7 +40,7 @@ pub fn add_class(set: &mut [bool; 256], c: u8)
 }
 
 // Adds the bytes of an element.
-pub fn add_element(set: &mut [bool; 256], e: Element)
+pub(crate) fn add_element(set: &mut [bool; 256], e: Element)
     requires { ⌜ Known (elementOf e) ⌝ }
     ensures { λ _. ⌜ now (set .exit) ≡ mapWith (withElement (elementOf e)) 0 (now (set .entry)) ⌝ }
 {
@@ -64,32 +65,32 @@ fn has_key(set: &[bool; 256], negated: bool, k: usize) -> bool
     set[k] != negated
 }
 
-// Puts the states of `bit` into the words of the set's keys.
-pub fn store(set: &[bool; 256], negated: bool, bit: u64, keys: &mut [u64; 256])
-    ensures { λ _. ⌜ now (keys .exit) ≡ mapWith (withKey (now (set .entry)) negated bit) 0 (now (keys .entry)) ⌝ }
+// Puts these states into the words of the set's keys.
+pub(crate) fn store(set: &[bool; 256], negated: bool, states: u64, keys: &mut [u64; 256])
+    ensures { λ _. ⌜ now (keys .exit) ≡ mapWith (withKey (now (set .entry)) negated states) 0 (now (keys .entry)) ⌝ }
 {
     let mut k = 0;
     while k < 256 {
         if has_key(set, negated, k) {
-            keys[k] |= bit;
+            keys[k] |= states;
         }
         k += 1;
     }
 }
 
 // The same for the set of one byte.
-pub fn store_key(b: u8, bit: u64, keys: &mut [u64; 256])
-    ensures { λ _. ⌜ now (keys .exit) ≡ keysWith (plain b) bit (now (keys .entry)) ⌝ }
+pub(crate) fn store_key(b: u8, states: u64, keys: &mut [u64; 256])
+    ensures { λ _. ⌜ now (keys .exit) ≡ keysWith (plain b) states (now (keys .entry)) ⌝ }
 {
     let mut set = [false; 256];
     add_byte(&mut set, b);
-    store(&set, false, bit, keys);
+    store(&set, false, states, keys);
 }
 
 // The same for `.`, "every key but LF": all bytes but those of an empty set.
-pub fn store_dot(bit: u64, keys: &mut [u64; 256])
-    ensures { λ _. ⌜ now (keys .exit) ≡ keysWith dot bit (now (keys .entry)) ⌝ }
+pub(crate) fn store_dot(states: u64, keys: &mut [u64; 256])
+    ensures { λ _. ⌜ now (keys .exit) ≡ keysWith dot states (now (keys .entry)) ⌝ }
 {
     let set = [false; 256];
-    store(&set, true, bit, keys);
+    store(&set, true, states, keys);
 }

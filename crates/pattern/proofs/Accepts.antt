@@ -13,7 +13,7 @@ use Rattle.brackets.specs.Brackets.{Parsed, parsed, fault}
 use Rattle.pattern.specs.Reader.{readBranches, accepted, refused, counted, readPattern}
 use Rattle.pattern.proofs.Branches.{branches-from, pattern-back, pattern-clean}
 use Rattle.pattern.specs.Form.{Pattern, writePattern, formedPattern, atomCount}
-use Rattle.runs.specs.Keys.{member, Bytes}
+use Rattle.runs.specs.Keys.{member, Bytes, isLine}
 use Rattle.runs.proofs.Tests.{clash, neither}
 use Rattle.runs.proofs.KeyLaws.{line-of}
 
@@ -25,8 +25,8 @@ one-tree t u h g e = cc (pattern-back t h, pattern-back u g)
 read-back : (t : Pattern) → formedPattern t ≡ true → 1 ≤ length (writePattern t) → length (writePattern t) ≤ 128 → readPattern (writePattern t) ≡ cond (leb (atomCount t) 29) (accepted t) (refused TooManyAtoms)
 unfolding readPattern
 read-back t h low high =
-    let (z, ten) = clean-without (writePattern t) (pattern-clean t h) in
-    rw (le-leb 1 (length (writePattern t)) low, le-leb (length (writePattern t)) 128 high, z, ten, pattern-back t h)
+    let clean = pattern-clean t h in
+    rw (le-leb 1 (length (writePattern t)) low, le-leb (length (writePattern t)) 128 high, clean, pattern-back t h)
 
 -- the bytes of a tree of the form that keep the limits are accepted with that tree
 pub accepted-back : (t : Pattern) → formedPattern t ≡ true → 1 ≤ length (writePattern t) → length (writePattern t) ≤ 128 → atomCount t ≤ 29 → readPattern (writePattern t) ≡ accepted t
@@ -72,51 +72,57 @@ tree-verdict p t low high h w = go (leb (atomCount t) 29) refl
     go false e = many t h w (leb-false (atomCount t) 29 e) (rw e at (tree-read p t low high h w))
 
 -- and so have all bytes of the right length
-verdict : (p : List ℕ) → Bytes p → 1 ≤ length p → length p ≤ 128 → Finding p
+verdict : (p : List ℕ) → 1 ≤ length p → length p ≤ 128 → Finding p
 unfolding readPattern
-verdict p h low high = go (member 0 p || member 10 p) refl
+verdict p low high = go (isLine p) refl
   where
     is-bad : readPattern p ≡ refused PatternSyntax → Finding p
     is-bad e = bad (λ t g w. not-bad p t low high g w e) e
 
-    of-parsed : isLine p ≡ true → member 0 p || member 10 p ≡ false → (r : Parsed Pattern) → readBranches (length p) p ≡ r → Finding p
-    of-parsed clean e (parsed t rest) q = let (w, g) = branches-from (length p) p rest t clean q in tree-verdict p t low high g w
-    of-parsed clean e fault q = is-bad (rw (le-leb 1 (length p) low, le-leb (length p) 128 high, e, q))
+    of-parsed : isLine p ≡ true → (r : Parsed Pattern) → readBranches (length p) p ≡ r → Finding p
+    of-parsed clean (parsed t rest) q = let (w, g) = branches-from (length p) p rest t clean q in tree-verdict p t low high g w
+    of-parsed clean fault q = is-bad (rw (le-leb 1 (length p) low, le-leb (length p) 128 high, clean, q))
 
-    go : (b : Bool) → member 0 p || member 10 p ≡ b → Finding p
-    go true e = is-bad (rw (le-leb 1 (length p) low, le-leb (length p) 128 high, e))
-    go false e =
-        let (z, ten) = neither (member 0 p) (member 10 p) e in
-        of-parsed (line-of p h z ten) e (readBranches (length p) p) refl
+    go : (b : Bool) → isLine p ≡ b → Finding p
+    go true e = of-parsed e (readBranches (length p) p) refl
+    go false e = is-bad (rw (le-leb 1 (length p) low, le-leb (length p) 128 high, e))
+
+-- "1 to 128 bytes"
+abbrev pub RightLength : List ℕ → Type 0
+RightLength p = (1 ≤ length p) × (length p ≤ 128)
+
+-- the tree has the form and is written so
+abbrev pub WritesAs : Pattern → List ℕ → Type 0
+WritesAs t p = (formedPattern t ≡ true) × (writePattern t ≡ p)
 
 -- what is not refused for its length has the right one
-right-length : (p : List ℕ) → (readPattern p ≡ refused PatternLength → ⊥) → (1 ≤ length p) × (length p ≤ 128)
+right-length : (p : List ℕ) → (readPattern p ≡ refused PatternLength → ⊥) → RightLength p
 right-length p h = ⊎-elim (λ (wrong, e). absurd (h e)) (λ right. right) (lengths p)
 
 -- an accepted pattern is written of its tree, which has the form, and keeps the limits
-pub accepted-from : (p : List ℕ) → Bytes p → (t : Pattern) → readPattern p ≡ accepted t → (formedPattern t ≡ true) × (writePattern t ≡ p) × (1 ≤ length p) × (length p ≤ 128) × (atomCount t ≤ 29)
-accepted-from p h t e =
+pub accepted-from : (p : List ℕ) (t : Pattern) → readPattern p ≡ accepted t → WritesAs t p × RightLength p × (atomCount t ≤ 29)
+accepted-from p t e =
     let (low, high) = right-length p (λ f. clash (cc)) in
-    go low high (verdict p h low high)
+    go low high (verdict p low high)
   where
-    go : 1 ≤ length p → length p ≤ 128 → Finding p → (formedPattern t ≡ true) × (writePattern t ≡ p) × (1 ≤ length p) × (length p ≤ 128) × (atomCount t ≤ 29)
+    go : 1 ≤ length p → length p ≤ 128 → Finding p → WritesAs t p × RightLength p × (atomCount t ≤ 29)
     go low high (bad none-of f) = clash (cc)
     go low high (many u g w over f) = clash (cc)
-    go low high (fine u g w few f) = let same : t ≡ u = cc in rw same (g, w, low, high, few)
+    go low high (fine u g w few f) = let same : t ≡ u = cc in rw same ((g, w), (low, high), few)
 
 -- a pattern is accepted with a tree exactly if it is written of the tree, which has the form, and keeps the limits
-pub accepted-iff : (p : List ℕ) → Bytes p → (t : Pattern) → (readPattern p ≡ accepted t) ↔ ((formedPattern t ≡ true) × (writePattern t ≡ p) × (1 ≤ length p) × (length p ≤ 128) × (atomCount t ≤ 29))
-accepted-iff p h t = (λ e. accepted-from p h t e, λ (g, w, low, high, few). rw (← w) (accepted-back t g (rw w low) (rw w high) few))
+pub accepted-iff : (p : List ℕ) (t : Pattern) → (readPattern p ≡ accepted t) ↔ (WritesAs t p × RightLength p × (atomCount t ≤ 29))
+accepted-iff p t = (λ e. accepted-from p t e, λ ((g, w), (low, high), few). rw (← w) (accepted-back t g (rw w low) (rw w high) few))
 
 -- what is counted is not refused for its length
-counted-other : (b : Bool) (r : Parsed Pattern) → cond b (refused PatternSyntax) (counted r) ≡ refused PatternLength → ⊥
-counted-other true r e = clash (cc)
-counted-other false (parsed t l) e = go (leb (atomCount t) 29) e
+counted-other : (b : Bool) (r : Parsed Pattern) → cond b (counted r) (refused PatternSyntax) ≡ refused PatternLength → ⊥
+counted-other false r e = clash (cc)
+counted-other true (parsed t l) e = go (leb (atomCount t) 29) e
   where
     go : (c : Bool) → cond c (accepted t) (refused TooManyAtoms) ≡ refused PatternLength → ⊥
     go true f = clash (cc)
     go false f = clash (cc)
-counted-other false fault e = clash (cc)
+counted-other true fault e = clash (cc)
 
 -- 7: "0 or over 128"
 pub refused-length : (p : List ℕ) → (readPattern p ≡ refused PatternLength) ↔ ((length p ≡ 0) ⊎ (128 < length p))
@@ -124,41 +130,47 @@ unfolding readPattern
 refused-length p = (from, back)
   where
     from : readPattern p ≡ refused PatternLength → (length p ≡ 0) ⊎ (128 < length p)
-    from e = ⊎-elim (λ (wrong, f). wrong) (λ (low, high). absurd (counted-other (member 0 p || member 10 p) (readBranches (length p) p) (rw (le-leb 1 (length p) low, le-leb (length p) 128 high) at e))) (lengths p)
+    from e = ⊎-elim (λ (wrong, f). wrong) (λ (low, high). absurd (counted-other (isLine p) (readBranches (length p) p) (rw (le-leb 1 (length p) low, le-leb (length p) 128 high) at e))) (lengths p)
 
     back : (length p ≡ 0) ⊎ (128 < length p) → readPattern p ≡ refused PatternLength
     back w = ⊎-elim (λ (wrong, e). e) (λ (low, high). absurd (⊎-elim (λ z. omega arith) (λ z. omega arith) w)) (lengths p)
 
 -- 8: "not of the form above"
-pub refused-syntax : (p : List ℕ) → Bytes p → (readPattern p ≡ refused PatternSyntax) ↔ ((1 ≤ length p) × (length p ≤ 128) × ((t : Pattern) → formedPattern t ≡ true → writePattern t ≡ p → ⊥))
-refused-syntax p h = (from, back)
+abbrev pub Formless : List ℕ → Type 0
+Formless p = (t : Pattern) → formedPattern t ≡ true → writePattern t ≡ p → ⊥
+
+pub refused-syntax : (p : List ℕ) → (readPattern p ≡ refused PatternSyntax) ↔ (RightLength p × Formless p)
+refused-syntax p = (from, back)
   where
-    from : readPattern p ≡ refused PatternSyntax → (1 ≤ length p) × (length p ≤ 128) × ((t : Pattern) → formedPattern t ≡ true → writePattern t ≡ p → ⊥)
+    from : readPattern p ≡ refused PatternSyntax → RightLength p × Formless p
     from e =
         let (low, high) = right-length p (λ f. clash (cc)) in
-        (low, high, λ t g w. not-bad p t low high g w e)
+        ((low, high), λ t g w. not-bad p t low high g w e)
 
-    of : ((t : Pattern) → formedPattern t ≡ true → writePattern t ≡ p → ⊥) → Finding p → readPattern p ≡ refused PatternSyntax
+    of : Formless p → Finding p → readPattern p ≡ refused PatternSyntax
     of none-of (bad n f) = f
     of none-of (many t g w over f) = absurd (none-of t g w)
     of none-of (fine t g w few f) = absurd (none-of t g w)
 
-    back : (1 ≤ length p) × (length p ≤ 128) × ((t : Pattern) → formedPattern t ≡ true → writePattern t ≡ p → ⊥) → readPattern p ≡ refused PatternSyntax
-    back (low, high, none-of) = of none-of (verdict p h low high)
+    back : RightLength p × Formless p → readPattern p ≡ refused PatternSyntax
+    back ((low, high), none-of) = of none-of (verdict p low high)
 
 -- 9: "over 29"
-pub refused-atoms : (p : List ℕ) → Bytes p → (readPattern p ≡ refused TooManyAtoms) ↔ ((1 ≤ length p) × (length p ≤ 128) × ((t : Pattern) × (formedPattern t ≡ true) × (writePattern t ≡ p) × (29 < atomCount t)))
-refused-atoms p h = (from, back)
+abbrev pub Overfull : List ℕ → Type 0
+Overfull p = (t : Pattern) × WritesAs t p × (29 < atomCount t)
+
+pub refused-atoms : (p : List ℕ) → (readPattern p ≡ refused TooManyAtoms) ↔ (RightLength p × Overfull p)
+refused-atoms p = (from, back)
   where
-    of : readPattern p ≡ refused TooManyAtoms → Finding p → (t : Pattern) × (formedPattern t ≡ true) × (writePattern t ≡ p) × (29 < atomCount t)
+    of : readPattern p ≡ refused TooManyAtoms → Finding p → Overfull p
     of e (bad n f) = clash (cc)
-    of e (many t g w over f) = (t, g, w, over)
+    of e (many t g w over f) = (t, (g, w), over)
     of e (fine t g w few f) = clash (cc)
 
-    from : readPattern p ≡ refused TooManyAtoms → (1 ≤ length p) × (length p ≤ 128) × ((t : Pattern) × (formedPattern t ≡ true) × (writePattern t ≡ p) × (29 < atomCount t))
+    from : readPattern p ≡ refused TooManyAtoms → RightLength p × Overfull p
     from e =
         let (low, high) = right-length p (λ f. clash (cc)) in
-        (low, high, of e (verdict p h low high))
+        ((low, high), of e (verdict p low high))
 
-    back : (1 ≤ length p) × (length p ≤ 128) × ((t : Pattern) × (formedPattern t ≡ true) × (writePattern t ≡ p) × (29 < atomCount t)) → readPattern p ≡ refused TooManyAtoms
-    back (low, high, (t, g, w, over)) = rw (tree-read p t low high g w, lt-leb (atomCount t) 29 over)
+    back : RightLength p × Overfull p → readPattern p ≡ refused TooManyAtoms
+    back ((low, high), (t, (g, w), over)) = rw (tree-read p t low high g w, lt-leb (atomCount t) 29 over)

@@ -17,9 +17,10 @@ use Rattle.pattern.specs.declared.shape.Shape.{Shape}
 use Rattle.brackets.specs.Brackets.{Parsed, parsed, fault, at}
 use Rattle.pattern.specs.Reader.{Mode, endsPieces, enough, anchored, readRest, readBranch}
 use Rattle.pattern.specs.Cycle.{Ready, Reads}
+use Rattle.pattern.specs.Cycle.{pastByte}
 use Rattle.pattern.specs.Branches.{shapeIn, keysIn, enterIn, EndDone, BranchDone}
 use Rattle.pattern.proofs.Atoms.{inside}
-use Rattle.pattern.proofs.Cycles.{peeked, nonzero, View, view, unread}
+use Rattle.pattern.proofs.Cycles.{peeked, nonzero, View, view, unread, past}
 use Rattle.pattern.specs.Form.{Expr, Branch, atomsIn}
 
 -- pieces, or none, were read up to the cursor d, and an optional `$` stands there
@@ -35,7 +36,7 @@ module _ (s : List ℕ) (c d : Cursor) (start : Bool) (keys keys' enter enter' :
           let i : d .at < length s = inside s (d .at) (nonzero (getD s (d .at) 0) 36 (omega arith) (eqb-true _ _ q)) in
           rw (here, length-drop, length-drop) (omega arith)
 
-      go : (t : Bool) → eqb (getD s (d .at) 0) 36 ≡ t → BranchDone (length s) c keys enter (cond t (BranchRead.Read (record { at = d .at + 1; atoms = d .atoms }) start p true) (BranchRead.Read d start p false)) keys' enter' (cond t (parsed (record { start = start; pieces = e; end = true }) (drop 1 rest)) (parsed (record { start = start; pieces = e; end = false }) rest))
+      go : (t : Bool) → eqb (getD s (d .at) 0) 36 ≡ t → BranchDone (length s) c keys enter (cond t (BranchRead.Read (pastByte d) start p true) (BranchRead.Read d start p false)) keys' enter' (cond t (parsed (record { start = start; pieces = e; end = true }) (drop 1 rest)) (parsed (record { start = start; pieces = e; end = false }) rest))
       go true q = (rw (on q, many, shape), keyed, entered)
       go false q = (rw (next, shape), keyed, entered)
 
@@ -52,15 +53,11 @@ module _ (s : List ℕ) (c : Cursor) (r : Ready s c) (keys enter : List ℕ) (st
         done-end s c c start keys keys enter enter none (drop (c .at) s) (record { nothing = true; first = 0; last = 0 }) (r .inside) refl (rw (length-drop, here, add-zero)) refl refl refl y f in
         rw (front, ← et, ends, a) (rw front at read)
 
-    pub rest-start : start ≡ true → (y : BranchRead) → EndDone s c start (record { nothing = true; first = 0; last = 0 }) y → BranchDone (length s) c keys enter y keys enter (readRest start (drop (c .at) s))
-    rest-start e y f = none-read (rw e) y f
+    pub rest-bare : (start || eqb b 36) ≡ true → (y : BranchRead) → EndDone s c start (record { nothing = true; first = 0; last = 0 }) y → BranchDone (length s) c keys enter y keys enter (readRest start (drop (c .at) s))
+    rest-bare a y f = none-read a y f
 
-    module _ (unstarted : start ≡ false) where
-      pub rest-end : b ≡ 36 → (y : BranchRead) → EndDone s c start (record { nothing = true; first = 0; last = 0 }) y → BranchDone (length s) c keys enter y keys enter (readRest start (drop (c .at) s))
-      rest-end e y f = none-read (rw (unstarted, eq-eqb _ _ e)) y f
-
-      pub rest-none : (b ≡ 36 → ⊥) → BranchDone (length s) c keys enter BranchRead.Fault keys enter (readRest start (drop (c .at) s))
-      rest-none e = rw (front, ← et, ends, unstarted, ne-eqb _ _ e) refl
+    pub rest-none : (start || eqb b 36) ≡ false → BranchDone (length s) c keys enter BranchRead.Fault keys enter (readRest start (drop (c .at) s))
+    rest-none e = rw (front, ← et, ends, e) refl
 
   -- pieces
   module _ (some-piece : t ≡ false) (x : Part) (keys' enter' : List ℕ) (h : Reads Mode.branch s c keys enter x keys' enter') where
@@ -80,14 +77,26 @@ module _ (s : List ℕ) (c : Cursor) (r : Ready s c) (keys enter : List ℕ) (st
 
 -- the optional `^`
 module _ (s : List ℕ) (c : Cursor) (keys keys' enter enter' : List ℕ) (b : ℕ) (eb : b ≡ getD s (c .at) 0) (y : BranchRead) where
-  pub branch-start : b ≡ 94 → BranchDone (length s) (record { at = c .at + 1; atoms = c .atoms }) keys enter y keys' enter' (readRest true (drop (c .at + 1) s)) → BranchDone (length s) c keys enter y keys' enter' (readBranch (drop (c .at) s))
+  pub branch-start : b ≡ 94 → (n : Cursor) → n ≡ pastByte c → BranchDone (length s) n keys enter y keys' enter' (readRest true (drop (n .at) s)) → BranchDone (length s) c keys enter y keys' enter' (readBranch (drop (c .at) s))
   unfolding readBranch
-  branch-start e h = rw (peeked s (c .at) ∙ sym eb, e, drop-drop) (same (readRest true (drop (c .at + 1) s)) h)
+  branch-start e n en h = rw (peeked s (c .at) ∙ sym eb, e, drop-drop) (same (readRest true (drop (c .at + 1) s)) (rw en at h))
     where
-      same : (z : Parsed Branch) → BranchDone (length s) (record { at = c .at + 1; atoms = c .atoms }) keys enter y keys' enter' z → BranchDone (length s) c keys enter y keys' enter' z
+      same : (z : Parsed Branch) → BranchDone (length s) (pastByte c) keys enter y keys' enter' z → BranchDone (length s) c keys enter y keys' enter' z
       same (parsed t rest) k = k
       same fault k = k
 
   pub branch-free : (b ≡ 94 → ⊥) → BranchDone (length s) c keys enter y keys' enter' (readRest false (drop (c .at) s)) → BranchDone (length s) c keys enter y keys' enter' (readBranch (drop (c .at) s))
   unfolding readBranch
   branch-free e h = let front : at 0 (drop (c .at) s) ≡ b = peeked s (c .at) ∙ sym eb in rw (front, ne-eqb _ _ e) (rw front at h)
+
+-- the cursor behind a `^` is ready
+pub start-ready : (s : List ℕ) (c : Cursor) → Ready s c → (b : ℕ) → b ≡ getD s (c .at) 0 → b ≡ 94 → (n : Cursor) → n ≡ pastByte c → Ready s n
+start-ready s c r b eb e n en = rw en (past s c r b eb (nonzero b 94 (omega arith) e))
+
+-- the optional `$`
+module _ (s : List ℕ) (c : Cursor) (start : Bool) (p : Shape) (b : ℕ) (eb : b ≡ getD s (c .at) 0) where
+  pub end-there : b ≡ 36 → (n : Cursor) → n ≡ pastByte c → EndDone s c start p (BranchRead.Read n start p true)
+  end-there e n en = rw (← eb, eq-eqb _ _ e, en)
+
+  pub end-none : (b ≡ 36 → ⊥) → EndDone s c start p (BranchRead.Read c start p false)
+  end-none e = rw (← eb, ne-eqb _ _ e)

@@ -1,5 +1,5 @@
 -- The tables that a whole pattern was read into are those of its tree.
-use Prim.Native.Nat.{ℕ, zero, suc, _+_, _-_, _<_, _≤_}
+use Prim.Native.Nat.{ℕ, zero, suc, _+_, _-_, _%_, _^_, _<_, _≤_}
 use native.Mathlib.Omega.{arith}
 use native.Mathlib.Nat.{zero-add}
 use mathlib.Core.Path.{_≡_, refl, sym, ap, _∙_}
@@ -12,25 +12,27 @@ use lib.ListN.{length, set, replicate}
 use borrow.Author.Tests.{le-leb, lt-ltb, lt-leb}
 use Rattle.refusal.specs.declared.Refusal.the-variants.{PatternSyntax, TooManyAtoms}
 use Rattle.pattern.specs.declared.automaton.Accepting.{Accepting}
-use Rattle.pattern.specs.declared.automaton.Verdict.{Verdict}
+use Rattle.pattern.specs.declared.cursor.Cursor.{Cursor}
 use Rattle.pattern.specs.declared.branch_list.PatternRead.{PatternRead}
 use Rattle.pattern.specs.declared.summary.Summary.{Summary}
 use Rattle.brackets.specs.Brackets.{Parsed, parsed, fault}
-use Rattle.pattern.specs.Reader.{readBranches, counted}
+use Rattle.pattern.specs.Reader.{Read, accepted, refused, readBranches, counted}
 use Rattle.pattern.specs.States.{nothingIn, inPieces, first, last, follow, holds, someBranch, firstInBranch, firstInFree, endsFree, endsAnchored, holdsKey, emptyBranch, emptyFree, atomWord}
 use Rattle.pattern.specs.Tables.{isAtom}
 use Rattle.pattern.specs.Branches.{shapeIn, keysIn, enterIn}
 use Rattle.pattern.specs.Summaries.{branchSummary, summaryOf, through, PatternDone, ReadsBranches}
 use Rattle.pattern.specs.Moves.{enters}
+use Rattle.pattern.specs.Cycle.{Ready}
 use Rattle.refusal.specs.Figures.{answered}
-use Rattle.pattern.specs.Automata.{keyTable, enterTable, accepts, ReadAs, acceptingOf, verdictFigures}
-use Rattle.brackets.specs.Steps.{mapWith}
+use Rattle.pattern.specs.Automata.{keyTable, enterTable, accepts, acceptingOf, refusedPattern, readFigures, keysRead, enterRead}
 use Rattle.brackets.proofs.Entries.{with-same, with-with, with-none}
+use Rattle.pattern.proofs.Moving.{always-word, accepting-word}
 use Rattle.pattern.proofs.Tables.{atoms-none, atoms-same, both-added, added-if}
 use Rattle.pattern.specs.Form.{Expr, Branch, Pattern, atomsIn, atomCount}
 use Rattle.stateset.specs.Tabled.{tabled}
 use Rattle.stateset.proofs.Tabled.{tabled-same}
 use Rattle.runs.proofs.Tests.{clash}
+use Rattle.brackets.specs.Answers.{mapWith}
 
 -- the word of no atom adds nothing
 none-added : (x : ℕ) → bitOr x (atomWord (λ k. false)) ≡ x
@@ -104,7 +106,7 @@ module _ (t : Pattern) where
 
   pub accepts-all : (n : ℕ) → n ≡ atomCount t → acceptingOf (summaryOf 0 t blank) n ≡ accepts t
   unfolding accepts
-  accepts-all n e = rw (all-ends, all-anchored, all-empty, all-jump, e)
+  accepts-all n e = rw (all-ends, all-anchored, all-empty, all-jump, always-word t, accepting-word t, e) refl
 
 -- what the branches add to the entries of a table
 module _ (table : ℕ → Option Expr → List ℕ → List ℕ) (G : ℕ → Expr → ℕ → ℕ → Bool) (one : (b : ℕ) (e : Expr) (l : List ℕ) → table b (some e) l ≡ mapWith (λ q x. bitOr x (atomWord (G b e q))) 0 l) (no : (b : ℕ) (l : List ℕ) → table b none l ≡ l) where
@@ -125,15 +127,15 @@ module _ (table : ℕ → Option Expr → List ℕ → List ℕ) (G : ℕ → Ex
       l
 
 -- tables that begin with 0 everywhere
-filled : (F : ℕ → ℕ) (n i : ℕ) → mapWith (λ q x. bitOr x (F q)) i (replicate n 0) ≡ tabled F n i
+from-zero : (F : ℕ → ℕ) (n i : ℕ) → mapWith (λ q x. bitOr x (F q)) i (replicate n 0) ≡ tabled F n i
 unfolding mapWith tabled
-filled F zero i = refl
-filled F (suc n) i = ap (λ l. F i ∷ l) (filled F n (suc i))
+from-zero F zero i = refl
+from-zero F (suc n) i = ap (λ l. F i ∷ l) (from-zero F n (suc i))
 
 module _ (t : Pattern) where
   pub keys-all : through keysIn 0 t (replicate 256 0) ≡ keyTable t
   unfolding keyTable
-  keys-all = entries keysIn (λ b e c k. holds b e k c) (λ b e l. refl) (λ b l. refl) t 0 (replicate 256 0) ∙ filled (λ c. atomWord (λ k. holdsKey t k c)) 256 0
+  keys-all = entries keysIn (λ b e c k. holds b e k c) (λ b e l. refl) (λ b l. refl) t 0 (replicate 256 0) ∙ from-zero (λ c. atomWord (λ k. holdsKey t k c)) 256 0
 
   -- a state that is found enters nothing, and one of an atom what follows it
   enters-later : (q : ℕ) → 2 ≤ q → q < 32 → atomWord (λ k. someBranch (λ c r. inPieces (λ e. isAtom q && follow c e (q - 3) k) (r .pieces)) 0 t) ≡ atomWord (enters t q)
@@ -165,7 +167,7 @@ module _ (t : Pattern) where
   unfolding enterTable tabled enters
   enter-all =
       let F : ℕ → ℕ = λ q. atomWord (λ k. someBranch (λ c r. inPieces (λ e. isAtom q && follow c e (q - 3) k) (r .pieces)) 0 t) in
-      let whole : through enterIn 0 t (replicate 32 0) ≡ tabled F 32 0 = entries enterIn (λ b e q k. isAtom q && follow b e (q - 3) k) (λ b e l. refl) (λ b l. refl) t 0 (replicate 32 0) ∙ filled F 32 0 in
+      let whole : through enterIn 0 t (replicate 32 0) ≡ tabled F 32 0 = entries enterIn (λ b e q k. isAtom q && follow b e (q - 3) k) (λ b e l. refl) (λ b l. refl) t 0 (replicate 32 0) ∙ from-zero F 32 0 in
       ap (λ (l : List ℕ). set (set l 0 (summaryOf 0 t blank .first)) 1 (summaryOf 0 t blank .free)) whole
       ∙ two (summaryOf 0 t blank .first) (atomWord (enters t 0)) (summaryOf 0 t blank .free) (atomWord (enters t 1)) all-first' all-free' (tabled-same F (λ q. atomWord (enters t q)) 30 2 (λ q g h. enters-later q g h))
     where
@@ -178,38 +180,90 @@ module _ (t : Pattern) where
       all-free' : summaryOf 0 t blank .free ≡ atomWord (enters t 1)
       all-free' = all-free t
 
--- a whole pattern that has no byte 0 or 10
-module _ (s keys enter k e : List ℕ) (x : PatternRead) (h : ReadsBranches s (record { at = 0; atoms = 0 }) blank (replicate 256 0) (replicate 32 0) x k e) where
-  abbrev Answered : Verdict → List ℕ → List ℕ → Type 0
-  Answered v keys' enter' = ReadAs (counted (readBranches (length s) s)) keys enter (verdictFigures v) keys' enter'
+-- the words that a summary comes to, step by step
+pub summed-words : (a : Summary) (n : ℕ) {start found x always y fixed accepting states : ℕ} → start ≡ 2 ^ 0 % 2 ^ 64 → found ≡ 2 ^ 2 % 2 ^ 64 →
+    x ≡ cond (a .jump) start 0 → always ≡ bitOr found x → y ≡ cond (a .empty) start 0 → fixed ≡ bitOr found y → accepting ≡ bitOr fixed (a .anchored) → states ≡ 3 + n →
+    _≡_ {A = Accepting} (record { always = always; ends = a .ends; accepting = accepting; states = states }) (acceptingOf a n)
+summed-words a n s f x w y z v c = rw (c, v, z, y, w, x, f, s) refl
 
-  read : PatternDone (record { at = 0; atoms = 0 }) blank (replicate 256 0) (replicate 32 0) x k e (readBranches (length s) s)
-  read = h (length s) (omega arith)
+-- the cursor at the start is ready where the pattern is
+pub start-ready : (s : List ℕ) (c : Cursor) → c ≡ record { at = 0; atoms = 0 } → Ready s (record { at = 0; atoms = 0 }) → Ready s c
+start-ready s c e r = rw e r
 
-  pub clean-fault : x ≡ PatternRead.Fault → Answered (Verdict.Refused PatternSyntax) keys enter
-  unfolding ReadAs
-  clean-fault f = go (readBranches (length s) s) read
-    where
-      go : (p : Parsed Pattern) → PatternDone (record { at = 0; atoms = 0 }) blank (replicate 256 0) (replicate 32 0) x k e p → ReadAs (counted p) keys enter (verdictFigures (Verdict.Refused PatternSyntax)) keys enter
-      go (parsed t rest) (i, j, l) = clash (cc)
-      go fault i = (refl, refl, refl)
+-- a whole pattern that has no byte 0 or 10, read from its start
+module _ (s keys enter k e : List ℕ) (x : PatternRead) (c : Cursor) (start : c ≡ record { at = 0; atoms = 0 }) (h : ReadsBranches s c blank (replicate 256 0) (replicate 32 0) x k e) where
+  -- what it is
+  abbrev result : Read
+  result = counted (readBranches (length s) s)
+
+  abbrev Done : Parsed Pattern → Type 0
+  Done p = PatternDone (record { at = 0; atoms = 0 }) blank (replicate 256 0) (replicate 32 0) x k e p
+
+  read : Done (readBranches (length s) s)
+  read = rw start at h (length s) (omega arith)
+
+  module _ (f : x ≡ PatternRead.Fault) where
+    faulty : result ≡ refused PatternSyntax
+    faulty = go (readBranches (length s) s) read
+      where
+        go : (p : Parsed Pattern) → Done p → counted p ≡ refused PatternSyntax
+        go (parsed t rest) (i, j, l) = clash (cc)
+        go fault i = refl
+
+    pub fault-figures : refusedPattern PatternSyntax ≡ readFigures result
+    fault-figures = rw faulty refl
+
+    pub fault-keys : keys ≡ keysRead result keys
+    fault-keys = rw faulty refl
+
+    pub fault-enter : enter ≡ enterRead result enter
+    fault-enter = rw faulty refl
 
   module _ (n : ℕ) (a : Summary) (f : x ≡ PatternRead.Read n a) where
-    pub clean-many : 29 < n → Answered (Verdict.Refused TooManyAtoms) keys enter
-    unfolding ReadAs
-    clean-many g = go (readBranches (length s) s) read
-      where
-        go : (p : Parsed Pattern) → PatternDone (record { at = 0; atoms = 0 }) blank (replicate 256 0) (replicate 32 0) x k e p → ReadAs (counted p) keys enter (verdictFigures (Verdict.Refused TooManyAtoms)) keys enter
-        go (parsed t rest) (i, j, l) = let many : n ≡ 0 + atomCount t = cc in rw (lt-leb (atomCount t) 29 (omega arith)) (refl, refl, refl)
-        go fault i = clash (cc)
+    module _ (over : 29 < n) where
+      many : result ≡ refused TooManyAtoms
+      many = go (readBranches (length s) s) read
+        where
+          go : (p : Parsed Pattern) → Done p → counted p ≡ refused TooManyAtoms
+          go (parsed t rest) (i, j, l) = let count : n ≡ 0 + atomCount t = cc in rw (lt-leb (atomCount t) 29 (omega arith)) refl
+          go fault i = clash (cc)
 
-    pub clean-fine : n ≤ 29 → (v : Accepting) → v ≡ acceptingOf a n → Answered (Verdict.Accepted v) k (set (set e 0 (a .first)) 1 (a .free))
-    unfolding ReadAs
-    clean-fine g v ev = go (readBranches (length s) s) read
-      where
-        go : (p : Parsed Pattern) → PatternDone (record { at = 0; atoms = 0 }) blank (replicate 256 0) (replicate 32 0) x k e p → ReadAs (counted p) keys enter (verdictFigures (Verdict.Accepted v)) k (set (set e 0 (a .first)) 1 (a .free))
-        go (parsed t rest) (i, j, l) =
-            let many : n ≡ 0 + atomCount t = cc in
-            let sum : a ≡ summaryOf 0 t blank = cc in
-            rw (le-leb (atomCount t) 29 (omega arith)) (ap (λ (w : Accepting). answered w) (ev ∙ ap (λ (b : Summary). acceptingOf b n) sum ∙ accepts-all t n (many ∙ zero-add (atomCount t))), j ∙ keys-all t, rw (sum, l) (enter-all t))
-        go fault i = clash (cc)
+      pub many-figures : refusedPattern TooManyAtoms ≡ readFigures result
+      many-figures = rw many refl
+
+      pub many-keys : keys ≡ keysRead result keys
+      many-keys = rw many refl
+
+      pub many-enter : enter ≡ enterRead result enter
+      many-enter = rw many refl
+
+    -- an accepted one: its tree, and what was read
+    record Fine : Type 0 where
+      pub tree : Pattern
+      pub reading : result ≡ accepted tree
+      pub count : n ≡ atomCount tree
+      pub sum : a ≡ summaryOf 0 tree blank
+      pub keyed : k ≡ through keysIn 0 tree (replicate 256 0)
+      pub entered : e ≡ through enterIn 0 tree (replicate 32 0)
+
+    module _ (few : n ≤ 29) where
+      fine : Fine
+      fine = go (readBranches (length s) s) refl read
+        where
+          go : (p : Parsed Pattern) → readBranches (length s) s ≡ p → Done p → Fine
+          go (parsed t rest) q (i, j, l) =
+              let count : n ≡ 0 + atomCount t = cc in
+              record { tree = t; reading = rw (q, le-leb (atomCount t) 29 (omega arith)) refl; count = count ∙ zero-add (atomCount t); sum = cc; keyed = j; entered = l }
+          go fault q i = clash (cc)
+
+      pub fine-figures : {v : Accepting} → v ≡ acceptingOf a n → answered v ≡ readFigures result
+      fine-figures {v} g = rw (fine .reading) (ap (λ (w : Accepting). answered w) (g ∙ ap (λ (b : Summary). acceptingOf b n) (fine .sum) ∙ accepts-all (fine .tree) n (fine .count)))
+
+      pub fine-keys : k ≡ keysRead result keys
+      fine-keys = rw (fine .reading) (fine .keyed ∙ keys-all (fine .tree))
+
+      pub fine-enter : {p q : ℕ} → p ≡ 0 → q ≡ 1 → set (set e p (a .first)) q (a .free) ≡ enterRead result enter
+      fine-enter i j = rw (i, j, fine .reading) (table (fine .sum) (fine .entered) ∙ enter-all (fine .tree))
+        where
+          table : {b : Summary} {l : List ℕ} → a ≡ b → e ≡ l → set (set e 0 (a .first)) 1 (a .free) ≡ set (set l 0 (b .first)) 1 (b .free)
+          table g h = rw (g, h) refl

@@ -19,7 +19,7 @@ use Rattle.pattern.specs.declared.shape.Shape.{Shape}
 use Rattle.pattern.specs.declared.summary.Summary.{Summary}
 use Rattle.brackets.specs.Brackets.{Parsed, parsed, fault, at, next, done}
 use Rattle.pattern.specs.Reader.{readBranch, readBranches}
-use Rattle.pattern.specs.Cycle.{Ready}
+use Rattle.pattern.specs.Cycle.{pastByte, Ready}
 use Rattle.pattern.specs.Branches.{shapeIn, keysIn, enterIn, BranchDone}
 use Rattle.pattern.specs.Summaries.{branchSummary, summaryOf, through, PatternDone, ReadsBranches}
 use Rattle.pattern.proofs.Branches.{branch-from}
@@ -121,8 +121,11 @@ module _ (s : List ℕ) (c : Cursor) (r : Ready s c) (keys enter keys' enter' : 
       some-left : length s - c .at ≤ 0 → ⊥
       some-left g = omega (arith, v .on, v .ready .inside)
 
-      pub branches-fits : Fits w64 (d .at + 1)
-      branches-fits = omega (arith, v .ready .inside, v .ready .short)
+      pub branches-at : d .at ≤ 128
+      branches-at = omega (arith, v .ready .inside, v .ready .short)
+
+      pub branches-atoms : d .atoms ≤ 128
+      branches-atoms = omega (arith, v .ready .few, branches-at)
 
       pub branches-end : b ≡ 0 → ReadsBranches s c a keys enter (PatternRead.Read (d .atoms) sum) keys' enter'
       unfolding summaryOf through atomCount
@@ -133,28 +136,31 @@ module _ (s : List ℕ) (c : Cursor) (r : Ready s c) (keys enter keys' enter' : 
       branches-other m n zero g = absurd (some-left g)
       branches-other m n (suc f) g = rw (step f, ne-eqb _ _ m, ne-eqb _ _ n) refl
 
-      module _ (n : b ≡ 124) where
-        pub branches-ready : Ready s (record { at = d .at + 1; atoms = d .atoms })
-        branches-ready = past s d (v .ready) b eb (nonzero b 124 (omega arith) n)
+      module _ (n : b ≡ 124) (m : Cursor) (em : m ≡ pastByte d) where
+        on-ready : Ready s (pastByte d)
+        on-ready = past s d (v .ready) b eb (nonzero b 124 (omega arith) n)
+
+        pub branches-ready : Ready s m
+        branches-ready = rw em on-ready
 
         -- fewer bytes are left behind the bar
         fewer : length s - (d .at + 1) < length s - c .at
-        fewer = omega (arith, v .on, branches-ready .inside)
+        fewer = omega (arith, v .on, on-ready .inside)
 
-        pub branches-falls : (t : ℕ) → length s - c .at ≡ t → length s - (d .at + 1) < t
-        branches-falls t h = omega (arith, fewer)
+        pub branches-falls : (t : ℕ) → length s - c .at ≡ t → length s - m .at < t
+        branches-falls t h = omega (arith, fewer, ap (λ (z : Cursor). z .at) em)
 
-        pub branches-more : (y : PatternRead) (keys'' enter'' : List ℕ) → ReadsBranches s (record { at = d .at + 1; atoms = d .atoms }) sum keys' enter' y keys'' enter'' → ReadsBranches s c a keys enter y keys'' enter''
+        pub branches-more : (y : PatternRead) (keys'' enter'' : List ℕ) → ReadsBranches s m sum keys' enter' y keys'' enter'' → ReadsBranches s c a keys enter y keys'' enter''
         unfolding summaryOf through atomCount
         branches-more y keys'' enter'' g zero k = absurd (some-left k)
         branches-more y keys'' enter'' g (suc f) k =
             rw (step f, ne-eqb _ _ (nonzero b 124 (omega arith) n), eq-eqb _ _ n, ap (drop 1) (v .here) ∙ drop-drop 1 (d .at) s)
-            (go (readBranches f (drop (d .at + 1) s)) (g f (omega (arith, fewer))))
+            (go (readBranches f (drop (d .at + 1) s)) (rw em at g f (omega (arith, fewer))))
           where
             later : {A B : Type 0} {a b : A} (f : ℕ → A → B) → a ≡ b → f (d .atoms) a ≡ f (c .atoms + atomsIn (v .tree .pieces)) b
             later {a = a} f e = ap (λ (n : ℕ). f n a) (v .next) ∙ ap (f (c .atoms + atomsIn (v .tree .pieces))) e
 
-            go : (z : Parsed Pattern) → PatternDone (record { at = d .at + 1; atoms = d .atoms }) sum keys' enter' y keys'' enter'' z → PatternDone c a keys enter y keys'' enter'' (next z (λ ts. done (v .tree ∷ ts)))
+            go : (z : Parsed Pattern) → PatternDone (pastByte d) sum keys' enter' y keys'' enter'' z → PatternDone c a keys enter y keys'' enter'' (next z (λ ts. done (v .tree ∷ ts)))
             go (parsed ts rest) (i, j, k) = (
               i ∙ same-answer (ap (λ (n : ℕ). n + atomCount ts) (v .next) ∙ add-assoc (c .atoms) (atomsIn (v .tree .pieces)) (atomCount ts)) (later (λ n a. summaryOf n ts a) whole),
               j ∙ later (λ n l. through keysIn n ts l) (v .keyed),

@@ -13,9 +13,9 @@ use Rattle.brackets.proofs.Parses.{same-parsed, test-parsed, next-parsed, made-
 use Rattle.pattern.proofs.TreesFrom.{expr-from}
 use Rattle.pattern.proofs.TreesBack.{expr-starts, expr-long, expr-back, expr-clean}
 use Rattle.pattern.specs.Form.{Expr, Branch, Pattern, write, writePieces, writeBranch, writePattern, formedPieces, formedBranch, formedBranches, formedPattern}
-use Rattle.runs.specs.Keys.{lineKey}
+use Rattle.runs.specs.Keys.{lineKey, isLine}
 use Rattle.runs.proofs.Tests.{clash, and-parts}
-use Rattle.runs.proofs.KeyLaws.{line-after, line-drop, line-append}
+use Rattle.runs.proofs.KeyLaws.{line-after, line-drop, line-append, line-cons}
 
 -- From the bytes.
 
@@ -184,21 +184,21 @@ unfolding writeBranch formedBranch
 branch-clean b h = line-append (mark 94 (b .start)) _ (anchor 94 (b .start) refl) (line-append (writePieces (b .pieces)) (mark 36 (b .end)) (inside (b .pieces) h) (anchor 36 (b .end) refl))
   where
     anchor : (c : ℕ) (t : Bool) → lineKey c ≡ true → isLine (mark c t) ≡ true
-    anchor c true g = (g, tt)
-    anchor c false g = tt
+    anchor c true g = line-cons c [] g refl
+    anchor c false g = refl
 
     inside : (p : Option Expr) → formedPieces (b .start || b .end) p ≡ true → isLine (writePieces p) ≡ true
-    inside none g = tt
+    inside none g = refl
     inside (some e) g = expr-clean e 2 g
 
 -- and so is a pattern
 branches-clean : (t : Pattern) → formedBranches t ≡ true → isLine (writePattern t) ≡ true
 unfolding writePattern formedBranches
-branches-clean [] h = tt
+branches-clean [] h = refl
 branches-clean (b ∷ []) h = branch-clean b (and-parts (formedBranch b) true h .0)
 branches-clean (b ∷ c ∷ bs) h =
     let (one, others) = and-parts (formedBranch b) (formedBranches (c ∷ bs)) h in
-    line-append (writeBranch b) (124 ∷ writePattern (c ∷ bs)) (branch-clean b one) (refl, branches-clean (c ∷ bs) others)
+    line-append (writeBranch b) (124 ∷ writePattern (c ∷ bs)) (branch-clean b one) (branches-clean (c ∷ bs) others)
 
 -- the same for a pattern of at least one branch
 pub pattern-clean : (t : Pattern) → formedPattern t ≡ true → isLine (writePattern t) ≡ true

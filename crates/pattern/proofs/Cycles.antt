@@ -18,14 +18,15 @@ use Rattle.brackets.specs.Brackets.{Parsed, parsed, fault, next, done, at, read
 use Rattle.pattern.specs.Reader.{Mode, endsPieces, readRepeat, readExpr}
 use Rattle.pattern.specs.States.{nothing, first, last, follow, holds, atomState}
 use Rattle.pattern.specs.Tables.{keysAfter, enterAfter, linked, shapeOf, seqShape, altShape}
-use Rattle.pattern.specs.Cycle.{Ready, Done, room, Reads, AtomDone, repeatShape, repeatEnter, repeatAt}
-use Rattle.pattern.proofs.TreesFrom.{expr-from, inner-group}
+use Rattle.pattern.specs.Cycle.{pastByte, Ready, Done, room, Reads, AtomDone, repeatShape, repeatEnter, repeatAt}
+use Rattle.pattern.proofs.TreesFrom.{expr-from, group-group}
 use Rattle.pattern.proofs.Atoms.{inside}
 use Rattle.pattern.proofs.Tables.{keys-seq, keys-alt, enter-seq, enter-alt, enter-again, enter-atom, first-seq, last-seq, first-alt, last-alt}
 use Rattle.pattern.specs.Form.{Expr, atom, group, star, plus, opt, seq, alt, atoms, write}
 use Rattle.runs.proofs.Tests.{clash}
 use Rattle.runs.proofs.KeyLaws.{line-drop}
 use Rattle.brackets.proofs.AtomsFrom.{atom-from}
+use Rattle.runs.specs.Keys.{isLine}
 
 -- an expression has an atom, and each atom has a byte
 pub atoms-some : (e : Expr) → 1 ≤ atoms e
@@ -62,9 +63,9 @@ atoms-written (alt p q) =
     rw length-append (omega arith)
 
 -- the bytes that an expression was read from; those of a group stand behind its parenthesis
-inner-bytes : (x e : Expr) (l rest : List ℕ) → e ≡ group x → 40 ∷ l ≡ write e ++ rest → (w : List ℕ) × (l ≡ w ++ rest) × (atoms e ≤ length w)
+group-bytes : (x e : Expr) (l rest : List ℕ) → e ≡ group x → 40 ∷ l ≡ write e ++ rest → (w : List ℕ) × (l ≡ w ++ rest) × (atoms e ≤ length w)
 unfolding write atoms
-inner-bytes x e l rest same h =
+group-bytes x e l rest same h =
     let all : 40 ∷ l ≡ 40 ∷ ((write x ++ (41 ∷ [])) ++ rest) = rw same at h in
     let many : atoms x ≤ length (write x) = atoms-written x in
     (write x ++ (41 ∷ []), cc, rw (same, length-append) (omega arith))
@@ -73,9 +74,9 @@ bytes-of : (f : ℕ) (m : Mode) (l rest : List ℕ) (e : Expr) → isLine l ≡ 
 bytes-of f Mode.alts l rest e h q = (write e, expr-from f Mode.alts l rest e h q .0, atoms-written e)
 bytes-of f Mode.branch l rest e h q = (write e, expr-from f Mode.branch l rest e h q .0, atoms-written e)
 bytes-of f Mode.piece l rest e h q = (write e, expr-from f Mode.piece l rest e h q .0, atoms-written e)
-bytes-of f Mode.inner l rest e h q =
-    let (x, same) = inner-group f l rest e q in
-    inner-bytes x e l rest same (expr-from f Mode.inner l rest e h q .0)
+bytes-of f Mode.group l rest e h q =
+    let (x, same) = group-group f l rest e q in
+    group-bytes x e l rest same (expr-from f Mode.group l rest e h q .0)
 
 -- what was read, and where reading goes on: behind it, inside, with no more atoms than bytes
 pub record Behind (s : List ℕ) (c d : Cursor) (e : Expr) (rest : List ℕ) : Type 0 where
@@ -137,7 +138,7 @@ room-some : (m : Mode) (k : ℕ) → 1 ≤ room m k
 room-some Mode.alts k = omega arith
 room-some Mode.branch k = omega arith
 room-some Mode.piece k = omega arith
-room-some Mode.inner k = omega arith
+room-some Mode.group k = omega arith
 
 deeper : (m : Mode) (s : List ℕ) (c : Cursor) (keys enter : List ℕ) (x : Part) (keys' enter' : List ℕ) → ((k : ℕ) → room m (length s - c .at) ≤ suc k → Done (length s) c keys enter x keys' enter' (readExpr (suc k) m (drop (c .at) s))) → Reads m s c keys enter x keys' enter'
 deeper m s c keys enter x keys' enter' h zero g = absurd (never (room-some m (length s - c .at)) g)
@@ -150,7 +151,7 @@ pub nonzero : (b n : ℕ) → 1 ≤ n → b ≡ n → b ≡ 0 → ⊥
 nonzero b n h e z = omega arith
 
 -- a cursor one byte on, where a byte stands
-pub past : (s : List ℕ) (d : Cursor) → Ready s d → (b : ℕ) → b ≡ getD s (d .at) 0 → (b ≡ 0 → ⊥) → Ready s (record { at = d .at + 1; atoms = d .atoms })
+pub past : (s : List ℕ) (d : Cursor) → Ready s d → (b : ℕ) → b ≡ getD s (d .at) 0 → (b ≡ 0 → ⊥) → Ready s (pastByte d)
 past s d r b e n =
     let i : d .at < length s = inside s (d .at) (λ z. n (e ∙ z)) in
     record { inside = omega arith; short = r .short; few = omega (arith, r .few); clean = r .clean }
@@ -208,7 +209,10 @@ module _ (s : List ℕ) (c : Cursor) (r : Ready s c) (keys enter : List ℕ) whe
           go : (k : ℕ) (v : View s c r Mode.branch keys enter d p keys' enter' k) → Done (length s) c keys enter (Part.Read d p) keys' enter' (readExpr (suc k) Mode.alts (drop (c .at) s))
           go k v = rw (v .reading, byte Mode.branch d p keys' enter' k v b eb, ne-eqb _ _ n) (answer Mode.branch d p keys' enter' k v)
 
-      module _ (y : Part) (keys'' enter'' : List ℕ) (h2 : Reads Mode.alts s (record { at = d .at + 1; atoms = d .atoms }) keys' enter' y keys'' enter'') (bar : b ≡ 124) where
+      module _ (n : Cursor) (y : Part) (keys'' enter'' : List ℕ) (hn : Reads Mode.alts s n keys' enter' y keys'' enter'') (en : n ≡ pastByte d) (bar : b ≡ 124) where
+        h2 : Reads Mode.alts s (pastByte d) keys' enter' y keys'' enter''
+        h2 = rw en at hn
+
         pub alts-more-fault : y ≡ Part.Fault → Reads Mode.alts s c keys enter Part.Fault keys'' enter''
         unfolding readExpr
         alts-more-fault f = deeper Mode.alts s c keys enter Part.Fault keys'' enter'' (λ k g. go k g (view s c r Mode.branch keys enter x keys' enter' h d p e k (omega arith)))
@@ -216,14 +220,14 @@ module _ (s : List ℕ) (c : Cursor) (r : Ready s c) (keys enter : List ℕ) whe
             go : (k : ℕ) → room Mode.alts (length s - c .at) ≤ suc k → (v : View s c r Mode.branch keys enter d p keys' enter' k) → Done (length s) c keys enter Part.Fault keys'' enter'' (readExpr (suc k) Mode.alts (drop (c .at) s))
             go k g v =
                 let r2 = past s d (v .behind-it .ready) b eb (nonzero b 124 (omega arith) bar) in
-                rw (v .reading, byte Mode.branch d p keys' enter' k v b eb, bar, skipped s c d (v .expr) (v .rest) (v .behind-it), unread s (record { at = d .at + 1; atoms = d .atoms }) r2 Mode.alts keys' enter' y keys'' enter'' h2 f k (omega (arith, v .behind-it .on, r2 .inside))) refl
+                rw (v .reading, byte Mode.branch d p keys' enter' k v b eb, bar, skipped s c d (v .expr) (v .rest) (v .behind-it), unread s (pastByte d) r2 Mode.alts keys' enter' y keys'' enter'' h2 f k (omega (arith, v .behind-it .on, r2 .inside))) refl
 
         pub alts-more : (d2 : Cursor) (p2 q : Shape) → y ≡ Part.Read d2 p2 → q ≡ altShape p p2 → Reads Mode.alts s c keys enter (Part.Read d2 q) keys'' enter''
         unfolding readExpr
         alts-more d2 p2 q f g = deeper Mode.alts s c keys enter (Part.Read d2 q) keys'' enter'' (λ k i. go k i (view s c r Mode.branch keys enter x keys' enter' h d p e k (omega arith)))
           where
             c2 : Cursor
-            c2 = record { at = d .at + 1; atoms = d .atoms }
+            c2 = pastByte d
 
             both : (k : ℕ) (v : View s c r Mode.branch keys enter d p keys' enter' k) (r2 : Ready s c2) → View s c2 r2 Mode.alts keys' enter' d2 p2 keys'' enter'' k → Done (length s) c keys enter (Part.Read d2 q) keys'' enter'' (readExpr (suc k) Mode.alts (drop (c .at) s))
             both k v r2 w =
@@ -272,28 +276,31 @@ module _ (s : List ℕ) (c : Cursor) (r : Ready s c) (keys enter : List ℕ) whe
 
   -- a group behind its parenthesis
   module _ (x : Part) (keys' enter' : List ℕ) (h : Reads Mode.alts s c keys enter x keys' enter') where
-    pub group-fault : x ≡ Part.Fault → Reads Mode.inner s c keys enter Part.Fault keys' enter'
+    pub group-fault : x ≡ Part.Fault → Reads Mode.group s c keys enter Part.Fault keys' enter'
     unfolding readExpr
-    group-fault e = deeper Mode.inner s c keys enter Part.Fault keys' enter' (λ k g. rw (unread s c r Mode.alts keys enter x keys' enter' h e k (omega arith)) refl)
+    group-fault e = deeper Mode.group s c keys enter Part.Fault keys' enter' (λ k g. rw (unread s c r Mode.alts keys enter x keys' enter' h e k (omega arith)) refl)
 
     module _ (d : Cursor) (p : Shape) (e : x ≡ Part.Read d p) (b : ℕ) (eb : b ≡ getD s (d .at) 0) where
-      pub group-open : (b ≡ 41 → ⊥) → Reads Mode.inner s c keys enter Part.Fault keys' enter'
+      pub group-open : (b ≡ 41 → ⊥) → Reads Mode.group s c keys enter Part.Fault keys' enter'
       unfolding readExpr
-      group-open n = deeper Mode.inner s c keys enter Part.Fault keys' enter' (λ k g. go k (view s c r Mode.alts keys enter x keys' enter' h d p e k (omega arith)))
+      group-open n = deeper Mode.group s c keys enter Part.Fault keys' enter' (λ k g. go k (view s c r Mode.alts keys enter x keys' enter' h d p e k (omega arith)))
         where
-          go : (k : ℕ) (v : View s c r Mode.alts keys enter d p keys' enter' k) → Done (length s) c keys enter Part.Fault keys' enter' (readExpr (suc k) Mode.inner (drop (c .at) s))
+          go : (k : ℕ) (v : View s c r Mode.alts keys enter d p keys' enter' k) → Done (length s) c keys enter Part.Fault keys' enter' (readExpr (suc k) Mode.group (drop (c .at) s))
           go k v = rw (v .reading, byte Mode.alts d p keys' enter' k v b eb, ne-eqb _ _ n) refl
 
-      pub group-closed : b ≡ 41 → Reads Mode.inner s c keys enter (Part.Read (record { at = d .at + 1; atoms = d .atoms }) p) keys' enter'
+      closed : b ≡ 41 → Reads Mode.group s c keys enter (Part.Read (pastByte d) p) keys' enter'
       unfolding readExpr atoms nothing first last follow holds
-      group-closed n = deeper Mode.inner s c keys enter (Part.Read (record { at = d .at + 1; atoms = d .atoms }) p) keys' enter' (λ k g. go k (view s c r Mode.alts keys enter x keys' enter' h d p e k (omega arith)))
+      closed n = deeper Mode.group s c keys enter (Part.Read (pastByte d) p) keys' enter' (λ k g. go k (view s c r Mode.alts keys enter x keys' enter' h d p e k (omega arith)))
         where
-          go : (k : ℕ) (v : View s c r Mode.alts keys enter d p keys' enter' k) → Done (length s) c keys enter (Part.Read (record { at = d .at + 1; atoms = d .atoms }) p) keys' enter' (readExpr (suc k) Mode.inner (drop (c .at) s))
+          go : (k : ℕ) (v : View s c r Mode.alts keys enter d p keys' enter' k) → Done (length s) c keys enter (Part.Read (pastByte d) p) keys' enter' (readExpr (suc k) Mode.group (drop (c .at) s))
           go k v =
               let r2 = past s d (v .behind-it .ready) b eb (nonzero b 41 (omega arith) n) in
               let place : d .at + 1 ≡ length s - length (drop 1 (v .rest)) = rw (skipped s c d (v .expr) (v .rest) (v .behind-it), length-drop) (omega (arith, r2 .inside)) in
               let many : d .atoms ≡ c .atoms + atoms (v .expr) = ap (λ (z : Cursor). z .atoms) (v .behind-it .next) in
               rw (v .reading, byte Mode.alts d p keys' enter' k v b eb, n) (cc (place, many, v .shape), v .keyed, v .entered)
+
+      pub group-closed : (n : Cursor) → n ≡ pastByte d → b ≡ 41 → Reads Mode.group s c keys enter (Part.Read n p) keys' enter'
+      group-closed n en h = rw en (closed h)
 
 -- an atom or a group was read, and a mark of repetition m or none stands behind it
 module _ (s : List ℕ) (c d : Cursor) (keys keys' enter enter' : List ℕ) (e : Expr) (rest : List ℕ) (p : Shape) (m : ℕ) (em : m ≡ getD s (d .at) 0) (in-s : d .at ≤ length s) (here : rest ≡ drop (d .at) s) (next : d ≡ record { at = length s - length rest; atoms = c .atoms + atoms e }) (shape : p ≡ shapeOf (c .atoms) e) (keyed : keys' ≡ keysAfter (c .atoms) e keys) (entered : enter' ≡ enterAfter (c .atoms) e enter) where
@@ -327,19 +334,22 @@ module _ (s : List ℕ) (c : Cursor) (r : Ready s c) (keys enter : List ℕ) (b 
   opened = peeked s (c .at) ∙ sym eb
 
   -- a piece that is a group
-  module _ (paren : b ≡ 40) (x : Part) (keys' enter' : List ℕ) (h : Reads Mode.inner s (record { at = c .at + 1; atoms = c .atoms }) keys enter x keys' enter') where
-    r2 : Ready s (record { at = c .at + 1; atoms = c .atoms })
+  module _ (paren : b ≡ 40) (n : Cursor) (en : n ≡ pastByte c) (x : Part) (keys' enter' : List ℕ) (hn : Reads Mode.group s n keys enter x keys' enter') where
+    h : Reads Mode.group s (pastByte c) keys enter x keys' enter'
+    h = rw en at hn
+
+    r2 : Ready s (pastByte c)
     r2 = past s c r b eb (nonzero b 40 (omega arith) paren)
 
     pub piece-fault : x ≡ Part.Fault → Reads Mode.piece s c keys enter Part.Fault keys' enter'
     unfolding readExpr
-    piece-fault e = deeper Mode.piece s c keys enter Part.Fault keys' enter' (λ k g. rw (opened, paren, drop-drop 1 (c .at) s, unread s (record { at = c .at + 1; atoms = c .atoms }) r2 Mode.inner keys enter x keys' enter' h e k (omega (arith, r2 .inside))) refl)
+    piece-fault e = deeper Mode.piece s c keys enter Part.Fault keys' enter' (λ k g. rw (opened, paren, drop-drop 1 (c .at) s, unread s (pastByte c) r2 Mode.group keys enter x keys' enter' h e k (omega (arith, r2 .inside))) refl)
 
     pub piece-group : (d : Cursor) (p : Shape) (m : ℕ) (y : Part) (after : List ℕ) → x ≡ Part.Read d p → m ≡ getD s (d .at) 0 → y ≡ Part.Read (record { at = repeatAt m (d .at); atoms = d .atoms }) (repeatShape m p) → after ≡ repeatEnter m p enter' → Reads Mode.piece s c keys enter y keys' after
     unfolding readExpr
-    piece-group d p m y after e em ey ea = deeper Mode.piece s c keys enter y keys' after (λ k g. go k (view s (record { at = c .at + 1; atoms = c .atoms }) r2 Mode.inner keys enter x keys' enter' h d p e k (omega (arith, r2 .inside))))
+    piece-group d p m y after e em ey ea = deeper Mode.piece s c keys enter y keys' after (λ k g. go k (view s (pastByte c) r2 Mode.group keys enter x keys' enter' h d p e k (omega (arith, r2 .inside))))
       where
-        go : (k : ℕ) (v : View s (record { at = c .at + 1; atoms = c .atoms }) r2 Mode.inner keys enter d p keys' enter' k) → Done (length s) c keys enter y keys' after (readExpr (suc k) Mode.piece (drop (c .at) s))
+        go : (k : ℕ) (v : View s (pastByte c) r2 Mode.group keys enter d p keys' enter' k) → Done (length s) c keys enter y keys' after (readExpr (suc k) Mode.piece (drop (c .at) s))
         go k v =
             rw (opened, paren, drop-drop 1 (c .at) s, v .reading)
             (done-repeat s c d keys keys' enter enter' (v .expr) (v .rest) p m em (v .behind-it .ready .inside) (v .behind-it .here) (v .behind-it .next) (v .shape) (v .keyed) (v .entered) y after ey ea)
@@ -379,9 +389,49 @@ module _ (s : List ℕ) (c : Cursor) (r : Ready s c) (m : Mode) (keys enter : Li
   pub read-small : p .last < 2 ^ 32
   read-small = rw (seen .shape) (word-lt 32 (λ q. atomState (last (c .atoms) (seen .expr)) q))
 
-  module _ (b : ℕ) (eb : b ≡ getD s (d .at) 0) (n : ℕ) (some : 1 ≤ n) (eq : b ≡ n) where
-    pub read-past : Ready s (record { at = d .at + 1; atoms = d .atoms })
-    read-past = past s d read-ready b eb (nonzero b n some eq)
+  pub read-at : d .at ≤ 128
+  read-at = omega (arith, read-ready .inside, read-ready .short)
+
+  pub read-atoms : d .atoms ≤ 128
+  read-atoms = omega (arith, read-ready .few, read-at)
+
+  -- on with the pieces of a branch
+  pub on-falls : (t : ℕ) → room Mode.branch (length s - c .at) ≡ t → room Mode.branch (length s - d .at) < t
+  on-falls t h = omega (arith, read-later, read-ready .inside)
+
+  -- behind a bar
+  module _ (b : ℕ) (eb : b ≡ getD s (d .at) 0) (bar : b ≡ 124) (n : Cursor) (en : n ≡ pastByte d) where
+    pub bar-ready : Ready s n
+    bar-ready = rw en (past s d read-ready b eb (nonzero b 124 (omega arith) bar))
+
+    pub bar-falls : (t : ℕ) → room Mode.alts (length s - c .at) ≡ t → room Mode.alts (length s - n .at) < t
+    bar-falls t h = omega (arith, read-later, bar-ready .inside, ap (λ (z : Cursor). z .at) en)
+
+-- a cursor that is ready, and one behind a parenthesis
+module _ (s : List ℕ) (c : Cursor) (r : Ready s c) where
+  pub ready-short : length s ≤ 128
+  ready-short = r .short
+
+  pub ready-at : c .at ≤ 128
+  ready-at = omega (arith, r .inside, r .short)
+
+  pub ready-atoms : c .atoms ≤ 128
+  ready-atoms = omega (arith, r .few, ready-at)
+
+  module _ (b : ℕ) (eb : b ≡ getD s (c .at) 0) (paren : b ≡ 40) (n : Cursor) (en : n ≡ pastByte c) where
+    pub paren-ready : Ready s n
+    paren-ready = rw en (past s c r b eb (nonzero b 40 (omega arith) paren))
+
+    pub paren-falls : (t : ℕ) → room Mode.piece (length s - c .at) ≡ t → room Mode.group (length s - n .at) < t
+    paren-falls t h = omega (arith, paren-ready .inside, ap (λ (z : Cursor). z .at) en)
+
+    -- the group that was read
+    module _ (keys enter : List ℕ) (x : Part) (keys' enter' : List ℕ) (h : Reads Mode.group s n keys enter x keys' enter') (d : Cursor) (p : Shape) (e : x ≡ Part.Read d p) where
+      pub group-ready : Ready s d
+      group-ready = read-ready s n paren-ready Mode.group keys enter x keys' enter' h d p e
+
+      pub group-small : p .last < 2 ^ 32
+      group-small = read-small s n paren-ready Mode.group keys enter x keys' enter' h d p e
 
 -- an atom leaves a cursor that is ready, and a small word
 module _ (s : List ℕ) (c : Cursor) (r : Ready s c) (keys keys' : List ℕ) (x : Part) (h : AtomDone (length s) c keys x keys' (readAtom (drop (c .at) s))) (d : Cursor) (p : Shape) (e : x ≡ Part.Read d p) where

@@ -7,23 +7,19 @@ use lib.Dec.{leb, eqb, eqb·zero-suc, eqb·suc-zero, eqb·suc-suc}
 use lib.ListN.{getD}
 use lib.Bits.{bitAnd, bitOr, or-lt}
 use borrow.Author.Tests.{leb-true, le-leb}
-use Rattle.stateset.specs.Set.{bit, word, anyBelow, imageOf}
-use Rattle.stateset.proofs.Sets.{word-lt, word-high, word-unique, bit-word, bit-or, bit-one, bit-chosen}
+use Rattle.stateset.specs.Set.{bit, word, anyBelow, common, imageOf}
+use Rattle.stateset.proofs.Sets.{word-lt, word-high, word-unique, word-one, word-or, word-ext, bit-word, bit-or, bit-one, bit-chosen}
 use Rattle.stateset.proofs.Some.{any-some, any-witness, any-ext, any-none, any-widen, any-or, any-through}
 use Rattle.pattern.specs.States.{endsFree, endsAnchored, emptyBranch, emptyFree, atomState, atomWord, holdsKey}
 use Rattle.pattern.specs.Moves.{into, intoEnd, jumps, target, move, accepting}
-use Rattle.pattern.specs.Automata.{keyTable, enterTable, accepts}
+use Rattle.pattern.specs.Automata.{keyTable, enterTable}
 use Rattle.pattern.proofs.Lookups.{entered-lt, entered-bit}
 use Rattle.pattern.proofs.AcceptedLines.{holds-below}
 use Rattle.runs.proofs.Tests.{and-both, and-fst, and-snd, tests-ext}
 use Rattle.pattern.specs.Form.{Pattern, atomCount}
 use Rattle.runs.specs.Keys.{lineKey}
 
--- whether two sets have a member in common
-abbrev pub common : ℕ → ℕ → Bool
-common a b = anyBelow 64 (λ p. bit a p && bit b p)
-
-common-word : (x : ℕ) (X : ℕ → Bool) → common x (word 32 X) ≡ anyBelow 32 (λ q. bit x q && X q)
+common-word : (x : ℕ) (X : ℕ → Bool) → common 64 x (word 32 X) ≡ anyBelow 32 (λ q. bit x q && X q)
 common-word x X =
     any-widen 32 64 (λ q. bit x q && bit (word 32 X) q) (omega arith) (λ q h. rw (word-high 32 X q h) (and-false (bit x q)))
     ∙ any-ext 32 (λ q. bit x q && bit (word 32 X) q) (λ q. bit x q && X q) (λ q h. ap (λ (b : Bool). bit x q && b) (bit-word 32 X q h))
@@ -31,6 +27,19 @@ common-word x X =
 -- the states that every key leads to found
 abbrev pub alwaysWord : Pattern → ℕ
 alwaysWord t = word 32 (λ q. eqb q 2 || jumps t q)
+
+-- line-start and mid-line
+fixed-two : bitOr 1 2 ≡ word 32 (λ q. eqb q 0 || eqb q 1)
+fixed-two =
+    ap (λ (n : ℕ). bitOr n 2) (word-one 32 0 (omega arith))
+    ∙ ap (bitOr (word 32 (λ p. eqb 0 p))) (word-one 32 1 (omega arith))
+    ∙ word-or 32 (λ p. eqb 0 p) (λ p. eqb 1 p)
+    ∙ word-ext 32 (λ p. eqb 0 p || eqb 1 p) (λ q. eqb q 0 || eqb q 1) (λ p h. go p)
+  where
+    go : (p : ℕ) → (eqb 0 p || eqb 1 p) ≡ (eqb p 0 || eqb p 1)
+    go zero = refl
+    go (suc zero) = refl
+    go (suc (suc p)) = rw (eqb·zero-suc, eqb·suc-suc, eqb·zero-suc, eqb·suc-zero, eqb·suc-suc, eqb·suc-zero) refl
 
 -- a key of a line is a byte
 pub key-byte : (c : ℕ) → lineKey c ≡ true → c < 256
@@ -73,13 +82,13 @@ module _ (t : Pattern) (few : atomCount t ≤ 29) (x c : ℕ) (l : lineKey c ≡
   from X = anyBelow 32 (λ q. bit x q && X q)
 
   abbrev moving : Bool
-  moving = common x 3
+  moving = common 64 x (bitOr 1 2)
 
   abbrev always : Bool
-  always = common x (alwaysWord t)
+  always = common 64 x (alwaysWord t)
 
   abbrev ending : Bool
-  ending = common entered (atomWord (endsFree t))
+  ending = common 64 entered (atomWord (endsFree t))
 
   from-none : from (λ q. false) ≡ false
   from-none = any-none 32 (λ q. bit x q && false) (λ q. and-false (bit x q))
@@ -93,8 +102,7 @@ module _ (t : Pattern) (few : atomCount t ≤ 29) (x c : ℕ) (l : lineKey c ≡
   from-same X Y e = any-ext 32 (λ q. bit x q && X q) (λ q. bit x q && Y q) (λ q h. ap (λ (b : Bool). bit x q && b) (e q h))
 
   moving-is : moving ≡ from (λ q. eqb q 0 || eqb q 1)
-  unfolding word
-  moving-is = common-word x (λ q. eqb q 0 || eqb q 1)
+  moving-is = ap (common 64 x) fixed-two ∙ common-word x (λ q. eqb q 0 || eqb q 1)
 
   always-is : always ≡ from (λ q. eqb q 2 || jumps t q)
   always-is = common-word x (λ q. eqb q 2 || jumps t q)
@@ -183,8 +191,7 @@ module _ (b : Bool) where
 
 -- the words that say when a line is found to match
 module _ (t : Pattern) where
-  pub always-word : bitOr 4 (cond (accepts t .jump) 1 0) ≡ alwaysWord t
-  unfolding accepts
+  pub always-word : bitOr 4 (cond (emptyFree t) 1 0) ≡ alwaysWord t
   always-word = word-unique 32 (bitOr 4 (cond (emptyFree t) 1 0)) (λ q. eqb q 2 || jumps t q) (fixed-lt (emptyFree t)) (λ p h. fixed-bit (emptyFree t) p ∙ go p)
     where
       go : (p : ℕ) → (eqb 2 p || (emptyFree t && eqb 0 p)) ≡ (eqb p 2 || (eqb p 0 && emptyFree t))
@@ -193,12 +200,8 @@ module _ (t : Pattern) where
       go (suc (suc zero)) = refl
       go (suc (suc (suc k))) = rw (eqb·suc-suc, eqb·suc-suc, eqb·zero-suc, eqb·zero-suc, eqb·suc-suc, eqb·suc-suc, eqb·suc-zero, eqb·suc-zero) (and-false (emptyFree t))
 
-  pub ends-word : accepts t .ends ≡ atomWord (endsFree t)
-  unfolding accepts
-  ends-word = refl
-
-  pub accepting-word : bitOr (bitOr 4 (cond (accepts t .empty) 1 0)) (accepts t .anchored) ≡ word 32 (accepting t)
-  unfolding accepts accepting
+  pub accepting-word : bitOr (bitOr 4 (cond (emptyBranch t) 1 0)) (atomWord (endsAnchored t)) ≡ word 32 (accepting t)
+  unfolding accepting
   accepting-word =
       word-unique 32 (bitOr fixed (atomWord (endsAnchored t))) (accepting t) (or-lt 32 fixed (atomWord (endsAnchored t)) (fixed-lt (emptyBranch t)) (word-lt 32 (atomState (endsAnchored t))))
       (λ p h. bit-or fixed (atomWord (endsAnchored t)) p ∙ spelled p h ∙ go p)

@@ -2,86 +2,100 @@
 use Prim.Native.Nat.{ℕ, zero, suc, _+_, _<_, _≤_}
 use native.Mathlib.Omega.{arith}
 use native.Mathlib.Nat.{not-suc-le-zero}
-use mathlib.Core.Path.{_≡_, refl, sym}
+use native.Mathlib.Numerals.{add-one}
+use mathlib.Core.Path.{_≡_, refl, sym, ap, _∙_}
+use mathlib.Core.Logic.{_⊎_, inl, inr}
 use mathlib.Core.Bool.{Bool, true, false, _&&_, _||_, or-comm}
 use mathlib.Core.List.{List, [], _∷_}
-use lib.Dec.{leb, eqb}
+use lib.Dec.{leb, ltb, eqb}
 use lib.ListN.{length, getD, take}
 use lib.Seq.{take-suc, take-all}
-use borrow.Author.Tests.{le-leb, lt-leb, eq-eqb, ne-eqb}
+use borrow.Author.Tests.{le-leb, lt-leb, eqb-true, eqb-false, ltb-true, ltb-false, ne-eqb}
 use Rattle.refusal.specs.declared.Refusal.the-variants.{PatternLength, PatternSyntax}
-use Rattle.pattern.specs.declared.automaton.Verdict.{Verdict}
-use Rattle.pattern.specs.Reader.{readBranches, counted, readPattern}
-use Rattle.brackets.specs.Clean.{CleanDone}
+use Rattle.pattern.specs.Reader.{Read, refused, readBranches, counted, readPattern}
 use Rattle.pattern.specs.Cycle.{Ready}
 use Rattle.refusal.specs.Figures.{Figures}
 use Rattle.pattern.specs.declared.automaton.Accepting.{Accepting}
-use Rattle.pattern.specs.Automata.{ReadAs, verdictFigures}
-use Rattle.runs.specs.Keys.{member}
-use Rattle.runs.proofs.KeyLaws.{key-of, line-append, line-member}
-use Rattle.runs.proofs.Tests.{clash}
-
-member-at : (l : List ℕ) (i : ℕ) → i < length l → member (getD l i 0) l ≡ true
-member-at [] i h = absurd (not-suc-le-zero h)
-member-at (x ∷ l) zero h = rw (eq-eqb x x refl)
-member-at (x ∷ l) (suc i) h = rw (member-at l i (omega arith)) (always (eqb (getD l i 0) x))
-  where
-    always : (t : Bool) → (t || true) ≡ true
-    always true = refl
-    always false = refl
+use Rattle.pattern.specs.Automata.{refusedPattern, readFigures, keysRead, enterRead}
+use Rattle.runs.specs.Keys.{member, isLine, lineKey}
+use Rattle.runs.proofs.KeyLaws.{key-of, line-append, line-member, line-lacks, line-more, key-test}
+use Rattle.runs.proofs.Tests.{clash, neither, or-cases}
 
 module _ (s : List ℕ) (i : ℕ) where
   module _ (inside : i < length s) where
-    pub scan-zero : getD s i 0 ≡ 0 → CleanDone s false
-    unfolding CleanDone
-    scan-zero e = rw (rw e at (member-at s i inside))
+    pub scan-bad : (eqb (getD s i 0) 0 || eqb (getD s i 0) 10) ≡ true → false ≡ isLine s
+    scan-bad e = sym (line-lacks s i inside (go (getD s i 0) (or-cases (eqb (getD s i 0) 0) (eqb (getD s i 0) 10) e)))
+      where
+        go : (b : ℕ) → (eqb b 0 ≡ true) ⊎ (eqb b 10 ≡ true) → lineKey b ≡ false
+        go b (inl z) = rw (eqb-true b 0 z) refl
+        go b (inr z) = rw (eqb-true b 10 z) refl
 
-    pub scan-ten : getD s i 0 ≡ 10 → CleanDone s false
-    unfolding CleanDone
-    scan-ten e = rw (rw e at (member-at s i inside)) (or-comm (member 0 s) true)
+    pub scan-on : getD s i 0 < 256 → (eqb (getD s i 0) 0 || eqb (getD s i 0) 10) ≡ false → isLine (take i s) ≡ true → isLine (take (i + 1) s) ≡ true
+    scan-on small w h =
+        let b = getD s i 0 in
+        let (zero-not, ten-not) = neither (eqb b 0) (eqb b 10) w in
+        rw (add-one i, take-suc s i 0 inside) (line-more (take i s) b h (sym (key-test b small zero-not) ∙ rw ten-not refl))
 
-    pub scan-on : getD s i 0 < 256 → (getD s i 0 ≡ 0 → ⊥) → (getD s i 0 ≡ 10 → ⊥) → isLine (take i s) ≡ true → isLine (take (i + 1) s) ≡ true
-    scan-on small no-zero no-ten h =
-        let more : i + 1 ≡ suc i = omega arith in
-        rw (more, take-suc s i 0 inside)
-        (line-append (take i s) (getD s i 0 ∷ []) h (key-of (getD s i 0) small (ne-eqb 0 (getD s i 0) (λ e. no-zero (sym e))) (ne-eqb 10 (getD s i 0) (λ e. no-ten (sym e))), tt))
+  pub scan-end : length s ≤ i → isLine (take i s) ≡ true → true ≡ isLine s
+  scan-end e h = sym (rw (take-all i s e) at h)
 
-  pub scan-end : length s ≤ i → isLine (take i s) ≡ true → CleanDone s true
-  unfolding CleanDone
-  scan-end e h = rw (take-all i s e) at h
+-- what a pattern is read as
+module _ (s : List ℕ) where
+  -- 7, by its length
+  module _ {n : ℕ} (en : n ≡ length s) (w : (eqb n 0 || ltb 128 n) ≡ true) where
+    wrong : readPattern s ≡ refused PatternLength
+    unfolding readPattern
+    wrong = go (or-cases (eqb n 0) (ltb 128 n) w)
+      where
+        go : (eqb n 0 ≡ true) ⊎ (ltb 128 n ≡ true) → readPattern s ≡ refused PatternLength
+        go (inl z) = let none : length s ≡ 0 = sym en ∙ eqb-true n 0 z in rw none refl
+        go (inr l) = let long : 128 < length s = rw en at (ltb-true 128 n l) in rw (le-leb 1 (length s) (omega arith), lt-leb (length s) 128 long) refl
 
-module _ (s keys enter : List ℕ) where
-  pub pattern-none : length s ≡ 0 → ReadAs (readPattern s) keys enter (verdictFigures (Verdict.Refused PatternLength)) keys enter
-  unfolding readPattern ReadAs
-  pattern-none e = rw e (refl, refl, refl)
+    pub wrong-figures : refusedPattern PatternLength ≡ readFigures (readPattern s)
+    wrong-figures = rw wrong refl
 
-  pub pattern-long : 128 < length s → ReadAs (readPattern s) keys enter (verdictFigures (Verdict.Refused PatternLength)) keys enter
-  unfolding readPattern ReadAs
-  pattern-long e = rw (le-leb 1 (length s) (omega arith), lt-leb (length s) 128 e) (refl, refl, refl)
+    pub wrong-keys : (keys : List ℕ) → keys ≡ keysRead (readPattern s) keys
+    wrong-keys keys = rw wrong refl
 
-  module _ (some-byte : length s ≡ 0 → ⊥) (short : length s ≤ 128) (t : Bool) (d : CleanDone s t) where
-    fits : (leb 1 (length s) && leb (length s) 128) ≡ true
-    fits = rw (le-leb 1 (length s) (omega (arith, some-byte)), le-leb (length s) 128 short)
+    pub wrong-enter : (enter : List ℕ) → enter ≡ enterRead (readPattern s) enter
+    wrong-enter enter = rw wrong refl
 
-    pub pattern-unclean : t ≡ false → ReadAs (readPattern s) keys enter (verdictFigures (Verdict.Refused PatternSyntax)) keys enter
-    unfolding readPattern ReadAs CleanDone
-    pattern-unclean e = rw (fits, rw e at d) (refl, refl, refl)
+  module _ {n : ℕ} (en : n ≡ length s) (w : (eqb n 0 || ltb 128 n) ≡ false) {t : Bool} (d : t ≡ isLine s) where
+    some : 1 ≤ length s
+    some = let z = neither (eqb n 0) (ltb 128 n) w in omega (arith, en, eqb-false n 0 (z .0))
 
-    module _ (e : t ≡ true) where
-      clean : isLine s ≡ true
-      unfolding CleanDone
-      clean = rw e at d
+    short : length s ≤ 128
+    short = let z = neither (eqb n 0) (ltb 128 n) w in omega (arith, en, ltb-false 128 n (z .1))
 
-      pub pattern-ready : Ready s (record { at = 0; atoms = 0 })
-      pattern-ready = record { inside = omega arith; short = short; few = omega arith; clean = clean }
-
-      absent : (b : ℕ) → (member b s ≡ true → ⊥) → member b s ≡ false
-      absent b h = go (member b s) h
-        where
-          go : (t : Bool) → (t ≡ true → ⊥) → t ≡ false
-          go true h = absurd (h refl)
-          go false h = refl
-
-      pub pattern-clean : (f : Figures Accepting) (keys' enter' : List ℕ) → ReadAs (counted (readBranches (length s) s)) keys enter f keys' enter' → ReadAs (readPattern s) keys enter f keys' enter'
+    -- 8, by a byte
+    module _ (e : t ≡ false) where
+      unclean : readPattern s ≡ refused PatternSyntax
       unfolding readPattern
-      pattern-clean f keys' enter' h = rw (fits, absent 0 (λ m. clash (cc (line-member 0 s m clean))), absent 10 (λ m. clash (cc (line-member 10 s m clean)))) h
+      unclean = rw (le-leb 1 (length s) some, le-leb (length s) 128 short, sym d ∙ e) refl
+
+      pub unclean-figures : refusedPattern PatternSyntax ≡ readFigures (readPattern s)
+      unclean-figures = rw unclean refl
+
+      pub unclean-keys : (keys : List ℕ) → keys ≡ keysRead (readPattern s) keys
+      unclean-keys keys = rw unclean refl
+
+      pub unclean-enter : (enter : List ℕ) → enter ≡ enterRead (readPattern s) enter
+      unclean-enter enter = rw unclean refl
+
+    -- or as its branches say
+    module _ (e : t ≡ true) where
+      pub pattern-ready : Ready s (record { at = 0; atoms = 0 })
+      pattern-ready = record { inside = omega arith; short = short; few = omega arith; clean = sym d ∙ e }
+
+      same : counted (readBranches (length s) s) ≡ readPattern s
+      unfolding readPattern
+      same = rw (le-leb 1 (length s) some, le-leb (length s) 128 short, sym d ∙ e) refl
+
+      pub clean-figures : {f : Figures Accepting} → f ≡ readFigures (counted (readBranches (length s) s)) → f ≡ readFigures (readPattern s)
+      clean-figures g = g ∙ ap readFigures same
+
+      pub clean-keys : (keys : List ℕ) {keys' : List ℕ} → keys' ≡ keysRead (counted (readBranches (length s) s)) keys → keys' ≡ keysRead (readPattern s) keys
+      clean-keys keys g = g ∙ ap (λ (r : Read). keysRead r keys) same
+
+      pub clean-enter : (enter : List ℕ) {enter' : List ℕ} → enter' ≡ enterRead (counted (readBranches (length s) s)) enter → enter' ≡ enterRead (readPattern s) enter
+      clean-enter enter g = g ∙ ap (λ (r : Read). enterRead r enter) same

@@ -11,10 +11,10 @@ use Rattle.stateset.proofs.Sets.{word-or, word-ext, word-none, word-high, bit-w
 use Rattle.brackets.specs.Form.{Atom}
 use Rattle.brackets.specs.Sets.{setOf}
 use Rattle.pattern.specs.States.{nothing, first, last, follow, holds, atomState, atomWord}
-use Rattle.brackets.specs.Steps.{keysWith}
 use Rattle.brackets.proofs.Entries.{with-same, with-with, with-none}
 use Rattle.pattern.specs.Tables.{isAtom, keysAfter, enterAfter, linked}
 use Rattle.pattern.specs.Form.{Expr, atom, plus, seq, alt, atoms}
+use Rattle.brackets.specs.Answers.{keysWith}
 
 share : (t x y : Bool) → (t && x || t && y) ≡ (t && (x || y))
 share true x y = refl

@@ -11,10 +11,11 @@ use Rattle.brackets.specs.Form.{Atom, plain, dot, escaped, bracket, marks, writ
 use Rattle.brackets.specs.Brackets.{parsed, next, done, at, readAtom}
 use Rattle.pattern.specs.Reader.{readRepeat, endsPieces, Mode, readExpr}
 use Rattle.pattern.specs.Form.{Expr, atom, group, star, plus, opt, seq, alt, write, formed}
-use Rattle.runs.specs.Keys.{member, lineKey}
+use Rattle.runs.specs.Keys.{member, lineKey, isLine}
 use Rattle.runs.proofs.Tests.{clash, and-parts, neither}
 use Rattle.runs.proofs.KeyLaws.{other-than, line-append, line-member, key-is}
 use Rattle.brackets.proofs.BracketsBack.{bracket-back, bracket-clean}
+use Rattle.brackets.proofs.AtomsBack.{atom-back, atom-begins, atom-long, atom-clean}
 
 -- What expressions begin with.
 
@@ -26,10 +27,14 @@ repeats b = eqb b 42 || (eqb b 43 || eqb b 63)
 abbrev pub Starts : ℕ → Type 0
 Starts b = (endsPieces b ≡ false) × (eqb b 94 ≡ false) × (repeats b ≡ false)
 
--- and an expression of the form begins so
+-- an atom of the form begins so
+atom-starts : (a : Atom) (r : List ℕ) → formedAtom a ≡ true → Starts (at 0 (writeAtom a ++ r))
+atom-starts a r h = let b = atom-begins a r h in (rw (b .there, b .bar, b .close) (b .end), b .start, rw (b .star, b .plus) (b .opt))
+
+-- and so does an expression
 pub expr-starts : (e : Expr) (k : ℕ) (r : List ℕ) → formed e k ≡ true → Starts (at 0 (write e ++ r))
 unfolding write formed
-expr-starts (atom a) k r h = atom-starts a r h .0
+expr-starts (atom a) k r h = atom-starts a r h
 expr-starts (group e) k r h = (refl, refl, refl)
 expr-starts (star e) k r h = rw append-assoc (expr-starts e 0 (42 ∷ r) (and-parts (leb 1 k) (formed e 0) h .1))
 expr-starts (plus e) k r h = rw append-assoc (expr-starts e 0 (43 ∷ r) (and-parts (leb 1 k) (formed e 0) h .1))
@@ -55,28 +60,28 @@ abbrev pub Formed : Mode → Expr → Type 0
 Formed Mode.alts e = formed e 3 ≡ true
 Formed Mode.branch e = formed e 2 ≡ true
 Formed Mode.piece e = formed e 1 ≡ true
-Formed Mode.inner e = (x : Expr) × (e ≡ group x) × (formed x 3 ≡ true)
+Formed Mode.group e = (x : Expr) × (e ≡ group x) × (formed x 3 ≡ true)
 
 -- the bytes that a mode is given of an expression, with the bytes after it
 abbrev pub given : Mode → Expr → List ℕ → List ℕ
 given Mode.alts e rest = write e ++ rest
 given Mode.branch e rest = write e ++ rest
 given Mode.piece e rest = write e ++ rest
-given Mode.inner e rest = drop 1 (write e ++ rest)
+given Mode.group e rest = drop 1 (write e ++ rest)
 
 -- the byte that follows does not go on what the mode reads
 abbrev pub stops : Mode → ℕ → Bool
 stops Mode.alts b = endsPieces b && not (eqb b 124)
 stops Mode.branch b = endsPieces b
 stops Mode.piece b = not (repeats b)
-stops Mode.inner b = true
+stops Mode.group b = true
 
 -- a bound that is enough for an expression of k bytes
 abbrev pub room : Mode → ℕ → ℕ
 room Mode.alts k = 4 * k + 3
 room Mode.branch k = 4 * k + 2
 room Mode.piece k = 4 * k + 1
-room Mode.inner k = 4 * k
+room Mode.group k = 4 * k
 
 -- reading within a bound undoes writing
 abbrev Back : ℕ → Mode → Type 0
@@ -97,10 +102,10 @@ no-repeat b h = go (eqb b 0) (eqb b 124) (eqb b 41) refl refl refl h
 
 module _ (f : ℕ) (ih : (m : Mode) → Back f m) where
   -- an atom or a group
-  single-back : (e : Expr) (rest : List ℕ) → formed e 0 ≡ true → 4 * length (write e) ≤ f → cond (eqb (at 0 (write e ++ rest)) 40) (readExpr f Mode.inner (drop 1 (write e ++ rest))) (next (readAtom (write e ++ rest)) (λ a. done (atom a))) ≡ parsed e rest
+  single-back : (e : Expr) (rest : List ℕ) → formed e 0 ≡ true → 4 * length (write e) ≤ f → cond (eqb (at 0 (write e ++ rest)) 40) (readExpr f Mode.group (drop 1 (write e ++ rest))) (next (readAtom (write e ++ rest)) (λ a. done (atom a))) ≡ parsed e rest
   unfolding write formed
-  single-back (atom a) rest h l = rw (atom-starts a rest h .1, atom-back a rest h)
-  single-back (group e) rest h l = ih Mode.inner (group e) rest (e, refl, h) refl l
+  single-back (atom a) rest h l = rw (atom-begins a rest h .opened, atom-back a rest h)
+  single-back (group e) rest h l = ih Mode.group (group e) rest (e, refl, h) refl l
   single-back (star e) rest h l = clash (cc)
   single-back (plus e) rest h l = clash (cc)
   single-back (opt e) rest h l = clash (cc)
@@ -176,38 +181,38 @@ module _ (f : ℕ) (ih : (m : Mode) → Back f m) where
       rw (append-assoc (write p) (124 ∷ write q) rest, ih Mode.branch p (124 ∷ write q ++ rest) hp refl (omega arith), ih Mode.alts q rest hq s (omega arith))
 
   -- a group after its opening parenthesis
-  group-back : (x : Expr) (rest : List ℕ) → formed x 3 ≡ true → room Mode.inner (length (write (group x))) ≤ suc f → readExpr (suc f) Mode.inner (drop 1 (write (group x) ++ rest)) ≡ parsed (group x) rest
+  closed-back : (x : Expr) (rest : List ℕ) → formed x 3 ≡ true → room Mode.group (length (write (group x))) ≤ suc f → readExpr (suc f) Mode.group (drop 1 (write (group x) ++ rest)) ≡ parsed (group x) rest
   unfolding write readExpr
-  group-back x rest h l =
+  closed-back x rest h l =
       let long : 4 * suc (length (write x) + 1) ≤ suc f = rw length-append at l in
       rw (append-assoc (write x) (41 ∷ []) rest, ih Mode.alts x (41 ∷ rest) h refl (omega arith))
 
   -- the same, as the mode says it
-  inner-back : Back (suc f) Mode.inner
-  inner-back e rest (x, same, h) s l = rw same (group-back x rest h (rw same at l))
+  group-back : Back (suc f) Mode.group
+  group-back e rest (x, same, h) s l = rw same (closed-back x rest h (rw same at l))
 
 -- what is written of an expression that has a mode's form is read again, within every bound that is large enough
 pub expr-back : (f : ℕ) (m : Mode) (e : Expr) (rest : List ℕ) → Formed m e → stops m (at 0 rest) ≡ true → room m (length (write e)) ≤ f → readExpr f m (given m e rest) ≡ parsed e rest
 expr-back zero Mode.alts e rest h s l = absurd (omega arith)
 expr-back zero Mode.branch e rest h s l = absurd (omega arith)
 expr-back zero Mode.piece e rest h s l = absurd (omega arith)
-expr-back zero Mode.inner e rest h s l = absurd (omega (arith, expr-long e))
+expr-back zero Mode.group e rest h s l = absurd (omega (arith, expr-long e))
 expr-back (suc f) Mode.alts e rest h s l = alts-back f (λ m d r. expr-back f m d r) e rest h s l
 expr-back (suc f) Mode.branch e rest h s l = branch-back f (λ m d r. expr-back f m d r) e rest h s l
 expr-back (suc f) Mode.piece e rest h s l = piece-back f (λ m d r. expr-back f m d r) e rest h s l
-expr-back (suc f) Mode.inner e rest h s l = inner-back f (λ m d r. expr-back f m d r) e rest h s l
+expr-back (suc f) Mode.group e rest h s l = group-back f (λ m d r. expr-back f m d r) e rest h s l
 
 -- and so is an expression
 pub expr-clean : (e : Expr) (k : ℕ) → formed e k ≡ true → isLine (write e) ≡ true
 unfolding write formed
 expr-clean (atom a) k h = atom-clean a h
-expr-clean (group e) k h = (refl, line-append (write e) (41 ∷ []) (expr-clean e 3 h) (refl, tt))
-expr-clean (star e) k h = line-append (write e) (42 ∷ []) (expr-clean e 0 (and-parts (leb 1 k) (formed e 0) h .1)) (refl, tt)
-expr-clean (plus e) k h = line-append (write e) (43 ∷ []) (expr-clean e 0 (and-parts (leb 1 k) (formed e 0) h .1)) (refl, tt)
-expr-clean (opt e) k h = line-append (write e) (63 ∷ []) (expr-clean e 0 (and-parts (leb 1 k) (formed e 0) h .1)) (refl, tt)
+expr-clean (group e) k h = line-append (write e) (41 ∷ []) (expr-clean e 3 h) refl
+expr-clean (star e) k h = line-append (write e) (42 ∷ []) (expr-clean e 0 (and-parts (leb 1 k) (formed e 0) h .1)) refl
+expr-clean (plus e) k h = line-append (write e) (43 ∷ []) (expr-clean e 0 (and-parts (leb 1 k) (formed e 0) h .1)) refl
+expr-clean (opt e) k h = line-append (write e) (63 ∷ []) (expr-clean e 0 (and-parts (leb 1 k) (formed e 0) h .1)) refl
 expr-clean (seq p q) k h =
     let (hp, hq) = and-parts (formed p 1) (formed q 2) (and-parts (leb 2 k) (formed p 1 && formed q 2) h .1) in
     line-append (write p) (write q) (expr-clean p 1 hp) (expr-clean q 2 hq)
 expr-clean (alt p q) k h =
     let (hp, hq) = and-parts (formed p 2) (formed q 3) (and-parts (leb 3 k) (formed p 2 && formed q 3) h .1) in
-    line-append (write p) (124 ∷ write q) (expr-clean p 2 hp) (refl, expr-clean q 3 hq)
+    line-append (write p) (124 ∷ write q) (expr-clean p 2 hp) (expr-clean q 3 hq)

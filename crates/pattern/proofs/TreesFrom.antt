@@ -12,10 +12,11 @@ use Rattle.brackets.specs.Brackets.{parsed, fault, next, done, at, readBracket,
 use Rattle.pattern.specs.Reader.{readRepeat, endsPieces, Mode, readExpr}
 use Rattle.brackets.proofs.Parses.{same-parsed, test-parsed, untest-parsed, next-parsed, made-parsed, front}
 use Rattle.pattern.specs.Form.{Expr, atom, group, star, plus, opt, seq, alt, write, formed}
-use Rattle.runs.specs.Keys.{member}
+use Rattle.runs.specs.Keys.{member, isLine}
 use Rattle.runs.proofs.Tests.{clash, and-parts, neither}
 use Rattle.runs.proofs.KeyLaws.{line-after, line-drop}
 use Rattle.brackets.proofs.BracketsFrom.{bracket-from}
+use Rattle.brackets.proofs.AtomsFrom.{atom-from}
 
 -- a test of how loosely something may bind passes too where it may bind more loosely
 looser : (n k : ℕ) (t : Bool) → leb n k && t ≡ true → leb n (suc k) && t ≡ true
@@ -40,14 +41,14 @@ abbrev pub from : Mode → List ℕ → List ℕ
 from Mode.alts l = l
 from Mode.branch l = l
 from Mode.piece l = l
-from Mode.inner l = 40 ∷ l
+from Mode.group l = 40 ∷ l
 
 -- and how loosely it binds
 abbrev pub level : Mode → ℕ
 level Mode.alts = 3
 level Mode.branch = 2
 level Mode.piece = 1
-level Mode.inner = 0
+level Mode.group = 0
 
 -- what an expression that was read is
 abbrev pub Expr-from : Mode → List ℕ → Expr → List ℕ → Type 0
@@ -92,20 +93,20 @@ branch-from f l mid rest p e h ih r = go (endsPieces (at 0 mid)) r
         rw same (rw (append-assoc (write p) (write q) rest, ← there) (h .0), rw (h .1) formed-q)
 
 -- an atom or a group
-single-from : (f : ℕ) (l mid : List ℕ) (e : Expr) → isLine l ≡ true → (readExpr f Mode.inner (drop 1 l) ≡ parsed e mid → Expr-from Mode.inner (drop 1 l) e mid) → cond (eqb (at 0 l) 40) (readExpr f Mode.inner (drop 1 l)) (next (readAtom l) (λ a. done (atom a))) ≡ parsed e mid → (l ≡ write e ++ mid) × (formed e 0 ≡ true)
+single-from : (f : ℕ) (l mid : List ℕ) (e : Expr) → isLine l ≡ true → (readExpr f Mode.group (drop 1 l) ≡ parsed e mid → Expr-from Mode.group (drop 1 l) e mid) → cond (eqb (at 0 l) 40) (readExpr f Mode.group (drop 1 l)) (next (readAtom l) (λ a. done (atom a))) ≡ parsed e mid → (l ≡ write e ++ mid) × (formed e 0 ≡ true)
 unfolding write formed
 single-from f l mid e h ih r = go (eqb (at 0 l) 40) refl r
   where
-    go : (t : Bool) → eqb (at 0 l) 40 ≡ t → cond t (readExpr f Mode.inner (drop 1 l)) (next (readAtom l) (λ a. done (atom a))) ≡ parsed e mid → (l ≡ write e ++ mid) × (formed e 0 ≡ true)
+    go : (t : Bool) → eqb (at 0 l) 40 ≡ t → cond t (readExpr f Mode.group (drop 1 l)) (next (readAtom l) (λ a. done (atom a))) ≡ parsed e mid → (l ≡ write e ++ mid) × (formed e 0 ≡ true)
     go true t r = (front l 40 (omega arith) t ∙ ih r .0, ih r .1)
     go false t r =
         let (a, same, one) = made-parsed (readAtom l) (λ a. atom a) e mid r in
         rw same (atom-from l mid a h one)
 
 -- a group after its opening parenthesis, from what is in it
-inner-from : (l mid rest : List ℕ) (p e : Expr) → Expr-from Mode.alts l p mid → cond (eqb (at 0 mid) 41) (parsed (group p) (drop 1 mid)) fault ≡ parsed e rest → Expr-from Mode.inner l e rest
+group-from : (l mid rest : List ℕ) (p e : Expr) → Expr-from Mode.alts l p mid → cond (eqb (at 0 mid) 41) (parsed (group p) (drop 1 mid)) fault ≡ parsed e rest → Expr-from Mode.group l e rest
 unfolding write formed
-inner-from l mid rest p e h r =
+group-from l mid rest p e h r =
     let (t, q) = test-parsed (eqb (at 0 mid) 41) (parsed (group p) (drop 1 mid)) e rest r in
     let (same, after) = same-parsed q in
     let closes : mid ≡ 41 ∷ rest = rw (← after) (front mid 41 (omega arith) t) in
@@ -126,17 +127,17 @@ expr-from (suc f) Mode.branch l rest e h r =
     let clean : isLine mid ≡ true = line-after (write p) mid (rw (this .0) at h) in
     branch-from f l mid rest p e this (λ q s. expr-from f Mode.branch mid rest q clean s) others
 expr-from (suc f) Mode.piece l rest e h r =
-    let (p, mid, one, others) = next-parsed (cond (eqb (at 0 l) 40) (readExpr f Mode.inner (drop 1 l)) (next (readAtom l) (λ a. done (atom a)))) readRepeat e rest r in
-    repeat-from l mid rest p e (single-from f l mid p h (λ s. expr-from f Mode.inner (drop 1 l) mid p (line-drop 1 l h) s) one) others
-expr-from (suc f) Mode.inner l rest e h r =
+    let (p, mid, one, others) = next-parsed (cond (eqb (at 0 l) 40) (readExpr f Mode.group (drop 1 l)) (next (readAtom l) (λ a. done (atom a)))) readRepeat e rest r in
+    repeat-from l mid rest p e (single-from f l mid p h (λ s. expr-from f Mode.group (drop 1 l) mid p (line-drop 1 l h) s) one) others
+expr-from (suc f) Mode.group l rest e h r =
     let (p, mid, one, others) = next-parsed (readExpr f Mode.alts l) (λ e m. cond (eqb (at 0 m) 41) (parsed (group e) (drop 1 m)) fault) e rest r in
-    inner-from l mid rest p e (expr-from f Mode.alts l mid p h one) others
+    group-from l mid rest p e (expr-from f Mode.alts l mid p h one) others
 
 -- what was read after an opening parenthesis is a group
-pub inner-group : (f : ℕ) (l rest : List ℕ) (e : Expr) → readExpr f Mode.inner l ≡ parsed e rest → (x : Expr) × (e ≡ group x)
+pub group-group : (f : ℕ) (l rest : List ℕ) (e : Expr) → readExpr f Mode.group l ≡ parsed e rest → (x : Expr) × (e ≡ group x)
 unfolding readExpr
-inner-group zero l rest e r = clash (cc)
-inner-group (suc f) l rest e r =
+group-group zero l rest e r = clash (cc)
+group-group (suc f) l rest e r =
     let (p, mid, one, others) = next-parsed (readExpr f Mode.alts l) (λ e m. cond (eqb (at 0 m) 41) (parsed (group e) (drop 1 m)) fault) e rest r in
     let (t, q) = test-parsed (eqb (at 0 mid) 41) (parsed (group p) (drop 1 mid)) e rest others in
     (p, sym (same-parsed q .0))

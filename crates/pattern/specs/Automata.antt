@@ -1,16 +1,19 @@
 -- What reading a pattern yields, by the definitions on its tree: the tables of its automaton, or a refusal.
-use Prim.Native.Nat.{ℕ}
+use Prim.Native.Nat.{ℕ, _+_, _≤_}
 use mathlib.Core.Path.{_≡_}
-use mathlib.Core.Bool.{Bool, false}
+use mathlib.Core.Bool.{_||_, cond}
 use mathlib.Core.List.{List}
+use lib.Dec.{eqb}
+use lib.Bits.{bitOr}
+use Rattle.stateset.specs.Set.{word}
 use Rattle.refusal.specs.declared.Refusal.{Refusal}
 use Rattle.refusal.specs.Figures.{Figures, answered, refusedWith}
 use Rattle.pattern.specs.declared.automaton.Accepting.{Accepting}
 use Rattle.pattern.specs.declared.automaton.Verdict.{Verdict}
 use Rattle.pattern.specs.declared.summary.Summary.{Summary}
 use Rattle.pattern.specs.Reader.{Read, accepted, refused}
-use Rattle.pattern.specs.States.{endsFree, endsAnchored, holdsKey, emptyBranch, emptyFree, atomWord}
-use Rattle.pattern.specs.Moves.{enters}
+use Rattle.pattern.specs.States.{endsFree, holdsKey, atomWord}
+use Rattle.pattern.specs.Moves.{states, enters, jumps, accepting}
 use Rattle.pattern.specs.Form.{Pattern, atomCount}
 use Rattle.stateset.specs.Tabled.{tabled}
 
@@ -21,29 +24,51 @@ keyTable t = tabled (λ c. atomWord (λ k. holdsKey t k c)) 256 0
 unfoldable pub enterTable : Pattern → List ℕ
 enterTable t = tabled (λ q. atomWord (enters t q)) 32 0
 
+-- what the moves into found and a line's end need: the states that every key but LF leads to found, "found to itself" and those
+-- that jump; the atoms whose entering also enters found; the accepting states; how many states there are
 unfoldable pub accepts : Pattern → Accepting
 accepts t = record {
+  always = word 32 (λ q. eqb q 2 || jumps t q);
   ends = atomWord (endsFree t);
-  anchored = atomWord (endsAnchored t);
-  empty = emptyBranch t;
-  jump = emptyFree t;
-  atoms = atomCount t;
+  accepting = word 32 (accepting t);
+  states = states t;
 }
+
+-- the tables and words are those of t, which has few atoms
+pub record Automaton (t : Pattern) (keys enter : List ℕ) (a : Accepting) : Type 0 where
+  pub keyed : keys ≡ keyTable t
+  pub entered : enter ≡ enterTable t
+  pub words : a ≡ accepts t
+  pub few : atomCount t ≤ 29
 
 -- "A refusal's other numbers are 0"
 abbrev pub refusedPattern : Refusal → Figures Accepting
-refusedPattern r = refusedWith (record { ends = 0; anchored = 0; empty = false; jump = false; atoms = 0 }) r
+refusedPattern r = refusedWith (record { always = 0; ends = 0; accepting = 0; states = 0 }) r
 
 -- the figures of an answer
 abbrev pub verdictFigures : Verdict → Figures Accepting
 verdictFigures (Verdict.Accepted a) = answered a
 verdictFigures (Verdict.Refused r) = refusedPattern r
 
--- the figures of a reading, and what it makes of the tables
-unfoldable pub ReadAs : Read → List ℕ → List ℕ → Figures Accepting → List ℕ → List ℕ → Type 0
-ReadAs (accepted t) keys enter f keys' enter' = (f ≡ answered (accepts t)) × (keys' ≡ keyTable t) × (enter' ≡ enterTable t)
-ReadAs (refused r) keys enter f keys' enter' = (f ≡ refusedPattern r) × (keys' ≡ keys) × (enter' ≡ enter)
+-- the figures of a reading
+abbrev pub readFigures : Read → Figures Accepting
+readFigures (accepted t) = answered (accepts t)
+readFigures (refused r) = refusedPattern r
 
--- the same of what the branches come to
+-- and what it makes of the two tables; "other lent memory is unchanged"
+abbrev pub keysRead : Read → List ℕ → List ℕ
+keysRead (accepted t) keys = keyTable t
+keysRead (refused r) keys = keys
+
+abbrev pub enterRead : Read → List ℕ → List ℕ
+enterRead (accepted t) enter = enterTable t
+enterRead (refused r) enter = enter
+
+-- what the branches come to, with n atoms
 abbrev pub acceptingOf : Summary → ℕ → Accepting
-acceptingOf a n = record { ends = a .ends; anchored = a .anchored; empty = a .empty; jump = a .jump; atoms = n }
+acceptingOf a n = record {
+  always = bitOr 4 (cond (a .jump) 1 0);
+  ends = a .ends;
+  accepting = bitOr (bitOr 4 (cond (a .empty) 1 0)) (a .anchored);
+  states = 3 + n;
+}

@@ -11,6 +11,7 @@ use Rattle.pattern.specs.declared.cursor.Cursor.{Cursor}
 use Rattle.pattern.specs.declared.shape.Shape.{Shape}
 use Rattle.brackets.specs.Brackets.{Parsed, parsed, fault}
 use Rattle.pattern.specs.Tables.{keysAfter, enterAfter, shapeOf}
+use Rattle.pattern.specs.Cycle.{pastByte}
 use Rattle.pattern.specs.Form.{Expr, Branch, atomsIn}
 
 -- the shape and the tables of a branch's pieces; "A branch with no pieces takes the empty part."
@@ -28,7 +29,7 @@ enterIn b (some e) enter = enterAfter b e enter
 
 -- the optional `$` at the cursor
 abbrev pub EndDone : List ℕ → Cursor → Bool → Shape → BranchRead → Type 0
-EndDone s c start p r = r ≡ cond (eqb (getD s (c .at) 0) 36) (BranchRead.Read (record { at = c .at + 1; atoms = c .atoms }) start p true) (BranchRead.Read c start p false)
+EndDone s c start p r = r ≡ cond (eqb (getD s (c .at) 0) 36) (BranchRead.Read (pastByte c) start p true) (BranchRead.Read c start p false)
 
 abbrev pub BranchDone : ℕ → Cursor → List ℕ → List ℕ → BranchRead → List ℕ → List ℕ → Parsed Branch → Type 0
 BranchDone n c keys enter r keys' enter' (parsed b rest) =

@@ -13,6 +13,7 @@ use Rattle.brackets.specs.Brackets.{Parsed, parsed, fault}
 use Rattle.pattern.specs.Reader.{Mode, readExpr}
 use Rattle.pattern.specs.Tables.{keysAfter, enterAfter, linked, shapeOf}
 use Rattle.pattern.specs.Form.{Expr, atom, atoms}
+use Rattle.runs.specs.Keys.{isLine}
 
 -- a cursor inside a pattern that has such bytes alone, and no more atoms before it than bytes
 pub record Ready (s : List ℕ) (c : Cursor) : Type 0 where
@@ -29,12 +30,16 @@ Done n c keys enter r keys' enter' (parsed e rest) =
     × (enter' ≡ enterAfter (c .atoms) e enter)
 Done n c keys enter r keys' enter' fault = r ≡ Part.Fault
 
+-- the cursor behind the byte at it
+abbrev pub pastByte : Cursor → Cursor
+pastByte c = record { at = c .at + 1; atoms = c .atoms }
+
 -- a bound on how deep the readers call each other, where k bytes are left
 abbrev pub room : Mode → ℕ → ℕ
 room Mode.alts k = 4 * k + 3
 room Mode.branch k = 4 * k + 2
 room Mode.piece k = 4 * k + 1
-room Mode.inner k = 4 * k + 4
+room Mode.group k = 4 * k + 4
 
 abbrev pub Reads : Mode → List ℕ → Cursor → List ℕ → List ℕ → Part → List ℕ → List ℕ → Type 0
 Reads m s c keys enter r keys' enter' =

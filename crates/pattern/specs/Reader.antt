@@ -8,9 +8,9 @@ use lib.ListN.{length, drop}
 use Rattle.refusal.specs.declared.Refusal.{Refusal}
 use Rattle.refusal.specs.declared.Refusal.the-variants.{PatternLength, PatternSyntax, TooManyAtoms}
 use Rattle.brackets.specs.Form.{byte, Atom, plain, dot, escaped, marks}
-use Rattle.brackets.specs.Brackets.{Parsed, Parser, at, done, fault, next, parsed, readBracket}
-use Rattle.pattern.specs.Form.{Expr, atom, group, star, plus, opt, seq, alt, Branch, Pattern, atomCount}
-use Rattle.runs.specs.Keys.{member}
+use Rattle.brackets.specs.Brackets.{Parsed, Parser, at, done, fault, next, parsed, readBracket, readAtom}
+use Rattle.pattern.specs.Form.{Expr, atom, star, plus, opt, seq, alt, Branch, Pattern, atomCount}
+use Rattle.runs.specs.Keys.{isLine}
 
 -- "then at most one of `*` `+` `?`"
 unfoldable pub readRepeat : Expr → Parser Expr
@@ -25,7 +25,7 @@ endsPieces b = eqb b 0 || (eqb b 124 || (eqb b 41 || eqb b 36))
 
 -- the four readers that read each other in a cycle: an alternative list, a branch of it, a piece, and a group after its opening parenthesis
 pub data Mode : Type 0 where
-  alts branch piece inner : Mode
+  alts branch piece group : Mode
 
 -- f bounds how deep they call each other
 unfoldable pub readExpr : ℕ → Mode → Parser Expr
@@ -35,8 +35,8 @@ readExpr (suc f) Mode.alts l =
 readExpr (suc f) Mode.branch l =
     next (readExpr f Mode.piece l) (λ p m. cond (endsPieces (at 0 m)) (parsed p m) (next (readExpr f Mode.branch m) (λ q. done (seq p q))))
 readExpr (suc f) Mode.piece l =
-    next (cond (eqb (at 0 l) 40) (readExpr f Mode.inner (drop 1 l)) (next (readAtom l) (λ a. done (atom a)))) readRepeat
-readExpr (suc f) Mode.inner l =
+    next (cond (eqb (at 0 l) 40) (readExpr f Mode.group (drop 1 l)) (next (readAtom l) (λ a. done (atom a)))) readRepeat
+readExpr (suc f) Mode.group l =
     next (readExpr f Mode.alts l) (λ e m. cond (eqb (at 0 m) 41) (parsed (Expr.group e) (drop 1 m)) fault)
 
 -- a bound that is always enough for some bytes
@@ -63,7 +63,7 @@ readBranches zero l = fault
 readBranches (suc f) l =
     next (readBranch l) (λ b m. cond (eqb (at 0 m) 0) (parsed (b ∷ []) m) (cond (eqb (at 0 m) 124) (next (readBranches f (drop 1 m)) (λ bs. done (b ∷ bs))) fault))
 
--- The whole: 7, "0 or over 128"; then 8, "not of the form above", over the whole pattern; then 9, "over 29".
+-- The whole: 7, "0 or over 128"; then 8, "not of the form above", over the whole pattern, "none of them 0 or 10"; then 9, "over 29".
 
 pub data Read : Type 0 where
   accepted : Pattern → Read
@@ -76,5 +76,5 @@ counted fault = refused PatternSyntax
 unfoldable pub readPattern : List ℕ → Read
 readPattern l =
     cond (leb 1 (length l) && leb (length l) 128)
-    (cond (member 0 l || member 10 l) (refused PatternSyntax) (counted (readBranches (length l) l)))
+    (cond (isLine l) (counted (readBranches (length l) l)) (refused PatternSyntax))
     (refused PatternLength)

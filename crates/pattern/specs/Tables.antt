@@ -7,8 +7,8 @@ use lib.Bits.{bitOr}
 use Rattle.stateset.specs.Set.{bit}
 use Rattle.pattern.specs.declared.shape.Shape.{Shape}
 use Rattle.pattern.specs.States.{nothing, first, last, follow, holds, atomWord}
-use Rattle.brackets.specs.Steps.{mapWith}
 use Rattle.pattern.specs.Form.{Expr}
+use Rattle.brackets.specs.Answers.{mapWith}
 
 -- Tables that an expression was read into, whose atoms have the numbers from b on.
 

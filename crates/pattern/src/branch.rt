@@ -23,10 +23,8 @@ impl Cursor {
         requires { ⌜ Ready (now s) self ⌝ }
         ensures { λ r. ⌜ EndDone (now (s .entry)) self start p r ⌝ }
     {
-        let at = self.at;
-        let atoms = self.atoms;
-        if peek(s, at) == b'$' {
-            return BranchRead::Read(Cursor { at: at + 1, atoms }, start, p, true);
+        if peek(s, self.at) == b'$' {
+            return BranchRead::Read(self.past(), start, p, true);
         }
         BranchRead::Read(self, start, p, false)
     }
@@ -42,18 +40,14 @@ impl Cursor {
         requires { ⌜ Ready (now s) self ⌝ }
         ensures { λ r. ⌜ BranchDone (length (now (s .entry))) self (now (keys .entry)) (now (enter .entry)) r (now (keys .exit)) (now (enter .exit)) (readRest start (drop (self .at) (now (s .entry)))) ⌝ }
     {
-        let at = self.at;
-        let next = peek(s, at);
+        let next = peek(s, self.at);
         if ends_pieces(next) {
             let none = Shape {
                 nothing: true,
                 first: 0,
                 last: 0,
             };
-            if start {
-                return self.branch_end(s, start, none);
-            }
-            if next == b'$' {
+            if start | (next == b'$') {
                 return self.branch_end(s, start, none);
             }
             return BranchRead::Fault;
@@ -65,8 +59,8 @@ impl Cursor {
         here.branch_end(s, start, shape)
     }
 
-    // The branch at the cursor.
-    pub(crate) fn anchored_branch(
+    // The branch of the whole pattern at the cursor.
+    pub(crate) fn pattern_branch(
         self,
         s: &[u8],
         keys: &mut [u64; 256],
@@ -75,10 +69,8 @@ impl Cursor {
         requires { ⌜ Ready (now s) self ⌝ }
         ensures { λ r. ⌜ BranchDone (length (now (s .entry))) self (now (keys .entry)) (now (enter .entry)) r (now (keys .exit)) (now (enter .exit)) (readBranch (drop (self .at) (now (s .entry)))) ⌝ }
     {
-        let at = self.at;
-        let atoms = self.atoms;
-        if peek(s, at) == b'^' {
-            return Cursor { at: at + 1, atoms }.branch_rest(s, true, keys, enter);
+        if peek(s, self.at) == b'^' {
+            return self.past().branch_rest(s, true, keys, enter);
         }
         self.branch_rest(s, false, keys, enter)
     }

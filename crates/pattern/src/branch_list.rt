@@ -27,20 +27,18 @@ impl Cursor {
         requires { ⌜ Ready (now s) self ⌝ }
         ensures { λ r. ⌜ ReadsBranches (now (s .entry)) self a (now (keys .entry)) (now (enter .entry)) r (now (keys .exit)) (now (enter .exit)) ⌝ }
     {
-        let read = self.anchored_branch(s, keys, enter);
+        let read = self.pattern_branch(s, keys, enter);
         let BranchRead::Read(here, start, shape, end) = read else {
             return PatternRead::Fault;
         };
         let sum = with_branch(a, start, shape, end);
-        let at = here.at;
-        let atoms = here.atoms;
-        let next = peek(s, at);
+        let next = peek(s, here.at);
         if next == 0 {
-            return PatternRead::Read(atoms, sum);
+            return PatternRead::Read(here.atoms, sum);
         }
         if next != b'|' {
             return PatternRead::Fault;
         }
-        Cursor { at: at + 1, atoms }.branches(s, sum, keys, enter)
+        here.past().branches(s, sum, keys, enter)
     }
 }

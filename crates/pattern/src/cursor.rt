@@ -6,10 +6,10 @@ use crate::shape::in_sequence;
 use crate::shape::link;
 use brackets::peek;
 ghost use mathlib.Core.Path.{_≡_};
-ghost use Prim.Native.Nat.{_^_, _≤_, _<_};
-ghost use lib.ListN.{getD, length};
+ghost use Prim.Native.Nat.{_+_, _^_, _≤_, _<_};
+ghost use lib.ListN.{getD};
 ghost use Rattle.pattern.specs.Reader.{Mode, endsPieces};
-ghost use Rattle.pattern.specs.Cycle.{Reads, Ready, repeatAt, repeatEnter, repeatShape};
+ghost use Rattle.pattern.specs.Cycle.{Reads, Ready, pastByte, repeatAt, repeatEnter, repeatShape};
 
 // A place in a pattern, and how many atoms stand before it.
 pub(crate) struct Cursor {
@@ -24,41 +24,57 @@ pub(crate) enum Part {
 }
 
 impl Cursor {
+    // The cursor at a pattern's start.
+    pub(crate) fn start() -> Cursor
+        ensures { λ r. ⌜ r ≡ record { at = 0; atoms = 0 } ⌝ }
+    {
+        Cursor { at: 0, atoms: 0 }
+    }
+
+    // The cursor at a later place, with so many atoms more before it.
+    pub(crate) fn advanced(self, at: usize, more: usize) -> Cursor
+        requires { ⌜ (self .atoms ≤ 128) × (more ≤ 1) ⌝ }
+        ensures { λ r. ⌜ r ≡ record { at = at; atoms = self .atoms + more } ⌝ }
+    {
+        Cursor {
+            at,
+            atoms: self.atoms + more,
+        }
+    }
+
+    // The cursor behind the byte at it.
+    pub(crate) fn past(self) -> Cursor
+        requires { ⌜ (self .at ≤ 128) × (self .atoms ≤ 128) ⌝ }
+        ensures { λ r. ⌜ r ≡ pastByte self ⌝ }
+    {
+        self.advanced(self.at + 1, 0)
+    }
+
     // The mark of repetition behind an expression, if there is one.
     fn repetition(self, s: &[u8], p: Shape, enter: &mut [u64; 32]) -> Part
-        requires { ⌜ (self .at ≤ length (now s)) × (p .last < 2 ^ 32) ⌝ }
+        requires { ⌜ Ready (now s) self ⌝ }
+        requires { ⌜ p .last < 2 ^ 32 ⌝ }
         ensures read { λ r. ⌜ r ≡ Part.Read (record { at = repeatAt (getD (now (s .entry)) (self .at) 0) (self .at); atoms = self .atoms }) (repeatShape (getD (now (s .entry)) (self .at) 0) p) ⌝ }
         ensures table { λ _. ⌜ now (enter .exit) ≡ repeatEnter (getD (now (s .entry)) (self .at) 0) p (now (enter .entry)) ⌝ }
     {
-        let at = self.at;
-        let atoms = self.atoms;
         let first = p.first;
         let last = p.last;
-        let mark = peek(s, at);
+        let mark = peek(s, self.at);
+        let optional = Shape {
+            nothing: true,
+            first,
+            last,
+        };
         if mark == b'*' {
             link(enter, last, first);
-            return Part::Read(
-                Cursor { at: at + 1, atoms },
-                Shape {
-                    nothing: true,
-                    first,
-                    last,
-                },
-            );
+            return Part::Read(self.past(), optional);
         }
         if mark == b'+' {
             link(enter, last, first);
-            return Part::Read(Cursor { at: at + 1, atoms }, p);
+            return Part::Read(self.past(), p);
         }
         if mark == b'?' {
-            return Part::Read(
-                Cursor { at: at + 1, atoms },
-                Shape {
-                    nothing: true,
-                    first,
-                    last,
-                },
-            );
+            return Part::Read(self.past(), optional);
         }
         Part::Read(self, p)
     }
@@ -72,13 +88,10 @@ impl Cursor {
         let Part::Read(here, left) = part else {
             return Part::Fault;
         };
-        let at = here.at;
-        let atoms = here.atoms;
-        if peek(s, at) != b'|' {
+        if peek(s, here.at) != b'|' {
             return Part::Read(here, left);
         }
-        let next = Cursor { at: at + 1, atoms };
-        let other = next.alternatives(s, keys, enter);
+        let other = here.past().alternatives(s, keys, enter);
         let Part::Read(end, right) = other else {
             return Part::Fault;
         };
@@ -94,8 +107,7 @@ impl Cursor {
         let Part::Read(here, left) = part else {
             return Part::Fault;
         };
-        let at = here.at;
-        if ends_pieces(peek(s, at)) {
+        if ends_pieces(peek(s, here.at)) {
             return Part::Read(here, left);
         }
         let other = here.branch(s, keys, enter);
@@ -113,11 +125,8 @@ impl Cursor {
         requires { ⌜ Ready (now s) self ⌝ }
         ensures { λ r. ⌜ Reads Mode.piece (now (s .entry)) self (now (keys .entry)) (now (enter .entry)) r (now (keys .exit)) (now (enter .exit)) ⌝ }
     {
-        let at = self.at;
-        let atoms = self.atoms;
-        if peek(s, at) == b'(' {
-            let inside = Cursor { at: at + 1, atoms };
-            let part = inside.group(s, keys, enter);
+        if peek(s, self.at) == b'(' {
+            let part = self.past().group(s, keys, enter);
             let Part::Read(here, shape) = part else {
                 return Part::Fault;
             };
@@ -133,18 +142,16 @@ impl Cursor {
     // A group, whose `(` is passed.
     fn group(self, s: &[u8], keys: &mut [u64; 256], enter: &mut [u64; 32]) -> Part
         requires { ⌜ Ready (now s) self ⌝ }
-        ensures { λ r. ⌜ Reads Mode.inner (now (s .entry)) self (now (keys .entry)) (now (enter .entry)) r (now (keys .exit)) (now (enter .exit)) ⌝ }
+        ensures { λ r. ⌜ Reads Mode.group (now (s .entry)) self (now (keys .entry)) (now (enter .entry)) r (now (keys .exit)) (now (enter .exit)) ⌝ }
     {
         let part = self.alternatives(s, keys, enter);
         let Part::Read(here, shape) = part else {
             return Part::Fault;
         };
-        let at = here.at;
-        let atoms = here.atoms;
-        if peek(s, at) != b')' {
+        if peek(s, here.at) != b')' {
             return Part::Fault;
         }
-        Part::Read(Cursor { at: at + 1, atoms }, shape)
+        Part::Read(here.past(), shape)
     }
 }
 
@@ -152,14 +159,5 @@ impl Cursor {
 pub(crate) fn ends_pieces(b: u8) -> bool
     ensures { λ r. ⌜ r ≡ endsPieces b ⌝ }
 {
-    if b == 0 {
-        return true;
-    }
-    if b == b'|' {
-        return true;
-    }
-    if b == b')' {
-        return true;
-    }
-    b == b'$'
+    (b == 0) | ((b == b'|') | ((b == b')') | (b == b'$')))
 }

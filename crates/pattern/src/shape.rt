@@ -1,7 +1,7 @@
 // What an expression that was read is like, and the table of what each state may enter.
 use stateset::union;
 ghost use mathlib.Core.Path.{_≡_};
-ghost use mathlib.Core.Bool.{_&&_, _||_, cond};
+ghost use mathlib.Core.Bool.{cond};
 ghost use Prim.Native.Nat.{_^_, _<_};
 ghost use lib.Bits.{bitOr};
 ghost use Rattle.pattern.specs.Tables.{altShape, linked, seqShape};
@@ -11,18 +11,6 @@ pub(crate) struct Shape {
     pub nothing: bool,
     pub first: u64,
     pub last: u64,
-}
-
-pub(crate) fn both(a: bool, b: bool) -> bool
-    ensures { λ r. ⌜ r ≡ (a && b) ⌝ }
-{
-    if a { b } else { false }
-}
-
-pub(crate) fn one_of(a: bool, b: bool) -> bool
-    ensures { λ r. ⌜ r ≡ (a || b) ⌝ }
-{
-    if a { true } else { b }
 }
 
 // Both sets if t, and the first alone if not.
@@ -36,11 +24,10 @@ pub(crate) fn union_if(t: bool, a: u64, b: u64) -> u64
 pub(crate) fn in_sequence(p: Shape, q: Shape) -> Shape
     ensures { λ r. ⌜ r ≡ seqShape p q ⌝ }
 {
-    let nothing = both(p.nothing, q.nothing);
     let first = union_if(p.nothing, p.first, q.first);
     let last = union_if(q.nothing, q.last, p.last);
     Shape {
-        nothing,
+        nothing: p.nothing & q.nothing,
         first,
         last,
     }
@@ -50,11 +37,10 @@ pub(crate) fn in_sequence(p: Shape, q: Shape) -> Shape
 pub(crate) fn either(p: Shape, q: Shape) -> Shape
     ensures { λ r. ⌜ r ≡ altShape p q ⌝ }
 {
-    let nothing = one_of(p.nothing, q.nothing);
     let first = union(p.first, q.first);
     let last = union(p.last, q.last);
     Shape {
-        nothing,
+        nothing: p.nothing | q.nothing,
         first,
         last,
     }

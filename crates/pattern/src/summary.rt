@@ -1,11 +1,8 @@
 // What the branches of a pattern come to.
 use crate::shape::Shape;
-use crate::shape::both;
-use crate::shape::one_of;
 use crate::shape::union_if;
 use stateset::union;
 ghost use mathlib.Core.Path.{_≡_};
-ghost use mathlib.Core.Bool.{not};
 ghost use Rattle.pattern.specs.Summaries.{branchSummary};
 
 pub(crate) struct Summary {
@@ -20,28 +17,20 @@ pub(crate) struct Summary {
     pub jump: bool,
 }
 
-fn opposite(t: bool) -> bool
-    ensures { λ r. ⌜ r ≡ not t ⌝ }
-{
-    if t { false } else { true }
-}
-
 // The summary with one branch more.
 pub(crate) fn with_branch(a: Summary, start: bool, p: Shape, end: bool) -> Summary
     ensures { λ r. ⌜ r ≡ branchSummary a start p end ⌝ }
 {
     let first = union(a.first, p.first);
-    let free = union_if(opposite(start), a.free, p.first);
-    let ends = union_if(opposite(end), a.ends, p.last);
+    let free = union_if(!start, a.free, p.first);
+    let ends = union_if(!end, a.ends, p.last);
     let anchored = union_if(end, a.anchored, p.last);
-    let empty = one_of(a.empty, p.nothing);
-    let jump = one_of(a.jump, both(p.nothing, opposite(both(start, end))));
     Summary {
         first,
         free,
         ends,
         anchored,
-        empty,
-        jump,
+        empty: a.empty | p.nothing,
+        jump: a.jump | (p.nothing & !(start & end)),
     }
 }

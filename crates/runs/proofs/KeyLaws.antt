@@ -116,7 +116,15 @@ line-without w k h g = go (member k w) refl
     go true e = torn (lineKey k) (line-member k w e g) h
     go false e = refl
 
--- and bytes without these two are a line
+-- and a number that is none at any place makes it no line
+pub line-lacks : (w : List ℕ) (i : ℕ) → i < length w → lineKey (getD w i 0) ≡ false → isLine w ≡ false
+line-lacks w i h n = go (isLine w) refl
+  where
+    go : (t : Bool) → isLine w ≡ t → t ≡ false
+    go true e = torn (lineKey (getD w i 0)) (line-member (getD w i 0) w (member-at (getD w i 0) w i h refl) e) n
+    go false e = refl
+
+-- bytes without these two are a line
 pub line-of : (p : List ℕ) → Bytes p → member 0 p ≡ false → member lineEnd p ≡ false → isLine p ≡ true
 line-of [] h z t = line-none
 line-of (b ∷ p) h z t =

@@ -17,8 +17,8 @@ count-word s X h = count-widen s 64 (bit (word s X)) h (word-high s X) ∙ count
 
 -- a number below a power has as many digits 1 as members
 pub ones-members : (s w : ℕ) → w < 2 ^ s → ones w ≡ countBelow s (bit w)
-unfolding bit countBelow
-ones-members zero w h = omega (arith, ones-le zero w h)
+unfolding bit
+ones-members zero w h = omega (arith, ones-le zero w h, count-zero (bit w))
 ones-members (suc s) w h =
     let small : w < 2 ^ s * 2 = rw (pow-suc 2 s) at h in
     let low : w % 2 ≡ cond (bit w zero) 1 0 = digit (w % 2) (bit w zero) (omega arith) refl in

@@ -20,6 +20,10 @@ unfoldable pub anyBelow : ℕ → (ℕ → Bool) → Bool
 anyBelow zero X = false
 anyBelow (suc n) X = anyBelow n X || X n
 
+-- two sets have a member below s in common
+abbrev pub common : ℕ → ℕ → ℕ → Bool
+common s x y = anyBelow s (λ p. bit x p && bit y p)
+
 -- the union of the rows of the members of x; a member that has no row adds nothing
 unfoldable pub imageOf : List ℕ → ℕ → ℕ
 imageOf rows x = word 64 (λ p. anyBelow (length rows) (λ q. bit x q && bit (getD rows q 0) p))

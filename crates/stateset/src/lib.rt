@@ -1,9 +1,9 @@
 // Sets of numbers below 64 in one word: p is in the set exactly if bit p is 1.
 ghost use mathlib.Core.Path.{_≡_};
-ghost use mathlib.Core.Bool.{cond, _&&_};
+ghost use mathlib.Core.Bool.{cond};
 ghost use Prim.Native.Nat.{_%_, _^_};
 ghost use lib.Bits.{bitAnd, bitOr};
-ghost use Rattle.stateset.specs.Set.{bit, anyBelow, imageOf};
+ghost use Rattle.stateset.specs.Set.{bit, common, imageOf};
 ghost use Rattle.runs.specs.Counts.{countBelow};
 
 // The set of p alone; a p that no word holds gives the empty set.
@@ -19,7 +19,7 @@ pub fn union(a: u64, b: u64) -> u64
     a | b
 }
 
-pub fn both(a: u64, b: u64) -> u64
+pub fn intersection(a: u64, b: u64) -> u64
     ensures { λ r. ⌜ r ≡ bitAnd a b ⌝ }
 {
     a & b
@@ -27,7 +27,7 @@ pub fn both(a: u64, b: u64) -> u64
 
 // Whether two sets have a member in common.
 pub fn meets(a: u64, b: u64) -> bool
-    ensures { λ r. ⌜ r ≡ anyBelow 64 (λ p. bit a p && bit b p) ⌝ }
+    ensures { λ r. ⌜ r ≡ common 64 a b ⌝ }
 {
     (a & b) != 0
 }

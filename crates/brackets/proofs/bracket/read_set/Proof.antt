@@ -1,6 +1,7 @@
 -- `read_set`: the set that was filled is stored.
 use borrow.Author.Needs.{needs}
-use Rattle.brackets.proofs.Bracketed.{set-done, set-fault}
+use Rattle.brackets.proofs.Answers.{fault-place, fault-table}
+use Rattle.brackets.proofs.Bracketed.{set-place, set-table, set-fault}
 use Rattle.brackets.proofs.bracket.read_set.Statement.{statement}
 use Rattle.brackets.proofs.bracket.read_set.Tie as tie
 
@@ -17,10 +18,10 @@ enum-told : tie.Need-enum-told
 enum-told c = search needs
 
 returns : tie.Need-returns
-returns c = search set-done
+returns c = (search set-place, search set-table)
 
 returns-2 : tie.Need-returns-2
-returns-2 c = search set-fault
+returns-2 c = (search (fault-place, set-fault), search (fault-table, set-fault))
 
 pub read-set-spec : {M : Type 1} → statement M
 read-set-spec =

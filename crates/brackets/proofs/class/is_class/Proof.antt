@@ -3,7 +3,7 @@ use Prim.Native.Nat.{_+_, _-_}
 use mathlib.Core.Path.{_≡_}
 use lib.ListN.{drop}
 use borrow.Author.Needs.{needs}
-use Rattle.brackets.specs.Steps.{classText}
+use Rattle.brackets.specs.Promises.{classText}
 use Rattle.brackets.specs.Brackets.{isClass}
 use Rattle.brackets.proofs.Classes.{begins, class-first, class-end, class-whole, class-other, class-on}
 use Rattle.brackets.proofs.class.is_class.Statement.{statement}

@@ -4,12 +4,13 @@ use mathlib.Core.List.{[]}
 use mathlib.Core.Path.{_≡_}
 use lib.ListN.{drop, getD}
 use borrow.Author.Needs.{needs}
-use Rattle.brackets.specs.Steps.{mapWith, withElement}
+use Rattle.brackets.specs.Promises.{withElement}
 use Rattle.brackets.specs.Sets.{classRanges}
 use Rattle.brackets.specs.Form.{class}
 use Rattle.brackets.proofs.Ranges.{withRanges, ranges-first, ranges-on, ranges-last}
 use Rattle.brackets.proofs.set.add_class.Statement.{statement}
 use Rattle.brackets.proofs.set.add_class.Tie as tie
+use Rattle.brackets.specs.Answers.{mapWith}
 
 abbrev Inv-loop : tie.InvT-loop
 Inv-loop set₀ c j₀ set j = mapWith (withRanges (drop j (getD classRanges c []))) 0 set ≡ mapWith (withElement (class c)) 0 set₀

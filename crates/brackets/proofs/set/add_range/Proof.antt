@@ -3,7 +3,7 @@ use Prim.Native.Nat.{_≤_, _+_, _-_}
 use mathlib.Core.Path.{_≡_}
 use borrow.Author.Needs.{needs}
 use Rattle.brackets.specs.Form.{range}
-use Rattle.brackets.specs.Steps.{withElement}
+use Rattle.brackets.specs.Promises.{withElement}
 use Rattle.brackets.proofs.Entries.{partly}
 use Rattle.brackets.proofs.Adding.{range-first, range-on, range-last}
 use Rattle.brackets.proofs.set.add_range.Statement.{statement}

@@ -3,17 +3,17 @@ use Prim.Native.Nat.{_-_}
 use mathlib.Core.Logic.{⊎-elim}
 use mathlib.Core.Path.{_≡_}
 use borrow.Author.Needs.{needs}
-use Rattle.brackets.specs.Steps.{withKey}
+use Rattle.brackets.specs.Promises.{withKey}
 use Rattle.brackets.proofs.Entries.{partly}
 use Rattle.brackets.proofs.Adding.{keys-first, keys-in, keys-out, keys-last}
 use Rattle.brackets.proofs.set.store.Statement.{statement}
 use Rattle.brackets.proofs.set.store.Tie as tie
 
 abbrev Inv-loop : tie.InvT-loop
-Inv-loop set negated bit keys₀ k₀ keys k = keys ≡ partly (withKey set negated bit) k keys₀
+Inv-loop set negated states keys₀ k₀ keys k = keys ≡ partly (withKey set negated states) k keys₀
 
 abbrev μ-loop : tie.MeasureT-loop
-μ-loop set negated bit keys₀ k₀ keys k = 256 - k
+μ-loop set negated states keys₀ k₀ keys k = 256 - k
 
 loop-holds : tie.Need-loop-holds Inv-loop μ-loop
 loop-holds c = search keys-first

@@ -1,10 +1,8 @@
 -- `shape::in_sequence`: what two can begin and end with, one after the other.
 use borrow.Author.Needs.{needs}
+use Rattle.pattern.proofs.Shapes.{sequence-made}
 use Rattle.pattern.proofs.shape.in_sequence.Statement.{statement}
 use Rattle.pattern.proofs.shape.in_sequence.Tie as tie
-
-both-requires : tie.Need-both-requires
-both-requires c κs = search needs
 
 union-if-requires : tie.Need-union-if-requires
 union-if-requires c κs = search needs
@@ -13,7 +11,7 @@ union-if-requires-2 : tie.Need-union-if-requires-2
 union-if-requires-2 c κs = search needs
 
 returns : tie.Need-returns
-returns c = rw (c .before .before .both .ensures, c .before .union-if .ensures, c .union-if2 .ensures)
+returns c = search (sequence-made)
 
 pub in-sequence-spec : {M : Type 1} → statement M
-in-sequence-spec = tie.close (tie.spec both-requires union-if-requires union-if-requires-2 returns)
+in-sequence-spec = tie.close (tie.spec union-if-requires union-if-requires-2 returns)

@@ -1,8 +1,7 @@
 -- `Cursor::repetition`: each way out is a case of the mark.
-use mathlib.Core.Path.{refl}
-use denote.Ref.{now}
 use borrow.Author.Needs.{needs}
-use Rattle.pattern.proofs.Repeats.{repeat-star, repeat-plus, repeat-opt, repeat-none}
+use Rattle.pattern.proofs.Repeats as laws
+use Rattle.pattern.proofs.Cycles.{ready-at, ready-atoms}
 use Rattle.pattern.proofs.cursor.Cursor.repetition.Statement.{statement}
 use Rattle.pattern.proofs.cursor.Cursor.repetition.Tie as tie
 
@@ -12,53 +11,29 @@ peek-requires c κs = search needs
 link-requires : tie.Need-link-requires
 link-requires c κs = search needs
 
-add-t13 : tie.Need-add-t13
-add-t13 c = search needs
+past-requires : tie.Need-past-requires
+past-requires c κs = (search (ready-at), search (ready-atoms))
 
 returns : tie.Need-returns
-returns c =
-    let k = c .before .before .before in
-    let a = k .before .before .args in
-    repeat-star (a .self) (a .p) _ _ (k .peek .ensures) (now (a .enter)) _ (c .before .before .if1 .taken) (c .link .ensures)
+returns c = (search (laws.star-read), search (laws.star-table))
 
 link-requires-2 : tie.Need-link-requires-2
 link-requires-2 c κs = search needs
 
-add-t18 : tie.Need-add-t18
-add-t18 c = search needs
+past-requires-2 : tie.Need-past-requires-2
+past-requires-2 c κs = (search (ready-at), search (ready-atoms))
 
 returns-2 : tie.Need-returns-2
-returns-2 c =
-    let k = c .before .before .before .before in
-    let a = k .before .before .args in
-    repeat-plus (a .self) (a .p) _ _ (k .peek .ensures) (now (a .enter)) _ (c .before .before .if2 .taken) (c .link2 .ensures)
+returns-2 c = (search (laws.plus-read), search (laws.plus-table))
 
-add-t20 : tie.Need-add-t20
-add-t20 c = search needs
+past-requires-3 : tie.Need-past-requires-3
+past-requires-3 c κs = (search (ready-at), search (ready-atoms))
 
 returns-3 : tie.Need-returns-3
-returns-3 c =
-    let k = c .before .before .before in
-    let a = k .before .before .args in
-    repeat-opt (a .self) (a .p) _ _ (k .peek .ensures) (now (a .enter)) _ (c .if3 .taken) refl
+returns-3 c = (search (laws.opt-read), search (laws.opt-table))
 
 returns-4 : tie.Need-returns-4
-returns-4 c =
-    let k = c .before .before .before in
-    let a = k .before .before .args in
-    repeat-none (a .self) (a .p) _ _ (k .peek .ensures) (now (a .enter)) _ (c .before .before .if1 .left) (c .before .if2 .left) (c .if3 .left) refl
+returns-4 c = (search (laws.none-read), search (laws.none-table))
 
 pub repetition-spec : {M : Type 1} → statement M
-repetition-spec =
-    tie.close
-    (tie.spec
-    peek-requires
-    link-requires
-    add-t13
-    returns
-    link-requires-2
-    add-t18
-    returns-2
-    add-t20
-    returns-3
-    returns-4)
+repetition-spec = tie.close (tie.spec peek-requires link-requires past-requires returns link-requires-2 past-requires-2 returns-2 past-requires-3 returns-3 returns-4)

@@ -4,10 +4,10 @@ use native.Mathlib.Omega.{arith}
 use mathlib.Core.Path.{_≡_, refl}
 use lib.ListN.{drop}
 use borrow.Author.Needs.{needs}
 use Rattle.brackets.specs.Form.{marks}
-use Rattle.pattern.proofs.Atoms.{search-here, search-on, search-end}
-use Rattle.pattern.proofs.atom.is_mark.Statement.{statement}
-use Rattle.pattern.proofs.atom.is_mark.Tie as tie
+use Rattle.brackets.proofs.Atoms.{search-here, search-on, search-end}
+use Rattle.brackets.proofs.atom.is_mark.Statement.{statement}
+use Rattle.brackets.proofs.atom.is_mark.Tie as tie
 use Rattle.runs.specs.Keys.{member}
 
 abbrev Inv-loop : tie.InvT-loop

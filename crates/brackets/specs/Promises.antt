@@ -6,23 +6,15 @@ use mathlib.Core.List.{List, [], _∷_, _++_}
 use mathlib.Core.Option.{Option, none, some}
 use lib.Bits.{bitOr}
 use lib.ListN.{length, getD, drop}
-use Rattle.brackets.specs.declared.bracket.BracketRead.{BracketRead}
+use Rattle.brackets.specs.declared.atom.AtomRead.{AtomRead}
 use Rattle.brackets.specs.declared.class.ClassRead.{ClassRead}
 use Rattle.brackets.specs.declared.element.Element as declared
 use Rattle.brackets.specs.declared.element.ElementRead.{ElementRead}
 use Rattle.brackets.specs.Form.{Element, byte, range, class, Atom, bracket, className, writeElement}
 use Rattle.brackets.specs.Brackets.{Parsed, parsed, fault, next, done, readElements}
 use Rattle.brackets.specs.Sets.{Range, to, classRanges, inElement, inElements, setOf}
+use Rattle.brackets.specs.Answers.{mapWith}
 use Rattle.runs.specs.Keys.{lineKey}
-
--- each entry of a list changed by its place, counted from i
-unfoldable pub mapWith : {A : Type 0} → (ℕ → A → A) → ℕ → List A → List A
-mapWith f i [] = []
-mapWith f i (x ∷ xs) = f i x ∷ mapWith f (suc i) xs
-
--- the table that has for each key a word of atoms, with the states of `bit` put into the words of an atom's keys
-abbrev pub keysWith : Atom → ℕ → List ℕ → List ℕ
-keysWith a bit keys = mapWith (λ k x. cond (setOf a k) (bitOr x bit) x) 0 keys
 
 -- an entry of a set, with the bytes of an element added, or of some elements
 unfoldable pub withElement : Element → ℕ → Bool → Bool
@@ -35,9 +27,9 @@ withElements es k x = x || inElements k es
 unfoldable pub hasKey : List Bool → Bool → ℕ → Bool
 hasKey set negated k = lineKey k && xor negated (getD set k false)
 
--- a key's word, with the states of `bit` put into it if the key is in the set
+-- a key's word, with these states put into it if the key is in the set
 unfoldable pub withKey : List Bool → Bool → ℕ → ℕ → ℕ → ℕ
-withKey set negated bit k x = cond (hasKey set negated k) (bitOr x bit) x
+withKey set negated states k x = cond (hasKey set negated k) (bitOr x states) x
 
 -- a class's name and the `:]` behind it
 abbrev pub classText : ℕ → List ℕ
@@ -84,11 +76,6 @@ unfoldable pub bracketFrom : Bool → ℕ → List ℕ → Parsed Atom
 bracketFrom negated start l = next (elementsFrom start l) (λ es. done (bracket negated es))
 
 -- the reading of a bracket's elements from n bytes: the set before and after, and the answer
-unfoldable pub ElementsDone : ℕ → Parsed (List Element) → List Bool → List Bool → BracketRead → Type 0
-ElementsDone n (parsed es rest) before after r = (r ≡ BracketRead.At (n - length rest)) × (after ≡ mapWith (withElements es) 0 before)
-ElementsDone n fault before after r = r ≡ BracketRead.Fault
-
--- the reading of a bracket from n bytes: the table of keys before and after, and the answer
-unfoldable pub BracketDone : ℕ → Parsed Atom → ℕ → List ℕ → List ℕ → BracketRead → Type 0
-BracketDone n (parsed a rest) bit before after r = (r ≡ BracketRead.At (n - length rest)) × (after ≡ keysWith a bit before)
-BracketDone n fault bit before after r = (r ≡ BracketRead.Fault) × (after ≡ before)
+unfoldable pub ElementsDone : ℕ → Parsed (List Element) → List Bool → List Bool → AtomRead → Type 0
+ElementsDone n (parsed es rest) before after r = (r ≡ AtomRead.At (n - length rest)) × (after ≡ mapWith (withElements es) 0 before)
+ElementsDone n fault before after r = r ≡ AtomRead.Fault
