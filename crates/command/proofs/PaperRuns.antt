@@ -18,7 +18,6 @@ use Rattle.pattern.specs.Moves.{enters, target, move, leads}
 use Rattle.pattern.specs.Reader.{Read, accepted, refused, readRepeat, readExpr, readBranch, readBranches, readPattern}
 use Rattle.brackets.specs.Brackets.{sameBytes, findClass, readElement, readElements, readBracket, readAtom}
 use Rattle.lines.specs.Lines.{lines, countIn, matching}
-use Rattle.reports.specs.Reports.{firstPart, laterParts, lastPart}
 use Rattle.counter.specs.Counting.{Outcome, itemSteps, steps, countResult}
 use Rattle.reports.specs.Words.{pairs}
 use Rattle.lines.specs.Answers.{lineResult, runResult}
@@ -26,6 +25,7 @@ use Rattle.command.specs.Input.{patternEnd, lastResult, programResult, p
 use Rattle.runs.specs.Counts.{countBelow, sumBelow}
 use Rattle.runs.specs.Keys.{member}
 use Rattle.pattern.specs.Form.{atoms, atomCount}
+use Rattle.lines.specs.Parts.{firstPart, laterParts, lastPart}
 
 -- What is asked. A pattern, a line, a run and a book are their bytes.
 pub data Question : Type 0 where

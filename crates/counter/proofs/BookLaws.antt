@@ -21,19 +21,18 @@ use Rattle.book.specs.declared.layout.Layout.{Layout}
 use Rattle.book.proofs.Expansion.{expansion-nonempty}
 use Rattle.pattern.specs.Moves.{states}
 use Rattle.pattern.specs.Reader as Pattern
-use Rattle.pattern.specs.Automata.{ReadAs, verdictFigures, accepts}
+use Rattle.pattern.specs.Automata.{ReadAs, verdictFigures, accepts, Automaton}
 use Rattle.pattern.specs.declared.automaton.Accepting.{Accepting}
 use Rattle.pattern.specs.declared.automaton.Verdict.{Verdict}
 use Rattle.pattern.proofs.Readings.{read-accepted, read-refused}
 use Rattle.counter.specs.declared.counting.BookCount.{BookCount}
-use Rattle.lines.specs.declared.moves.Closing.{Closing}
 use Rattle.reports.specs.declared.report.Report.{Report}
 use Rattle.reports.specs.declared.total.Total.{Total}
-use Rattle.lines.specs.Lines.{matching}
+use Rattle.lines.specs.Lines.{matching, isOpen}
 use Rattle.reports.specs.Reports.{most}
 use Rattle.counter.specs.Counting.{finished, stopped, filled, steps, needed, countResult}
 use Rattle.counter.specs.Answers.{outcome}
-use Rattle.lines.specs.Promises.{Automaton, Closes, isOpen}
+use Rattle.lines.specs.Promises.{Closes}
 use Rattle.reports.specs.Promises.{Totals, totalOf, loaded}
 use Rattle.counter.specs.Items.{MacroFits, Filled, BookCounted, InBook, PatternCounted}
 use Rattle.counter.proofs.FillLaws.{well-in, expansion-run, reports-at}
@@ -55,7 +54,7 @@ shown-over true N S A B e g = clash (cc)
 shown-over false N S A B e g = rw g refl
 
 -- Macro m.
-module _ {keys enter : List ℕ} {c : Closing} {book offsets : List ℕ} {m s : ℕ} {before after : List ℕ} {n : ℕ} {r : Report} {x : Total} (g : MacroFits book offsets m s before) (f : Filled keys enter c (macrosIn book) m s before after n) (l : r ≡ loaded s (drop (m * (s + 4)) after)) (z : Totals c r x) where
+module _ {keys enter : List ℕ} {c : Accepting} {book offsets : List ℕ} {m s : ℕ} {before after : List ℕ} {n : ℕ} {r : Report} {x : Total} (g : MacroFits book offsets m s before) (f : Filled keys enter c (macrosIn book) m s before after n) (l : r ≡ loaded s (drop (m * (s + 4)) after)) (z : Totals c r x) where
   -- the count is that of the run
   counted : (t : Pattern) → Automaton t keys enter c → s ≡ states t → x ≡ totalOf (matching t (expansion (macrosIn book) m))
   unfolding Totals
@@ -103,7 +102,7 @@ module _ {book offsets : List ℕ} {macros : ℕ} (i : InBook book offsets macro
         let room : length before < needed t m = rw size at (rw (add-one m) at h) in
         rw (lt-ltb m (length (macrosIn book)) (omega (arith, i .many)), lt-ltb (length before) (needed t m) room) refl
 
-    pub pattern-counted : (keys enter : List ℕ) (c : Closing) (before after : List ℕ) (r : BookCount) → (m + 1) * (a .atoms + 3 + 4) ≤ length before → Closes a c → BookCounted keys enter c (macrosIn book) m (a .atoms + 3) before after r → PatternCounted keys enter a (macrosIn book) m before after r
+    pub pattern-counted : (keys enter : List ℕ) (c : Accepting) (before after : List ℕ) (r : BookCount) → (m + 1) * (a .atoms + 3 + 4) ≤ length before → Closes a c → BookCounted keys enter c (macrosIn book) m (a .atoms + 3) before after r → PatternCounted keys enter a (macrosIn book) m before after r
     unfolding PatternCounted BookCounted Closes accepts
     pattern-counted keys enter c before after r h k g t x y d few =
         let atoms : a .atoms ≡ atomCount t = ap (λ (z : Accepting). z .atoms) d in

@@ -20,12 +20,13 @@ use Rattle.book.proofs.Reach.{expansion-alike}
 use Rattle.pattern.specs.Moves.{states, leads}
 use Rattle.pattern.specs.Reader as reader
 use Rattle.lines.specs.Lines.{matching}
-use Rattle.reports.specs.Reports.{laterParts, lastPart, most}
+use Rattle.reports.specs.Reports.{most}
 use Rattle.reports.specs.Words.{pairsWith, pairs}
 use Rattle.counter.specs.Counting.{itemSteps, stepsWithin, steps, itemsTo, Outcome, finished, stopped, filled, needed, countOf, countResult}
 use Rattle.runs.specs.Counts.{countBelow, sumBelow}
 use Rattle.runs.proofs.CountLaws.{count-le}
 use Rattle.pattern.specs.Form.{Pattern}
+use Rattle.lines.specs.Parts.{laterParts, lastPart}
 
 -- a sound book, an accepted pattern, a macro of the book, and work space enough
 pub record Asked (b p work : List ℕ) (ms : List Macro) (t : Pattern) (m : ℕ) : Type 0 where

@@ -20,12 +20,10 @@ use Rattle.book.proofs.Parts.{PartOffsets, located, part-is}
 use Rattle.book.proofs.Expansion.{calls-lower, expansion-law, expansion-keys, well-short, well-key}
 use Rattle.pattern.specs.Moves.{states}
 use Rattle.counter.specs.declared.items.MacroCount.{MacroCount}
-use Rattle.lines.specs.declared.moves.Closing.{Closing}
 use Rattle.reports.specs.declared.report.Report.{Report}
 use Rattle.reports.specs.Reports.{report}
 use Rattle.reports.specs.Words.{reportWords}
 use Rattle.counter.specs.Counting.{stepsWithin, steps, firstReports}
-use Rattle.lines.specs.Promises.{Automaton}
 use Rattle.reports.specs.Promises.{loaded}
 use Rattle.counter.specs.Items.{CallRoom, CallsFit, Served, ItemsCounted, MacroFits, Filled}
 use Rattle.reports.proofs.StoredLaws.{words-length, loaded-words}
@@ -34,6 +32,8 @@ use Rattle.pattern.specs.Form.{Pattern, atomCount}
 use Rattle.runs.specs.Keys.{isRun}
 use Rattle.runs.specs.Counts.{sumBelow}
 use Rattle.runs.proofs.CountLaws.{sum-more}
+use Rattle.pattern.specs.declared.automaton.Accepting.{Accepting}
+use Rattle.pattern.specs.Automata.{Automaton}
 
 module _ (t : Pattern) (few : atomCount t ≤ 29) (ms : List Macro) where
   pub reports-length : (n : ℕ) → length (firstReports t ms n) ≡ n * (states t + 4)
@@ -110,17 +110,17 @@ module _ {book offsets : List ℕ} {i s : ℕ} {work : List ℕ} (g : MacroFits 
           let low : suc j ≤ i = calls-lower (macrosIn book) well m in
           omega (arith, mul-le-mul-right (s + 4) low, g .room)
 
-  pub body-counted : {keys enter : List ℕ} {c : Closing} {r : MacroCount} → ItemsCounted keys enter c work s (itemsOf bodyIn) r → ItemsCounted keys enter c work s (getD (macrosIn book) i []) r
+  pub body-counted : {keys enter : List ℕ} {c : Accepting} {r : MacroCount} → ItemsCounted keys enter c work s (itemsOf bodyIn) r → ItemsCounted keys enter c work s (getD (macrosIn book) i []) r
   body-counted h = rw items-in at h
 
 -- after i macros
-pub record FillSoFar (keys enter : List ℕ) (c : Closing) (ms : List Macro) (m s : ℕ) (before after : List ℕ) (n i : ℕ) : Type 0 where
+pub record FillSoFar (keys enter : List ℕ) (c : Accepting) (ms : List Macro) (m s : ℕ) (before after : List ℕ) (n i : ℕ) : Type 0 where
   pub inside : i ≤ suc m
   pub long : length after ≡ length before
   pub few : n ≤ i * 131072
   pub counts : (t : Pattern) → Automaton t keys enter c → s ≡ states t → (after ≡ firstReports t ms i ++ drop (i * (s + 4)) before) × (n ≡ sumBelow i (stepsWithin t ms))
 
-module _ {keys enter : List ℕ} {c : Closing} {ms : List Macro} {m s : ℕ} {before : List ℕ} where
+module _ {keys enter : List ℕ} {c : Accepting} {ms : List Macro} {m s : ℕ} {before : List ℕ} where
   pub fill-start : FillSoFar keys enter c ms m s before before 0 0
   unfolding firstReports sumBelow
   fill-start =
@@ -153,7 +153,7 @@ stored-next t few ms i before work after e f =
     ∙ sym (append-assoc (firstReports t ms i) (reportWords (report t (expansion ms i))) (drop ((i + 1) * (states t + 4)) before))
     ∙ ap (λ (n : ℕ). firstReports t ms n ++ drop ((i + 1) * (states t + 4)) before) (sym (add-one i))
 
-module _ {keys enter : List ℕ} {c : Closing} {book offsets : List ℕ} {m s : ℕ} {before : List ℕ} {work : List ℕ} {n i : ℕ} (x : FillSoFar keys enter c (macrosIn book) m s before work n i) (g : MacroFits book offsets m s before) (r : suc m * (s + 4) ≤ length before) (below : i ≤ m) where
+module _ {keys enter : List ℕ} {c : Accepting} {book offsets : List ℕ} {m s : ℕ} {before : List ℕ} {work : List ℕ} {n i : ℕ} (x : FillSoFar keys enter c (macrosIn book) m s before work n i) (g : MacroFits book offsets m s before) (r : suc m * (s + 4) ≤ length before) (below : i ≤ m) where
   -- the words of macro i are within the work space
   pub words-room : suc i * (s + 4) ≤ length work
   words-room = let low : suc i ≤ suc m = omega arith in omega (arith, mul-le-mul-right (s + 4) low, x .long)

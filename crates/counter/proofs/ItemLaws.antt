@@ -15,12 +15,10 @@ use Rattle.book.specs.Expansion.{keysOf, expand}
 use Rattle.book.specs.Reading.{itemAt, itemsOf}
 use Rattle.book.proofs.Items.{found-long, items-on-found, items-on-short, items-end}
 use Rattle.pattern.specs.Moves.{states}
-use Rattle.lines.specs.declared.moves.Closing.{Closing}
 use Rattle.reports.specs.declared.report.Report.{Report}
 use Rattle.reports.specs.Reports.{report, joinedReports}
 use Rattle.reports.specs.Words.{pairs}
 use Rattle.counter.specs.Counting.{itemSteps}
-use Rattle.lines.specs.Promises.{Automaton}
 use Rattle.reports.specs.Promises.{Extended, loaded, pairsIn}
 use Rattle.reports.specs.Empty.{emptyReport}
 use Rattle.counter.specs.Items.{CallFits, CallsFit, Served, AfterItem, ItemsCounted}
@@ -32,6 +30,8 @@ use Rattle.runs.specs.Keys.{isRun}
 use Rattle.runs.specs.Counts.{sumBelow}
 use Rattle.runs.proofs.CountLaws.{sum-more, sum-ext}
 use Rattle.runs.proofs.KeyLaws.{run-append}
+use Rattle.pattern.specs.declared.automaton.Accepting.{Accepting}
+use Rattle.pattern.specs.Automata.{Automaton}
 
 pub expand-more : (called : ℕ → List ℕ) (is : List Item) (i : Item) → expand called (is ++ (i ∷ [])) ≡ expand called is ++ keysOf called i
 unfolding expand
@@ -53,7 +53,7 @@ steps-more t called is i =
     both e f = rw (e, f)
 
 -- One item more.
-module _ {keys enter : List ℕ} {c : Closing} {work : List ℕ} {a : Report} {item : Item} where
+module _ {keys enter : List ℕ} {c : Accepting} {work : List ℕ} {a : Report} {item : Item} where
   pub item-key : {k : ℕ} {b : Report} → item ≡ Key k → Extended keys enter c a k b → AfterItem keys enter c work a item b
   item-key i g = rw i (record { size = g .size; extends = λ t h called w run served e. g .extends t h w run served e })
 
@@ -78,7 +78,7 @@ run-of-item t called work (Key k) h = and-both (leb 1 k && leb k 255) true h ref
 run-of-item t called work (Call j) h = h .1
 
 -- All items.
-pub record ItemsSoFar (keys enter : List ℕ) (c : Closing) (work : List ℕ) (s : ℕ) (body : List ℕ) (a : Report) (n at : ℕ) : Type 0 where
+pub record ItemsSoFar (keys enter : List ℕ) (c : Accepting) (work : List ℕ) (s : ℕ) (body : List ℕ) (a : Report) (n at : ℕ) : Type 0 where
   pub size : a .s ≡ s
   pub inside : at ≤ length body
   pub few : n ≤ at * 1024
@@ -86,7 +86,7 @@ pub record ItemsSoFar (keys enter : List ℕ) (c : Closing) (work : List ℕ) (s
   pub whole : done ++ itemsOf (drop at body) ≡ itemsOf body
   pub counts : (t : Pattern) → Automaton t keys enter c → s ≡ states t → (called : ℕ → List ℕ) → ((item : Item) → List·Memᴰ item (itemsOf body) → Served t called work item) → (a ≡ report t (expand called done)) × (isRun (expand called done) ≡ true) × (n ≡ itemSteps t called done)
 
-module _ {keys enter : List ℕ} {c : Closing} {work : List ℕ} {s : ℕ} {body : List ℕ} where
+module _ {keys enter : List ℕ} {c : Accepting} {work : List ℕ} {s : ℕ} {body : List ℕ} where
   pub items-start : {a : Report} → a ≡ emptyReport s → ItemsSoFar keys enter c work s body a 0 0
   unfolding expand itemSteps sumBelow
   items-start {a} e =

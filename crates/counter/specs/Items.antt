@@ -11,17 +11,15 @@ use Rattle.book.specs.Steps.{Located}
 use Rattle.book.specs.Expansion.{keysOf, expand}
 use Rattle.book.specs.Reading.{itemsOf, got, readBook, macrosIn}
 use Rattle.book.specs.Answer.{layoutFor}
-use Rattle.pattern.specs.Automata.{keyTable, enterTable, accepts}
+use Rattle.pattern.specs.Automata.{keyTable, enterTable, accepts, Automaton}
 use Rattle.pattern.specs.declared.automaton.Accepting.{Accepting}
 use Rattle.pattern.specs.Moves.{states}
 use Rattle.counter.specs.declared.counting.BookCount.{BookCount}
 use Rattle.counter.specs.declared.items.MacroCount.{MacroCount}
-use Rattle.lines.specs.declared.moves.Closing.{Closing}
 use Rattle.reports.specs.declared.report.Report.{Report}
 use Rattle.reports.specs.Reports.{report}
 use Rattle.counter.specs.Counting.{itemSteps, steps, filled, countOf, countWith}
 use Rattle.counter.specs.Answers.{outcome}
-use Rattle.lines.specs.Promises.{Automaton}
 use Rattle.reports.specs.Promises.{loaded}
 use Rattle.pattern.specs.Form.{Pattern, atomCount}
 use Rattle.runs.specs.Keys.{isKey, isRun}
@@ -47,12 +45,12 @@ Served t called work (Key k) = isKey k ≡ true
 Served t called work (Call j) = (loaded (states t) (drop (j * (states t + 4)) work) ≡ report t (called j)) × (isRun (called j) ≡ true)
 
 -- the report of a run with the run of one item more
-pub record AfterItem (keys enter : List ℕ) (c : Closing) (work : List ℕ) (a : Report) (item : Item) (b : Report) : Type 0 where
+pub record AfterItem (keys enter : List ℕ) (c : Accepting) (work : List ℕ) (a : Report) (item : Item) (b : Report) : Type 0 where
   pub size : b .s ≡ a .s
   pub extends : (t : Pattern) → Automaton t keys enter c → (called : ℕ → List ℕ) (w : List ℕ) → isRun w ≡ true → Served t called work item → a ≡ report t w → b ≡ report t (w ++ keysOf called item)
 
 -- the report of the run of some items, and their steps; each item has at most 32 × 64 pairs
-pub record ItemsCounted (keys enter : List ℕ) (c : Closing) (work : List ℕ) (s : ℕ) (items : List Item) (r : MacroCount) : Type 0 where
+pub record ItemsCounted (keys enter : List ℕ) (c : Accepting) (work : List ℕ) (s : ℕ) (items : List Item) (r : MacroCount) : Type 0 where
   pub size : r .report .s ≡ s
   pub few : r .steps ≤ 131072
   pub counts : (t : Pattern) → Automaton t keys enter c → s ≡ states t → (called : ℕ → List ℕ) → ((item : Item) → List·Memᴰ item items → Served t called work item) → (r .report ≡ report t (expand called items)) × (r .steps ≡ itemSteps t called items)
@@ -64,12 +62,12 @@ pub record MacroFits (book offsets : List ℕ) (i s : ℕ) (work : List ℕ) : T
   pub room : i * (s + 4) ≤ length work
 
 -- the reports of macros 0 to m stand in the work words, and their steps were counted
-pub record Filled (keys enter : List ℕ) (c : Closing) (ms : List Macro) (m s : ℕ) (before after : List ℕ) (n : ℕ) : Type 0 where
+pub record Filled (keys enter : List ℕ) (c : Accepting) (ms : List Macro) (m s : ℕ) (before after : List ℕ) (n : ℕ) : Type 0 where
   pub long : length after ≡ length before
   pub counts : (t : Pattern) → Automaton t keys enter c → s ≡ states t → (after ≡ filled t ms m before) × (n ≡ steps t ms m)
 
 -- the count of macro m, where the work words suffice
-unfoldable pub BookCounted : List ℕ → List ℕ → Closing → List Macro → ℕ → ℕ → List ℕ → List ℕ → BookCount → Type 0
+unfoldable pub BookCounted : List ℕ → List ℕ → Accepting → List Macro → ℕ → ℕ → List ℕ → List ℕ → BookCount → Type 0
 BookCounted keys enter c ms m s before after r = (t : Pattern) → Automaton t keys enter c → s ≡ states t → outcome r after ≡ countOf t ms m before
 
 -- a sound book, by its layout

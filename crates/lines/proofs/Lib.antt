@@ -1,6 +1,7 @@
--- Laws.
+-- Laws of lines, of the parts of a run and of the moves of a set of states, and one law for each way through the functions.
 pub mod LineLaws
 pub mod Reaching
 pub mod Testing
 pub mod Tallying
 pub mod Answering
+pub mod PartLaws

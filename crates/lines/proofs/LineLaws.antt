@@ -6,10 +6,10 @@ use mathlib.Core.Bool.{Bool, true, false, cond, _&&_, _||_, false≢true}
 use mathlib.Core.List.{List, [], _∷_, _++_}
 use lib.Dec.{eqb}
 use Rattle.pattern.specs.Meaning.{matches}
-use Rattle.lines.specs.Lines.{lines, countIn, matching}
-use Rattle.lines.specs.Promises.{isOpen}
+use Rattle.lines.specs.Lines.{lines, countIn, matching, isOpen}
 use Rattle.pattern.specs.Form.{Pattern}
 use Rattle.runs.specs.Keys.{member, lineEnd}
+use Rattle.runs.proofs.KeyLaws.{member-first, member-rest}
 
 -- a line end closes the keys before it
 pub lines-closed : (l w : List ℕ) → member lineEnd l ≡ false → lines (l ++ (lineEnd ∷ w)) ≡ l ∷ lines w

@@ -1,42 +1,45 @@
 -- Laws of the sets of states that keys lead to.
-use Prim.Native.Nat.{ℕ, _<_, _≤_}
+use Prim.Native.Nat.{ℕ, _%_, _^_, _<_, _≤_}
 use native.Mathlib.Omega.{arith}
 use mathlib.Core.Path.{_≡_, refl, sym, ap, _∙_}
 use mathlib.Core.Bool.{Bool, true, false, cond, _&&_}
 use mathlib.Core.List.{List, [], _∷_, _++_}
+use lib.Dec.{eqb}
 use lib.ListN.{getD}
 use lib.Bits.{bitAnd, bitOr}
-use Rattle.stateset.specs.Set.{bit, word, anyBelow, imageOf}
+use Rattle.runs.specs.Keys.{lineKey, isLine}
+use Rattle.stateset.specs.Set.{bit, word, anyBelow, common, imageOf}
 use Rattle.stateset.proofs.Sets.{word-ext, word-one, bit-word}
 use Rattle.stateset.proofs.Some.{any-ext, any-widen}
 use Rattle.stateset.proofs.Common.{common-words}
+use Rattle.pattern.specs.Form.{Pattern, atomCount}
 use Rattle.pattern.specs.Meaning.{matches}
 use Rattle.pattern.specs.Moves.{states, move, accepting, leads, acceptedFrom}
+use Rattle.pattern.specs.Automata.{Automaton}
 use Rattle.pattern.specs.declared.automaton.Accepting.{Accepting}
-use Rattle.pattern.proofs.Moving.{common, advanced, always-word, ends-word, accepting-word}
+use Rattle.pattern.proofs.Moving.{advanced}
+use Rattle.pattern.proofs.Readings.{always-of, ends-of, accepting-of}
 use Rattle.pattern.proofs.AcceptedLines.{states-match}
-use Rattle.pattern.proofs.Leading.{leads-append, leads-one, leads-below}
-use Rattle.lines.specs.declared.moves.Closing.{Closing}
-use Rattle.lines.specs.Promises.{Automaton, Closes, Advances, closingOf, moved, reached}
-use Rattle.pattern.specs.Form.{Pattern, atomCount}
-use Rattle.runs.specs.Keys.{isLine}
+use Rattle.pattern.proofs.Leading.{leads-none, accepted-is, leads-append, leads-one, leads-below}
+use Rattle.lines.specs.Moving.{moved, reached, lookedUp}
 
 -- a move, from what each word of it is
-pub made : (keys enter : List ℕ) (c : Closing) (x k : ℕ) {i e mid a b found near r : ℕ} {m n o : Bool} →
-    i ≡ imageOf enter x → e ≡ bitAnd i (getD keys k 0) → m ≡ common x 3 → mid ≡ cond m 2 0 → n ≡ common x (c .always) → a ≡ cond n 4 0 → o ≡ common e (c .ends) → b ≡ cond o 4 0 → found ≡ bitOr a b → near ≡ bitOr e mid → r ≡ bitOr near found → Advances keys enter c x k r
-unfolding Advances moved
-made keys enter c x k i e m mid n a o b found near r t h l =
-    rw (r, near, found, b, a, mid, o, n, m, e, i, h .keyed, h .entered, h .closing) (advanced t (h .few) x k l)
+pub made : (keys enter : List ℕ) (a : Accepting) (x k : ℕ) {start mid found i e u on always ended near far r : ℕ} {m n o : Bool} →
+    start ≡ 2 ^ 0 % 2 ^ 64 → mid ≡ 2 ^ 1 % 2 ^ 64 → found ≡ 2 ^ 2 % 2 ^ 64 → i ≡ imageOf enter x → e ≡ bitAnd i (getD keys k 0) →
+    u ≡ bitOr start mid → m ≡ common 64 x u → on ≡ cond m mid 0 → n ≡ common 64 x (a .always) → always ≡ cond n found 0 →
+    o ≡ common 64 e (a .ends) → ended ≡ cond o found 0 → near ≡ bitOr e on → far ≡ bitOr always ended → r ≡ bitOr near far → r ≡ lookedUp keys enter a x k
+unfolding lookedUp
+made keys enter a x k s d f i e u m on n al o en near far r = rw (r, far, near, en, o, al, n, on, m, u, e, i, f, d, s) refl
 
--- the words that a pattern's summary comes to
-pub closed : (a : Accepting) {u v w y z : ℕ} → u ≡ cond (a .jump) 1 0 → v ≡ bitOr 4 u → w ≡ cond (a .empty) 1 0 → y ≡ bitOr 4 w → z ≡ bitOr y (a .anchored) → Closes a (record { always = v; ends = a .ends; accepting = z })
-unfolding Closes
-closed a u v w y z t e = rw (z, y, w, v, u, e, always-word t, ends-word t, accepting-word t) refl
+-- it leads to the states that the pattern's moves lead to
+pub looked-up : {t : Pattern} {keys enter : List ℕ} {a : Accepting} → Automaton t keys enter a → (x k : ℕ) → lineKey k ≡ true → lookedUp keys enter a x k ≡ moved t x k
+unfolding lookedUp moved
+looked-up {t} d x k l = rw (d .keyed, d .entered, always-of d, ends-of d) (advanced t (d .few) x k l)
 
 -- line-start alone
 pub reached-none : (t : Pattern) → 1 ≡ reached t []
-unfolding reached leads
-reached-none t = word-one 32 0 (omega arith)
+unfolding reached
+reached-none t = word-one 32 0 (omega arith) ∙ word-ext 32 (λ p. eqb 0 p) (leads t 0 []) (λ p h. sym (leads-none t 0 p))
 
 -- from a state of the pattern
 module _ (t : Pattern) (few : atomCount t ≤ 29) (q : ℕ) (inside : q < states t) (w : List ℕ) where
@@ -63,9 +66,8 @@ module _ (t : Pattern) (few : atomCount t ≤ 29) (q : ℕ) (inside : q < states
       ∙ sym (leads-append t w (c ∷ []) q p inside))
 
   -- the line is accepted
-  pub leads-accepts : common (word 32 (leads t q w)) (closingOf t .accepting) ≡ acceptedFrom t q w
-  unfolding acceptedFrom
-  leads-accepts = common-words 32 (leads t q w) (accepting t) (omega arith) ∙ wide (accepting t)
+  pub leads-accepts : common 64 (word 32 (leads t q w)) (word 32 (accepting t)) ≡ acceptedFrom t q w
+  leads-accepts = common-words 32 (leads t q w) (accepting t) (omega arith) ∙ wide (accepting t) ∙ sym (accepted-is t q w)
 
 -- the same from line-start
 module _ (t : Pattern) (few : atomCount t ≤ 29) (w : List ℕ) where
@@ -73,10 +75,10 @@ module _ (t : Pattern) (few : atomCount t ≤ 29) (w : List ℕ) where
   unfolding reached
   reached-more c = leads-more t few 0 (omega arith) w c
 
-  pub reached-accepts : common (reached t w) (closingOf t .accepting) ≡ acceptedFrom t 0 w
+  pub reached-accepts : common 64 (reached t w) (word 32 (accepting t)) ≡ acceptedFrom t 0 w
   unfolding reached
   reached-accepts = leads-accepts t few 0 (omega arith) w
 
 -- a set of states accepts exactly if the keys that lead to it match
-pub reached-matches : {t : Pattern} {keys enter : List ℕ} {c : Closing} → Automaton t keys enter c → (x : ℕ) (w : List ℕ) → x ≡ reached t w → isLine w ≡ true → common x (c .accepting) ≡ matches t w
-reached-matches {t} a x w e l = rw (e, a .closing) (reached-accepts t (a .few) w ∙ states-match t w l)
+pub reached-matches : {t : Pattern} {keys enter : List ℕ} {a : Accepting} → Automaton t keys enter a → (x : ℕ) (w : List ℕ) → x ≡ reached t w → isLine w ≡ true → common 64 x (a .accepting) ≡ matches t w
+reached-matches {t} d x w e l = rw (e, accepting-of d) (reached-accepts t (d .few) w ∙ states-match t w l)

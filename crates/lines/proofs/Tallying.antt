@@ -1,5 +1,5 @@
 -- Laws of the count over a plain run: what is known after some of its keys, and what it comes to.
-use Prim.Native.Nat.{ℕ, _+_, _<_, _≤_}
+use Prim.Native.Nat.{ℕ, _+_, _%_, _^_, _<_, _≤_}
 use native.Mathlib.Omega.{arith}
 use native.Mathlib.Nat.{zero-add}
 use native.Mathlib.Numerals.{add-one}
@@ -12,19 +12,21 @@ use lib.Seq.{take-all, take-suc, drop-cons}
 use borrow.Author.Tests.{eqb-true, ne-eqb}
 use Rattle.refusal.specs.declared.Refusal.the-variants.{InvalidKey}
 use Rattle.pattern.specs.Meaning.{matches}
-use Rattle.pattern.proofs.Moving.{common}
-use Rattle.lines.specs.declared.moves.Closing.{Closing}
+use Rattle.stateset.specs.Set.{common}
 use Rattle.lines.specs.declared.run.RunCount.{RunCount}
 use Rattle.lines.specs.declared.run.Tally.{Tally}
-use Rattle.lines.specs.Lines.{matching}
+use Rattle.lines.specs.Lines.{matching, isOpen}
 use Rattle.refusal.specs.Figures.{answered}
 use Rattle.lines.specs.Answers.{runResult}
-use Rattle.lines.specs.Promises.{Automaton, Advances, AfterKey, CountsRun, tallyAfter, isOpen, reached}
+use Rattle.lines.specs.Promises.{AfterKey, CountsRun, tallyAfter}
 use Rattle.lines.proofs.LineLaws.{matching-closed, matching-open}
-use Rattle.lines.proofs.Reaching.{reached-none, reached-more, reached-matches}
+use Rattle.lines.proofs.Reaching.{looked-up, reached-none, reached-more, reached-matches}
 use Rattle.pattern.specs.Form.{Pattern}
 use Rattle.runs.specs.Keys.{member, lineKey, isLine, lineEnd}
-use Rattle.runs.proofs.KeyLaws.{member-first, member-rest, key-test, line-more, line-without, member-at}
+use Rattle.runs.proofs.KeyLaws.{member-first, member-rest, key-test, line-more, line-without, member-at, member-more}
+use Rattle.pattern.specs.declared.automaton.Accepting.{Accepting}
+use Rattle.pattern.specs.Automata.{Automaton}
+use Rattle.lines.specs.Moving.{reached, lookedUp}
 
 -- two tallies of closed lines
 same-tally : {x y m n : ℕ} → x ≡ y → m ≡ n → _≡_ {A = Tally} (record { set = x; pending = false; lines = m }) (record { set = y; pending = false; lines = n })
@@ -40,29 +42,29 @@ pub at-most-one : (m : Bool) {x : ℕ} → x ≡ cond m 1 0 → x ≤ 1
 at-most-one true e = omega arith
 at-most-one false e = omega arith
 
-pub last-small : (p m : Bool) {x y : ℕ} → x ≡ cond m 1 0 → y ≡ cond p x 0 → y ≤ cond p 1 0
-last-small true m e f = omega (arith, at-most-one m e)
-last-small false m e f = omega arith
+pub last-small : (p m : Bool) {y : ℕ} → y ≡ cond (p && m) 1 0 → y ≤ cond p 1 0
+last-small true m e = omega (arith, at-most-one m e)
+last-small false m e = omega arith
 
 -- One more key.
-module _ {keys enter : List ℕ} {c : Closing} {a : Tally} {k : ℕ} where
-  pub after-end : {m : Bool} {x : ℕ} → k ≡ lineEnd → m ≡ common (a .set) (c .accepting) → x ≡ cond m 1 0 → AfterKey keys enter c a k (record { set = 1; pending = false; lines = a .lines + x })
+module _ {keys enter : List ℕ} {p : Accepting} {a : Tally} {k : ℕ} where
+  pub after-end : {z x : ℕ} {m : Bool} → k ≡ lineEnd → z ≡ 2 ^ 0 % 2 ^ 64 → m ≡ common 64 (a .set) (p .accepting) → x ≡ cond m 1 0 → AfterKey keys enter p a k (record { set = z; pending = false; lines = a .lines + x })
   unfolding tallyAfter
-  after-end {m} {x} e f g =
+  after-end {z} {x} {m} e y f g =
       record {
         small = omega (arith, at-most-one m g);
-        tallies = λ t h w l i z. rw e (same-tally (reached-none t) (rw (g, f, reached-matches h (a .set) w i l) refl));
+        tallies = λ t h w l i z. rw e (same-tally (y ∙ reached-none t) (rw (g, f, reached-matches h (a .set) w i l) refl));
       }
 
-  pub after-other : {y : ℕ} → k < 256 → (k ≡ lineEnd → ⊥) → Advances keys enter c (a .set) k y → AfterKey keys enter c a k (record { set = y; pending = true; lines = a .lines })
-  unfolding tallyAfter Advances
+  pub after-other : {y : ℕ} → k < 256 → (k ≡ lineEnd → ⊥) → y ≡ lookedUp keys enter p (a .set) k → AfterKey keys enter p a k (record { set = y; pending = true; lines = a .lines })
+  unfolding tallyAfter
   after-other {y} b n g =
       record {
         small = omega arith;
         tallies = λ t h w l i z.
             let no : eqb k lineEnd ≡ false = ne-eqb k lineEnd n in
             let key : lineKey k ≡ true = sym (key-test k b z) ∙ rw no refl in
-            rw (no, g t h key, i, reached-more t (h .few) w k) refl;
+            rw (no, g, looked-up h (a .set) k key, i, reached-more t (h .few) w k) refl;
       }
 
 -- the tally of the first `at` keys of a run
@@ -73,28 +75,28 @@ pub record Tallied (t : Pattern) (run : List ℕ) (at : ℕ) (a : Tally) : Type 
   pub has-key : a .pending ≡ isOpen line
   pub count : a .lines + matching t (line ++ drop at run) ≡ matching t run
 
-pub record RunSoFar (keys enter : List ℕ) (c : Closing) (run : List ℕ) (a : Tally) (at : ℕ) : Type 0 where
+pub record RunSoFar (keys enter : List ℕ) (p : Accepting) (run : List ℕ) (a : Tally) (at : ℕ) : Type 0 where
   pub inside : at ≤ length run
   pub small : a .lines + cond (a .pending) 1 0 ≤ at
   pub clean : member 0 (take at run) ≡ false
-  pub tallied : (t : Pattern) → Automaton t keys enter c → Tallied t run at a
+  pub tallied : (t : Pattern) → Automaton t keys enter p → Tallied t run at a
 
-module _ {keys enter : List ℕ} {c : Closing} {run : List ℕ} where
-  pub run-start : RunSoFar keys enter c run (record { set = 1; pending = false; lines = 0 }) 0
-  run-start =
+module _ {keys enter : List ℕ} {p : Accepting} {run : List ℕ} where
+  pub run-start : {z : ℕ} → z ≡ 2 ^ 0 % 2 ^ 64 → RunSoFar keys enter p run (record { set = z; pending = false; lines = 0 }) 0
+  run-start e =
       record {
         inside = omega arith;
         small = omega arith;
         clean = refl;
-        tallied = λ t h. record { line = []; clean = refl; leads = reached-none t; has-key = refl; count = zero-add (matching t run) };
+        tallied = λ t h. record { line = []; clean = refl; leads = e ∙ reached-none t; has-key = refl; count = zero-add (matching t run) };
       }
 
-  module _ {a : Tally} {at : ℕ} (s : RunSoFar keys enter c run a at) where
-    pub run-refused : at < length run → getD run at 0 ≡ 0 → CountsRun keys enter c run (RunCount.Refused InvalidKey)
+  module _ {a : Tally} {at : ℕ} (s : RunSoFar keys enter p run a at) where
+    pub run-refused : at < length run → getD run at 0 ≡ 0 → CountsRun keys enter p run (RunCount.Refused InvalidKey)
     unfolding runResult CountsRun
     run-refused h e t i = rw (member-at 0 run at h e) refl
 
-    pub run-on : {b : Tally} → at < length run → getD run at 0 < 256 → (getD run at 0 ≡ 0 → ⊥) → AfterKey keys enter c a (getD run at 0) b → RunSoFar keys enter c run b (at + 1)
+    pub run-on : {b : Tally} → at < length run → getD run at 0 < 256 → (getD run at 0 ≡ 0 → ⊥) → AfterKey keys enter p a (getD run at 0) b → RunSoFar keys enter p run b (at + 1)
     unfolding tallyAfter
     run-on {b} h i n g =
         record {
@@ -118,7 +120,7 @@ module _ {keys enter : List ℕ} {c : Closing} {run : List ℕ} where
         longer : (t : Pattern) (w : List ℕ) → b .lines ≡ a .lines → a .lines + matching t (w ++ drop at run) ≡ matching t run → b .lines + matching t ((w ++ (k ∷ [])) ++ drop (at + 1) run) ≡ matching t run
         longer t w f r = rw (append-assoc, f, ← rest) r
 
-        go : (t : Pattern) → Automaton t keys enter c → Tallied t run at a → (x : Bool) → eqb k lineEnd ≡ x → Tallied t run (at + 1) b
+        go : (t : Pattern) → Automaton t keys enter p → Tallied t run at a → (x : Bool) → eqb k lineEnd ≡ x → Tallied t run (at + 1) b
         go t j u true e =
             let w = u .line in
             let f : b ≡ record { set = reached t []; pending = false; lines = a .lines + cond (matches t w) 1 0 } = rw e at (g .tallies t j w (u .clean) (u .leads) (ne-eqb k 0 n)) in
@@ -140,9 +142,9 @@ module _ {keys enter : List ℕ} {c : Closing} {run : List ℕ} where
               count = longer t w (ap (λ (d : Tally). d .lines) f) (u .count);
             }
 
-    pub run-done : {m : Bool} {x y : ℕ} → length run ≤ at → m ≡ common (a .set) (c .accepting) → x ≡ cond m 1 0 → y ≡ cond (a .pending) x 0 → CountsRun keys enter c run (RunCount.Lines (a .lines + y))
+    pub run-done : {m : Bool} {y : ℕ} → length run ≤ at → m ≡ common 64 (a .set) (p .accepting) → y ≡ cond (a .pending && m) 1 0 → CountsRun keys enter p run (RunCount.Lines (a .lines + y))
     unfolding runResult CountsRun
-    run-done {m} {x} {y} h e f g t i = rw none (ap answered total)
+    run-done {m} {y} h e g t i = rw none (ap answered total)
       where
         none : member 0 run ≡ false
         none = rw (take-all at run h) at (s .clean)
@@ -151,12 +153,6 @@ module _ {keys enter : List ℕ} {c : Closing} {run : List ℕ} where
         total =
             let u = s .tallied t i in
             let w = u .line in
+            let last : y ≡ cond (isOpen w && matches t w) 1 0 = g ∙ rw (u .has-key, e, reached-matches i (a .set) w (u .leads) (u .clean)) refl in
             omega
-            (arith, u .count, ap (λ (v : List ℕ). matching t (w ++ v)) (drop-of-length-le run h), ap (matching t) (append-nil w), matching-open t w (line-without w lineEnd refl (u .clean)), last (u .has-key) (e ∙ reached-matches i (a .set) w (u .leads) (u .clean)))
-          where
-            last : {p q : Bool} → a .pending ≡ p → m ≡ q → y ≡ cond (p && q) 1 0
-            last {p} {q} d k = g ∙ rw (d, f, k) (both p q)
-              where
-                both : (p q : Bool) → _≡_ {A = ℕ} (cond p (cond q 1 0) 0) (cond (p && q) 1 0)
-                both true q = refl
-                both false q = refl
+            (arith, u .count, ap (λ (v : List ℕ). matching t (w ++ v)) (drop-of-length-le run h), ap (matching t) (append-nil w), matching-open t w (line-without w lineEnd refl (u .clean)), last)

@@ -1,10 +1,11 @@
 -- Document 01, "Lines": the lines of a run, and how many of them match.
 use Prim.Native.Nat.{ℕ, _+_}
-use mathlib.Core.Bool.{Bool, true, cond, _&&_}
+use mathlib.Core.Bool.{Bool, true, false, cond}
 use mathlib.Core.List.{List, [], _∷_}
 use lib.Dec.{leb, eqb}
 use Rattle.pattern.specs.Meaning.{matches}
 use Rattle.pattern.specs.Form.{Pattern}
+use Rattle.runs.specs.Keys.{lineEnd}
 
 -- a key in front of the first line, or as a line of its own
 abbrev pub onto : ℕ → List (List ℕ) → List (List ℕ)
@@ -15,6 +16,11 @@ onto c (l ∷ ls) = (c ∷ l) ∷ ls
 unfoldable pub lines : List ℕ → List (List ℕ)
 lines [] = []
 lines (c ∷ w) = cond (eqb lineEnd c) ([] ∷ lines w) (onto c (lines w))
+
+-- whether there is a key
+abbrev pub isOpen : List ℕ → Bool
+isOpen [] = false
+isOpen (c ∷ w) = true
 
 -- how many of some lines have X
 unfoldable pub countIn : (List ℕ → Bool) → List (List ℕ) → ℕ

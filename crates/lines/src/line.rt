@@ -1,8 +1,7 @@
 // The one-line test.
-use crate::moves::Closing;
-use crate::moves::LINE_START;
 use crate::moves::advance;
-use crate::moves::closing_of;
+use pattern::Accepting;
+use pattern::State;
 use pattern::Verdict;
 use pattern::read_pattern;
 use refusal::Refusal;
@@ -11,7 +10,6 @@ ghost use mathlib.Core.Path.{_≡_};
 ghost use Rattle.pattern.specs.Reader.{readPattern};
 ghost use Rattle.lines.specs.Answers.{lineFigures, lineResult};
 ghost use Rattle.lines.specs.Promises.{TestsLine};
-ghost use Rattle.runs.specs.Keys.{lineKey};
 
 pub enum LineTest {
     Matches,
@@ -19,29 +17,20 @@ pub enum LineTest {
     Refused(Refusal),
 }
 
-fn is_line_key(key: u8) -> bool
-    ensures { λ r. ⌜ r ≡ lineKey key ⌝ }
+fn tested(line: &[u8], keys: &[u64; 256], enter: &[u64; 32], a: Accepting) -> LineTest
+    ensures { λ r. ⌜ TestsLine (now (keys .entry)) (now (enter .entry)) a (now (line .entry)) r ⌝ }
 {
-    if key == 0 {
-        return false;
-    }
-    key != 10
-}
-
-fn tested(line: &[u8], keys: &[u64; 256], enter: &[u64; 32], c: Closing) -> LineTest
-    ensures { λ r. ⌜ TestsLine (now (keys .entry)) (now (enter .entry)) c (now (line .entry)) r ⌝ }
-{
-    let mut set = LINE_START;
+    let mut set = State::LINE_START.set();
     let mut at = 0;
     while at < line.len() {
         let key = line[at];
-        if !is_line_key(key) {
+        if (key == 0) | (key == 10) {
             return LineTest::Refused(Refusal::InvalidKey);
         }
-        set = advance(set, key, keys, enter, c);
+        set = advance(set, key, keys, enter, a);
         at += 1;
     }
-    if meets(set, c.accepting) {
+    if meets(set, a.accepting) {
         return LineTest::Matches;
     }
     LineTest::NoMatch
@@ -55,6 +44,6 @@ pub fn test_line(pattern: &[u8], line: &[u8]) -> LineTest
     let mut enter = [0; 32];
     match read_pattern(pattern, &mut keys, &mut enter) {
         Verdict::Refused(r) => LineTest::Refused(r),
-        Verdict::Accepted(a) => tested(line, &keys, &enter, closing_of(a)),
+        Verdict::Accepted(a) => tested(line, &keys, &enter, a),
     }
 }

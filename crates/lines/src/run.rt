@@ -1,8 +1,7 @@
 // The count over a plain run.
-use crate::moves::Closing;
-use crate::moves::LINE_START;
 use crate::moves::advance;
-use crate::moves::closing_of;
+use pattern::Accepting;
+use pattern::State;
 use pattern::Verdict;
 use pattern::read_pattern;
 use refusal::Refusal;
@@ -20,7 +19,7 @@ pub enum RunCount {
 }
 
 // What is known of a run after some of its keys.
-pub struct Tally {
+struct Tally {
     // The states that the keys of the last line lead to.
     set: u64,
     // Whether the last line has a key.
@@ -29,29 +28,29 @@ pub struct Tally {
     lines: u64,
 }
 
-fn after_key(a: Tally, key: u8, keys: &[u64; 256], enter: &[u64; 32], c: Closing) -> Tally
-    requires { ⌜ a .lines + 1 < 18446744073709551616 ⌝ }
-    ensures { λ r. ⌜ AfterKey (now (keys .entry)) (now (enter .entry)) c a key r ⌝ }
+fn after_key(t: Tally, key: u8, keys: &[u64; 256], enter: &[u64; 32], a: Accepting) -> Tally
+    requires { ⌜ t .lines + 1 < 18446744073709551616 ⌝ }
+    ensures { λ r. ⌜ AfterKey (now (keys .entry)) (now (enter .entry)) a t key r ⌝ }
 {
     if key == 10 {
         return Tally {
-            set: LINE_START,
+            set: State::LINE_START.set(),
             pending: false,
-            lines: a.lines + chosen(meets(a.set, c.accepting), 1),
+            lines: t.lines + chosen(meets(t.set, a.accepting), 1),
         };
     }
     Tally {
-        set: advance(a.set, key, keys, enter, c),
+        set: advance(t.set, key, keys, enter, a),
         pending: true,
-        lines: a.lines,
+        lines: t.lines,
     }
 }
 
-fn counted(run: &[u8], keys: &[u64; 256], enter: &[u64; 32], c: Closing) -> RunCount
-    ensures { λ r. ⌜ CountsRun (now (keys .entry)) (now (enter .entry)) c (now (run .entry)) r ⌝ }
+fn counted(run: &[u8], keys: &[u64; 256], enter: &[u64; 32], a: Accepting) -> RunCount
+    ensures { λ r. ⌜ CountsRun (now (keys .entry)) (now (enter .entry)) a (now (run .entry)) r ⌝ }
 {
-    let mut a = Tally {
-        set: LINE_START,
+    let mut t = Tally {
+        set: State::LINE_START.set(),
         pending: false,
         lines: 0,
     };
@@ -61,10 +60,10 @@ fn counted(run: &[u8], keys: &[u64; 256], enter: &[u64; 32], c: Closing) -> RunC
         if key == 0 {
             return RunCount::Refused(Refusal::InvalidKey);
         }
-        a = after_key(a, key, keys, enter, c);
+        t = after_key(t, key, keys, enter, a);
         at += 1;
     }
-    RunCount::Lines(a.lines + chosen(a.pending, chosen(meets(a.set, c.accepting), 1)))
+    RunCount::Lines(t.lines + chosen(t.pending & meets(t.set, a.accepting), 1))
 }
 
 // How many lines of a run match a pattern. Refused with 7, 8, 9 for the pattern, then with 5 for a byte 0 in the run.
@@ -75,6 +74,6 @@ pub fn count_run(pattern: &[u8], run: &[u8]) -> RunCount
     let mut enter = [0; 32];
     match read_pattern(pattern, &mut keys, &mut enter) {
         Verdict::Refused(r) => RunCount::Refused(r),
-        Verdict::Accepted(a) => counted(run, &keys, &enter, closing_of(a)),
+        Verdict::Accepted(a) => counted(run, &keys, &enter, a),
     }
 }

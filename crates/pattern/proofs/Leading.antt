@@ -15,6 +15,16 @@ use Rattle.pattern.specs.Form.{Pattern}
 use Rattle.runs.specs.Keys.{lineKey}
 
 module _ (t : Pattern) where
+  -- no key leads anywhere else
+  pub leads-none : (q p : ℕ) → leads t q [] p ≡ eqb q p
+  unfolding leads
+  leads-none q p = refl
+
+  -- a state is accepted from if some state that is led to accepts
+  pub accepted-is : (q : ℕ) (w : List ℕ) → acceptedFrom t q w ≡ anyBelow (states t) (λ p. leads t q w p && accepting t p)
+  unfolding acceptedFrom
+  accepted-is q w = refl
+
   -- keys lead through a state between
   pub leads-append : (u v : List ℕ) (q p : ℕ) → q < states t → leads t q (u ++ v) p ≡ anyBelow (states t) (λ r. leads t q u r && leads t r v p)
   unfolding leads

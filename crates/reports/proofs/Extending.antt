@@ -16,15 +16,13 @@ use Rattle.pattern.specs.Meaning.{matches}
 use Rattle.pattern.specs.Moves.{states, accepting, leads, acceptedFrom}
 use Rattle.pattern.proofs.Moving.{common}
 use Rattle.pattern.proofs.AcceptedLines.{states-match}
-use Rattle.lines.specs.declared.moves.Closing.{Closing}
 use Rattle.reports.specs.declared.report.Report.{Report}
 use Rattle.lines.specs.Lines.{countIn}
-use Rattle.reports.specs.Reports.{firstPart, laterParts, lastPart, partsBefore, most, rowsOf, noRows, withoutEnd, withEnd, reportWith, report}
-use Rattle.lines.specs.Promises.{Automaton, Advances, closingOf, moved}
+use Rattle.reports.specs.Reports.{most, rowsOf, noRows, withoutEnd, withEnd, reportWith, report}
+use Rattle.lines.specs.Promises.{Advances}
 use Rattle.reports.specs.Promises.{AdvancesRows, Extended, Ended}
 use Rattle.reports.proofs.Joins.{filled-none, filled-more, gathered-more}
 use Rattle.lines.proofs.Reaching.{leads-high, leads-more, leads-accepts}
-use Rattle.reports.proofs.PartLaws.{first-into, later-into, first-kept, later-kept, last-open, before-open, last-closed, before-closed, later-lines, last-line}
 use Rattle.reports.proofs.JoinLaw.{row-of}
 use Rattle.runs.proofs.Tests.{torn, and-snd, tests-ext}
 use Rattle.pattern.specs.Form.{Pattern, atomCount}
@@ -32,6 +30,11 @@ use Rattle.stateset.specs.Tabled.{tabled}
 use Rattle.stateset.proofs.Tabled.{tabled-same}
 use Rattle.runs.specs.Keys.{lineEnd, isRun}
 use Rattle.runs.proofs.KeyLaws.{key-of-line}
+use Rattle.pattern.specs.declared.automaton.Accepting.{Accepting}
+use Rattle.lines.specs.Parts.{firstPart, laterParts, lastPart, partsBefore}
+use Rattle.pattern.specs.Automata.{Automaton, accepts}
+use Rattle.lines.specs.Moving.{moved}
+use Rattle.lines.proofs.PartLaws.{first-into, later-into, first-kept, later-kept, last-open, before-open, last-closed, before-closed, later-lines, last-line}
 
 -- The states whose rows accept, gathered one by one.
 
@@ -47,7 +50,7 @@ row-gathered rows z q h e f g i j =
 
 -- Rows that move one by one.
 
-module _ (keys enter : List ℕ) (c : Closing) (rows : List ℕ) (k : ℕ) where
+module _ (keys enter : List ℕ) (c : Accepting) (rows : List ℕ) (k : ℕ) where
   -- no row has moved yet
   pub rows-none : AdvancesRows keys enter c rows 0 k (replicate 32 0)
   unfolding AdvancesRows
@@ -91,7 +94,7 @@ module _ (t : Pattern) (few : atomCount t ≤ 29) (q : ℕ) (inside : q < states
           word-high (states t) (leads t q w) p h ∙ sym (high p h (ltb p 32) refl)
 
   -- the keys lead to a state that accepts
-  pub row-accepts : (w : List ℕ) → common (word (states t) (leads t q w)) (closingOf t .accepting) ≡ acceptedFrom t q w
+  pub row-accepts : (w : List ℕ) → common (word (states t) (leads t q w)) (accepts t .accepting) ≡ acceptedFrom t q w
   row-accepts w = rw (row-wide w) (leads-accepts t few q inside w)
 
   -- a row moves on one key more
@@ -180,7 +183,7 @@ same-report : {s s' : ℕ} {rows rows' : List ℕ} {flag flag' heads heads' clos
 same-report e f g h i j = rw (e, f, g, h, i, j) refl
 
 -- One line end more.
-module _ (c : Closing) (a : Report) where
+module _ (c : Accepting) (a : Report) where
   -- the first
   pub ended-first : {h : ℕ} → a .flag ≡ 0 → h ≡ word (a .s) (rowMeets (a .rows) (c .accepting)) → Ended c a (record { s = a .s; rows = noRows; flag = 1; heads = h; closed = 0; tail = 1 })
   unfolding Ended report
@@ -191,7 +194,7 @@ module _ (c : Closing) (a : Report) where
           let few = m .few in
           e
           ∙ rw (f, m .closing)
-          (word-ext (states t) (rowMeets (rowsOf (states t) (λ q p. leads t q w p)) (closingOf t .accepting)) (λ q. acceptedFrom t q w)
+          (word-ext (states t) (rowMeets (rowsOf (states t) (λ q p. leads t q w p)) (accepts t .accepting)) (λ q. acceptedFrom t q w)
           (λ q l. rw (row-of (states t) (λ q p. leads t q w p) q l (omega arith)) (row-accepts t few q l w)))
 
       go : (t : Pattern) → Automaton t keys enter c → (w : List ℕ) (ls : List (List ℕ)) → laterParts w ≡ ls → a ≡ reportWith t w ls → record { s = a .s; rows = noRows; flag = 1; heads = h; closed = 0; tail = 1 } ≡ report t (w ++ (lineEnd ∷ []))
@@ -233,7 +236,7 @@ module _ (c : Closing) (a : Report) where
             ∙ sym (ended-as h w l ls r i j)
 
 -- One key more.
-module _ {keys enter : List ℕ} {c : Closing} {a : Report} {k : ℕ} where
+module _ {keys enter : List ℕ} {c : Accepting} {a : Report} {k : ℕ} where
   -- a line end
   pub extended-end : {b : Report} → k ≡ lineEnd → Ended c a b → Extended keys enter c a k b
   unfolding Ended

@@ -8,7 +8,7 @@ use mathlib.Core.List.{List, [], _∷_, _++_, append-nil}
 use lib.Dec.{leb, ltb, eqb}
 use lib.ListN.{getD}
 use borrow.Author.Tests.{leb-false, lt-leb, lt-ltb, ltb-true}
-use Rattle.stateset.specs.Set.{bit, word, anyBelow}
+use Rattle.stateset.specs.Set.{bit, word, anyBelow, common}
 use Rattle.stateset.proofs.Sets.{word-ext, bit-word}
 use Rattle.stateset.proofs.Some.{any-ext}
 use Rattle.pattern.specs.Meaning.{matches}
@@ -16,12 +16,13 @@ use Rattle.pattern.specs.Moves.{states, leads, acceptedFrom}
 use Rattle.pattern.proofs.AcceptedLines.{states-match}
 use Rattle.pattern.proofs.Leading.{leads-append, accepted-append}
 use Rattle.lines.specs.Lines.{countIn}
-use Rattle.reports.specs.Reports.{firstPart, laterParts, lastPart, partsBefore, most, rowsOf, withoutEnd, withEnd, reportWith, report, onward, common, joinedReports}
-use Rattle.reports.proofs.PartLaws.{first-into, later-into, first-kept, later-kept, firstThen, laterThen, last-open, before-open, last-closed, before-closed, first-line, later-lines, last-line}
+use Rattle.reports.specs.Reports.{most, rowsOf, withoutEnd, withEnd, reportWith, report, onward, joinedReports}
 use Rattle.pattern.specs.Form.{Pattern, atomCount}
 use Rattle.runs.specs.Keys.{isLine, isRun}
 use Rattle.stateset.proofs.Tabled.{tabled-at, tabled-same}
 use Rattle.runs.proofs.KeyLaws.{line-append}
+use Rattle.lines.specs.Parts.{firstPart, laterParts, lastPart, partsBefore}
+use Rattle.lines.proofs.PartLaws.{first-into, later-into, first-kept, later-kept, firstThen, laterThen, last-open, before-open, last-closed, before-closed, first-line, later-lines, last-line}
 
 -- the row of a state that there is
 pub row-of : (s : ℕ) (X : ℕ → ℕ → Bool) (q : ℕ) → q < s → s ≤ 32 → getD (rowsOf s X) q 0 ≡ word s (X q)

@@ -11,13 +11,13 @@ use lib.ListN.{length, getD, set, replicate, length-set, List·getD-eq-default}
 use lib.Seq.{ext-getD, getD-set-same, getD-set-other}
 use lib.Bits.{bitAnd, bitOr, or-lt, and-mask}
 use borrow.Author.Tests.{ltb-true, ltb-false, lt-ltb, le-ltb, leb-true, leb-false, le-leb, lt-leb, eqb-true, eqb-false, eq-eqb, ne-eqb, not-true, not-false}
-use Rattle.stateset.specs.Set.{bit, word, anyBelow, imageOf}
+use Rattle.stateset.specs.Set.{bit, word, anyBelow, imageOf, common}
 use Rattle.stateset.proofs.Sets.{bit-zero, bit-or, bit-mod, bit-word, bit-chosen, word-ext, word-high, word-lt, word-unique}
 use Rattle.stateset.proofs.Some.{any-ext, any-widen}
 use Rattle.stateset.proofs.Images.{bit-image}
 use Rattle.reports.specs.declared.joining.Closed.{Closed}
 use Rattle.reports.specs.declared.report.Report.{Report}
-use Rattle.reports.specs.Reports.{most, common, rowsOf, alike, joinedReports, noReport}
+use Rattle.reports.specs.Reports.{most, rowsOf, alike, joinedReports, noReport}
 use Rattle.reports.specs.Answers.{joinResult}
 use Rattle.reports.specs.Joins.{onwardBy, closedBy, closedOf, Adds, withLines, wholeJoin, openingJoin, endingJoin, acrossJoin}
 use Rattle.runs.proofs.Tests.{and-snd}

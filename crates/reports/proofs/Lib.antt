@@ -1,6 +1,5 @@
 -- Laws.
 pub mod Joins
-pub mod PartLaws
 pub mod JoinLaw
 pub mod WordLaws
 pub mod TotalLaws

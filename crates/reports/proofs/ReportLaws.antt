@@ -13,7 +13,7 @@ use Rattle.pattern.specs.Meaning.{matches}
 use Rattle.pattern.specs.Moves.{states, leads}
 use Rattle.reports.specs.declared.report.Report.{Report}
 use Rattle.lines.specs.Lines.{countIn}
-use Rattle.reports.specs.Reports.{laterParts, lastPart, partsBefore, rowsOf, reportWith, report, joinedWith, joinedReports}
+use Rattle.reports.specs.Reports.{rowsOf, reportWith, report, joinedWith, joinedReports}
 use Rattle.reports.specs.Words.{pairsWith, pairs}
 use Rattle.reports.specs.Promises.{pairsIn}
 use Rattle.reports.specs.Empty.{emptyReport}
@@ -25,6 +25,7 @@ use Rattle.runs.proofs.CountLaws.{count-le}
 use Rattle.runs.proofs.Tests.{and-both, and-fst, and-snd}
 use Rattle.pattern.specs.Form.{Pattern, atomCount}
 use Rattle.runs.specs.Keys.{isRun}
+use Rattle.lines.specs.Parts.{laterParts, lastPart, partsBefore}
 
 -- the empty run
 pub empty-is : (t : Pattern) → emptyReport (states t) ≡ report t []

@@ -11,11 +11,12 @@ use lib.ListN.{length, getD, take, replicate, length-append, length-take}
 use lib.Seq.{take-at, getD-at, getD-append-add}
 use Rattle.pattern.specs.Moves.{states, leads}
 use Rattle.reports.specs.declared.report.Report.{Report}
-use Rattle.reports.specs.Reports.{laterParts, rowsOf, noRows, reportWith, report}
+use Rattle.reports.specs.Reports.{rowsOf, noRows, reportWith, report}
 use Rattle.reports.specs.Words.{reportWords}
 use Rattle.reports.specs.Promises.{loaded}
 use Rattle.pattern.specs.Form.{Pattern, atomCount}
 use Rattle.stateset.proofs.Tabled.{tabled-length, tabled-at}
+use Rattle.lines.specs.Parts.{laterParts}
 
 -- a list that ends in zeros
 padded-list : (l : List ℕ) (s : ℕ) → s ≤ length l → ((i : ℕ) → s ≤ i → i < length l → getD l i 0 ≡ 0) → take s l ++ replicate (length l - s) 0 ≡ l

@@ -16,19 +16,20 @@ use Rattle.pattern.proofs.Moving.{common}
 use Rattle.pattern.proofs.AcceptedLines.{states-match}
 use Rattle.pattern.proofs.Leading.{leads-start}
 use Rattle.pattern.specs.Meaning.{matches}
-use Rattle.lines.specs.declared.moves.Closing.{Closing}
 use Rattle.reports.specs.declared.report.Report.{Report}
 use Rattle.reports.specs.declared.total.Total.{Total}
-use Rattle.lines.specs.Lines.{onto, lines, countIn, matching}
-use Rattle.reports.specs.Reports.{firstPart, laterParts, lastPart, partsBefore, most, withoutEnd, withEnd, reportWith, report}
-use Rattle.lines.specs.Promises.{closingOf, isOpen}
+use Rattle.lines.specs.Lines.{onto, lines, countIn, matching, isOpen}
+use Rattle.reports.specs.Reports.{most, withoutEnd, withEnd, reportWith, report}
 use Rattle.reports.specs.Promises.{LastLine, Totals, totalOf}
-use Rattle.reports.proofs.PartLaws.{first-whole, first-line, later-lines, last-line}
 use Rattle.reports.proofs.JoinLaw.{row-of, flag-set}
 use Rattle.lines.proofs.Tallying.{at-most-one}
 use Rattle.reports.proofs.Extending.{row-accepts}
 use Rattle.pattern.specs.Form.{Pattern, atomCount}
 use Rattle.runs.specs.Keys.{isLine, isRun, lineEnd}
+use Rattle.pattern.specs.declared.automaton.Accepting.{Accepting}
+use Rattle.lines.specs.Parts.{firstPart, laterParts, lastPart, partsBefore}
+use Rattle.pattern.specs.Automata.{accepts}
+use Rattle.lines.proofs.PartLaws.{first-whole, first-line, later-lines, last-line}
 
 -- the lines of a run, by its parts: the last part is a line if it has a key
 abbrev lastOnly : List ℕ → List (List ℕ)
@@ -77,7 +78,7 @@ common-start x =
 
 module _ (t : Pattern) (few : atomCount t ≤ 29) where
   -- the states that a line leads to accept exactly if it matches
-  pub tail-accepts : (l : List ℕ) → isLine l ≡ true → common (word (states t) (leads t 0 l)) (closingOf t .accepting) ≡ matches t l
+  pub tail-accepts : (l : List ℕ) → isLine l ≡ true → common (word (states t) (leads t 0 l)) (accepts t .accepting) ≡ matches t l
   tail-accepts l h = row-accepts t few 0 (omega arith) l ∙ states-match t l h
 
   -- and have left line-start exactly if it has a key
@@ -94,7 +95,7 @@ opened : {tail : ℕ} {m : Bool} → m ≡ common tail 1 → (t : Pattern) → a
 opened start t few l f = sym (start ∙ ap (λ (x : ℕ). common x 1) f ∙ tail-start t few l)
 
 -- the last part of a run
-module _ {c : Closing} {tail : ℕ} {m : Bool} (start : m ≡ common tail 1) where
+module _ {c : Accepting} {tail : ℕ} {m : Bool} (start : m ≡ common tail 1) where
   pub last-none : m ≡ true → LastLine c tail 0
   last-none h =
       record {
@@ -134,13 +135,13 @@ flag-fine n = go (leb n most) refl
     go false e h = absurd (omega arith)
 
 -- The whole count, by the two kinds of report.
-module _ (c : Closing) (r : Report) where
+module _ (c : Accepting) (r : Report) where
   -- the report of a run without a line end, and of one with line ends
   abbrev WithoutEnd : (Pattern → List ℕ → Type 0) → Type 0
-  WithoutEnd P = (t : Pattern) → atomCount t ≤ 29 → c ≡ closingOf t → (w : List ℕ) → isLine w ≡ true → isOpen w ≡ true → laterParts w ≡ [] → r ≡ withoutEnd (states t) (λ q p. leads t q w p) → P t w
+  WithoutEnd P = (t : Pattern) → atomCount t ≤ 29 → c ≡ accepts t → (w : List ℕ) → isLine w ≡ true → isOpen w ≡ true → laterParts w ≡ [] → r ≡ withoutEnd (states t) (λ q p. leads t q w p) → P t w
 
   abbrev WithEnd : (Pattern → List ℕ → Type 0) → Type 0
-  WithEnd P = (t : Pattern) → atomCount t ≤ 29 → c ≡ closingOf t → (w : List ℕ) → isRun w ≡ true → (l : List ℕ) (ls : List (List ℕ)) → laterParts w ≡ l ∷ ls → r ≡ withEnd (states t) (λ q. acceptedFrom t q (firstPart w)) (countIn (matches t) (partsBefore l ls)) (leads t 0 (lastPart l ls)) → P t w
+  WithEnd P = (t : Pattern) → atomCount t ≤ 29 → c ≡ accepts t → (w : List ℕ) → isRun w ≡ true → (l : List ℕ) (ls : List (List ℕ)) → laterParts w ≡ l ∷ ls → r ≡ withEnd (states t) (λ q. acceptedFrom t q (firstPart w)) (countIn (matches t) (partsBefore l ls)) (leads t 0 (lastPart l ls)) → P t w
 
   by-parts : (x : Total) → WithoutEnd (λ t w. x ≡ totalOf (matching t w)) → WithEnd (λ t w. x ≡ totalOf (matching t w)) → Totals c r x
   unfolding Totals report

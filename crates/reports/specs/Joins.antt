@@ -5,10 +5,10 @@ use mathlib.Core.Bool.{Bool, cond, _&&_}
 use mathlib.Core.List.{List}
 use lib.Dec.{leb}
 use lib.ListN.{getD}
-use Rattle.stateset.specs.Set.{bit, anyBelow}
+use Rattle.stateset.specs.Set.{bit, anyBelow, common}
 use Rattle.reports.specs.declared.joining.Closed.{Closed}
 use Rattle.reports.specs.declared.report.Report.{Report}
-use Rattle.reports.specs.Reports.{most, noRows, withoutEnd, withEnd, onward, common, closedIn}
+use Rattle.reports.specs.Reports.{most, noRows, withoutEnd, withEnd, onward, closedIn}
 
 -- the states that rows reach from the states of x
 abbrev pub onwardBy : ℕ → ℕ → List ℕ → ℕ → Bool

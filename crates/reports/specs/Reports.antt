@@ -13,29 +13,6 @@ use Rattle.pattern.specs.Form.{Pattern}
 use Rattle.stateset.specs.Tabled.{tabled}
 use Rattle.runs.specs.Keys.{lineEnd}
 
--- The parts of a run between line ends.
-
--- the keys before the first line end, or all
-unfoldable pub firstPart : List ℕ → List ℕ
-firstPart [] = []
-firstPart (c ∷ w) = cond (eqb lineEnd c) [] (c ∷ firstPart w)
-
--- behind each line end, the keys up to the next one, or to the run's end
-unfoldable pub laterParts : List ℕ → List (List ℕ)
-laterParts [] = []
-laterParts (c ∷ w) = cond (eqb lineEnd c) (firstPart w ∷ laterParts w) (laterParts w)
-
--- the last of some parts, and those before it
-unfoldable pub lastPart : List ℕ → List (List ℕ) → List ℕ
-lastPart l [] = l
-lastPart l (m ∷ ms) = lastPart m ms
-
-unfoldable pub partsBefore : List ℕ → List (List ℕ) → List (List ℕ)
-partsBefore l [] = []
-partsBefore l (m ∷ ms) = l ∷ partsBefore m ms
-
--- Reports.
-
 -- the largest count
 abbrev pub most : ℕ
 most = 2 ^ 64 - 1

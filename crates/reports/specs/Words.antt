@@ -5,9 +5,9 @@ use lib.ListN.{take}
 use Rattle.pattern.specs.Moves.{states, leads}
 use Rattle.pattern.specs.Reader as reader
 use Rattle.reports.specs.declared.report.Report.{Report}
-use Rattle.reports.specs.Reports.{laterParts, lastPart}
 use Rattle.runs.specs.Counts.{countBelow}
 use Rattle.pattern.specs.Form.{Pattern}
+use Rattle.lines.specs.Parts.{laterParts, lastPart}
 
 -- "the pairs of states (q, p) such that the items before it in that macro lead from q to p", where w is the run of those items:
 -- "Before any LF in them q is every state; after one, q is line-start alone, moving since the last LF."

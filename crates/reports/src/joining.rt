@@ -13,8 +13,8 @@ ghost use mathlib.Core.Path.{_≡_};
 ghost use mathlib.Core.Bool.{_&&_};
 ghost use lib.Dec.{eqb, leb};
 ghost use lib.ListN.{getD};
-ghost use Rattle.stateset.specs.Set.{bit, word};
-ghost use Rattle.reports.specs.Reports.{common, rowsOf, joinedReports};
+ghost use Rattle.stateset.specs.Set.{bit, word, common};
+ghost use Rattle.reports.specs.Reports.{rowsOf, joinedReports};
 ghost use Rattle.reports.specs.Answers.{joinResult};
 ghost use Rattle.reports.specs.Joins.{onwardBy, closedBy, closedOf, Adds, withLines, wholeJoin, openingJoin, endingJoin, acrossJoin};
 

@@ -13,9 +13,6 @@ enum-known-r c = search needs
 enum-known-a : tie.Need-enum-known-a
 enum-known-a c = search needs
 
-closing-of-requires : tie.Need-closing-of-requires
-closing-of-requires c κs = search needs
-
 tested-requires : tie.Need-tested-requires
 tested-requires c κs = search needs
 
@@ -32,7 +29,6 @@ test-line-spec =
     read-pattern-requires
     enum-known-r
     enum-known-a
-    closing-of-requires
     tested-requires
     returns
     returns-2)

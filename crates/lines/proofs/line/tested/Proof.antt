@@ -1,17 +1,20 @@
 -- `line::tested`: the states are those that the keys so far lead to from line-start, and all of these are keys of a line.
-use borrow.Author.Needs.{needs}
 use Prim.Native.Nat.{_-_}
 use native.Mathlib.Omega.{arith}
 use lib.ListN.{length}
 use Rattle.lines.proofs.Testing.{LineSoFar, line-start, line-on, line-refused, line-matches, line-differs}
+use borrow.Author.Needs.{needs}
 use Rattle.lines.proofs.line.tested.Statement.{statement}
 use Rattle.lines.proofs.line.tested.Tie as tie
 
 abbrev Inv-loop : tie.InvT-loop
-Inv-loop line keys enter c set₀ at₀ set at = LineSoFar keys enter c line set at
+Inv-loop line keys enter a set₀ at₀ set at = LineSoFar keys enter a line set at
 
 abbrev μ-loop : tie.MeasureT-loop
-μ-loop line keys enter c set₀ at₀ set at = length line - at
+μ-loop line keys enter a set₀ at₀ set at = length line - at
+
+set-requires : tie.Need-set-requires Inv-loop μ-loop
+set-requires c κs = search needs
 
 loop-holds : tie.Need-loop-holds Inv-loop μ-loop
 loop-holds c = search (line-start)
@@ -19,11 +22,8 @@ loop-holds c = search (line-start)
 shared-slice-read-key : tie.Need-shared-slice-read-key Inv-loop μ-loop
 shared-slice-read-key c = omega arith
 
-is-line-key-requires : tie.Need-is-line-key-requires Inv-loop μ-loop
-is-line-key-requires c κs = search needs
-
 returns : tie.Need-returns Inv-loop μ-loop
-returns c = let byte = c .before .before .shared-slice-known2 .given (c .before .before .before .before .loop .at) in search (line-refused, byte .fits)
+returns c = search (line-refused)
 
 advance-requires : tie.Need-advance-requires Inv-loop μ-loop
 advance-requires c κs = search needs
@@ -35,7 +35,7 @@ loop-less : tie.Need-loop-less Inv-loop μ-loop
 loop-less c = omega arith
 
 loop-again : tie.Need-loop-again Inv-loop μ-loop
-loop-again c = search (line-on)
+loop-again c = let byte = c .before .before .shared-slice-known2 .given (c .before .before .before .before .loop .at) in search (line-on, byte .fits)
 
 meets-requires : tie.Need-meets-requires Inv-loop μ-loop
 meets-requires c κs = search needs
@@ -52,9 +52,9 @@ tested-spec =
     (tie.spec
     Inv-loop
     μ-loop
+    set-requires
     loop-holds
     shared-slice-read-key
-    is-line-key-requires
     returns
     advance-requires
     add-at

@@ -5,14 +5,17 @@ use borrow.Author.Needs.{needs}
 use Rattle.lines.proofs.run.after_key.Statement.{statement}
 use Rattle.lines.proofs.run.after_key.Tie as tie
 
+set-requires : tie.Need-set-requires
+set-requires c κs = search needs
+
 meets-requires : tie.Need-meets-requires
 meets-requires c κs = search needs
 
 chosen-requires : tie.Need-chosen-requires
 chosen-requires c κs = search needs
 
-add-t9 : tie.Need-add-t9
-add-t9 c = omega (arith, at-most-one (c .before .before .meets .result) (c .before .chosen .ensures))
+add-t11 : tie.Need-add-t11
+add-t11 c = omega (arith, at-most-one (c .before .before .meets .result) (c .before .chosen .ensures))
 
 returns : tie.Need-returns
 returns c = search (after-end)
@@ -25,4 +28,12 @@ returns-2 c = search (after-other, needs)
 
 pub after-key-spec : {M : Type 1} → statement M
 after-key-spec =
-    tie.close (tie.spec meets-requires chosen-requires add-t9 returns advance-requires returns-2)
+    tie.close
+    (tie.spec
+    set-requires
+    meets-requires
+    chosen-requires
+    add-t11
+    returns
+    advance-requires
+    returns-2)

@@ -1,17 +1,20 @@
 -- `run::counted`: what is counted and what is left make the whole count.
-use borrow.Author.Needs.{needs}
 use Prim.Native.Nat.{_-_}
 use native.Mathlib.Omega.{arith}
 use lib.ListN.{length}
 use Rattle.lines.proofs.Tallying.{RunSoFar, last-small, run-start, run-on, run-refused, run-done}
+use borrow.Author.Needs.{needs}
 use Rattle.lines.proofs.run.counted.Statement.{statement}
 use Rattle.lines.proofs.run.counted.Tie as tie
 
 abbrev Inv-loop : tie.InvT-loop
-Inv-loop run keys enter c a₀ at₀ a at = RunSoFar keys enter c run a at
+Inv-loop run keys enter a t₀ at₀ t at = RunSoFar keys enter a run t at
 
 abbrev μ-loop : tie.MeasureT-loop
-μ-loop run keys enter c a₀ at₀ a at = length run - at
+μ-loop run keys enter a t₀ at₀ t at = length run - at
+
+set-requires : tie.Need-set-requires Inv-loop μ-loop
+set-requires c κs = search needs
 
 loop-holds : tie.Need-loop-holds Inv-loop μ-loop
 loop-holds c = search (run-start)
@@ -40,11 +43,8 @@ meets-requires c κs = search needs
 chosen-requires : tie.Need-chosen-requires Inv-loop μ-loop
 chosen-requires c κs = search needs
 
-chosen-requires-2 : tie.Need-chosen-requires-2 Inv-loop μ-loop
-chosen-requires-2 c κs = search needs
-
-add-t16 : tie.Need-add-t16 Inv-loop μ-loop
-add-t16 c = omega (arith, last-small (c .before .before .before .before .before .loop .a .pending) (c .before .before .before .meets .result) (c .before .before .chosen .ensures) (c .before .chosen2 .ensures))
+add-t17 : tie.Need-add-t17 Inv-loop μ-loop
+add-t17 c = omega (arith, last-small (c .before .before .before .before .before .loop .t .pending) (c .before .before .before .meets .result) (c .before .chosen .ensures))
 
 returns-2 : tie.Need-returns-2 Inv-loop μ-loop
 returns-2 c = search (run-done)
@@ -55,6 +55,7 @@ counted-spec =
     (tie.spec
     Inv-loop
     μ-loop
+    set-requires
     loop-holds
     shared-slice-read-key
     returns
@@ -64,6 +65,5 @@ counted-spec =
     loop-again
     meets-requires
     chosen-requires
-    chosen-requires-2
-    add-t16
+    add-t17
     returns-2)

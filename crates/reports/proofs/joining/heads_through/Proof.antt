@@ -3,8 +3,7 @@ use Prim.Native.Nat.{_≤_, _-_}
 use native.Mathlib.Omega.{arith}
 use mathlib.Core.Path.{_≡_}
 use lib.ListN.{getD}
-use Rattle.stateset.specs.Set.{word}
-use Rattle.reports.specs.Reports.{common}
+use Rattle.stateset.specs.Set.{word, common}
 use borrow.Author.Needs.{needs}
 use Rattle.reports.proofs.Joins.{gathered-none, gathered-next}
 use Rattle.reports.proofs.joining.heads_through.Statement.{statement}

@@ -6,10 +6,11 @@ use mathlib.Core.Bool.{Bool, true, false, not, cond, _&&_}
 use mathlib.Core.List.{List, [], _∷_, _++_}
 use lib.Dec.{leb, eqb}
 use borrow.Author.Tests.{eqb-false, ne-eqb}
 use Rattle.lines.specs.Lines.{countIn}
-use Rattle.reports.specs.Reports.{firstPart, laterParts, lastPart, partsBefore}
 use Rattle.runs.proofs.Tests.{clash, and-both, and-fst, and-snd}
 use Rattle.runs.specs.Keys.{lineKey, isLine, lineEnd, isRun}
+use Rattle.lines.specs.Parts.{firstPart, laterParts, lastPart, partsBefore}
+use Rattle.runs.proofs.KeyLaws.{key-of-line}
 
 -- a run without a line end
 pub first-whole : (u : List ℕ) → laterParts u ≡ [] → firstPart u ≡ u
