@@ -33,11 +33,12 @@ use Rattle.reports.specs.Reports.{most}
 use Rattle.counter.specs.Counting.{finished, stopped, filled, steps, needed, countResult}
 use Rattle.counter.specs.Answers.{outcome}
 use Rattle.lines.specs.Promises.{Closes}
-use Rattle.reports.specs.Promises.{Totals, totalOf, loaded}
+use Rattle.reports.specs.Promises.{Totals, totalOf}
 use Rattle.counter.specs.Items.{MacroFits, Filled, BookCounted, InBook, PatternCounted}
 use Rattle.counter.proofs.FillLaws.{well-in, expansion-run, reports-at}
 use Rattle.runs.proofs.Tests.{clash}
 use Rattle.pattern.specs.Form.{Pattern, atomCount}
+use Rattle.reports.specs.Words.{loaded}
 
 -- a run of at least one key
 open-long : (w : List ℕ) → 0 < length w → isOpen w ≡ true

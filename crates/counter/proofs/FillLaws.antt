@@ -22,9 +22,8 @@ use Rattle.pattern.specs.Moves.{states}
 use Rattle.counter.specs.declared.items.MacroCount.{MacroCount}
 use Rattle.reports.specs.declared.report.Report.{Report}
 use Rattle.reports.specs.Reports.{report}
-use Rattle.reports.specs.Words.{reportWords}
+use Rattle.reports.specs.Words.{reportWords, loaded}
 use Rattle.counter.specs.Counting.{stepsWithin, steps, firstReports}
-use Rattle.reports.specs.Promises.{loaded}
 use Rattle.counter.specs.Items.{CallRoom, CallsFit, Served, ItemsCounted, MacroFits, Filled}
 use Rattle.reports.proofs.StoredLaws.{words-length, loaded-words}
 use Rattle.runs.proofs.Tests.{and-both}

@@ -16,11 +16,10 @@ use Rattle.book.specs.Reading.{itemAt, itemsOf}
 use Rattle.book.proofs.Items.{found-long, items-on-found, items-on-short, items-end}
 use Rattle.pattern.specs.Moves.{states}
 use Rattle.reports.specs.declared.report.Report.{Report}
-use Rattle.reports.specs.Reports.{report, joinedReports}
-use Rattle.reports.specs.Words.{pairs}
+use Rattle.reports.specs.Reports.{report, joinedReports, emptyReport}
+use Rattle.reports.specs.Words.{pairs, loaded, pairsIn}
 use Rattle.counter.specs.Counting.{itemSteps}
-use Rattle.reports.specs.Promises.{Extended, loaded, pairsIn}
-use Rattle.reports.specs.Empty.{emptyReport}
+use Rattle.reports.specs.Promises.{Extended}
 use Rattle.counter.specs.Items.{CallFits, CallsFit, Served, AfterItem, ItemsCounted}
 use Rattle.reports.proofs.JoinLaw.{join-reports}
 use Rattle.reports.proofs.ReportLaws.{empty-is, report-size, joined-size, pairs-of, pairs-le}

@@ -20,9 +20,9 @@ use Rattle.reports.specs.declared.report.Report.{Report}
 use Rattle.reports.specs.Reports.{report}
 use Rattle.counter.specs.Counting.{itemSteps, steps, filled, countOf, countWith}
 use Rattle.counter.specs.Answers.{outcome}
-use Rattle.reports.specs.Promises.{loaded}
 use Rattle.pattern.specs.Form.{Pattern, atomCount}
 use Rattle.runs.specs.Keys.{isKey, isRun}
+use Rattle.reports.specs.Words.{loaded}
 
 -- the words of a called macro's report are there
 abbrev pub CallRoom : ℕ → Item → List ℕ → Type 0

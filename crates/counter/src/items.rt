@@ -14,7 +14,7 @@ ghost use mathlib.Core.Path.{_≡_};
 ghost use lib.ListN.{length};
 ghost use Rattle.book.specs.Reading.{itemsOf};
 ghost use Rattle.counter.specs.Items.{AfterItem, CallFits, CallsFit, ItemsCounted};
-ghost use Rattle.reports.specs.Empty.{emptyReport};
+ghost use Rattle.reports.specs.Reports.{emptyReport};
 
 // What a macro's items come to.
 pub(crate) struct MacroCount {

@@ -17,12 +17,13 @@ use Rattle.stateset.proofs.Some.{any-ext, any-widen}
 use Rattle.stateset.proofs.Images.{bit-image}
 use Rattle.reports.specs.declared.joining.Closed.{Closed}
 use Rattle.reports.specs.declared.report.Report.{Report}
-use Rattle.reports.specs.Reports.{most, rowsOf, alike, joinedReports, noReport}
+use Rattle.reports.specs.Reports.{most, rowsOf, alike, joinedReports, noReport, onward, closedBy}
 use Rattle.reports.specs.Answers.{joinResult}
-use Rattle.reports.specs.Joins.{onwardBy, closedBy, closedOf, Adds, withLines, wholeJoin, openingJoin, endingJoin, acrossJoin}
+use Rattle.reports.specs.Joins.{wholeJoin, openingJoin, endingJoin, acrossJoin}
 use Rattle.runs.proofs.Tests.{and-snd}
 use Rattle.stateset.specs.Tabled.{tabled}
 use Rattle.stateset.proofs.Tabled.{tabled-length, tabled-at, tabled-same}
+use Rattle.reports.specs.Promises.{closedOf, Adds, withLines}
 
 -- Sets of states below s.
 
@@ -40,8 +41,8 @@ masked s x h = rw (shifted s h, and-mask x s) (word-unique s (x % 2 ^ s) (bit x)
 
 module _ (s x : ℕ) (h : s ≤ 32) where
   -- the states that rows reach from those of x below s
-  pub onward-made : (rows : List ℕ) {w i r : ℕ} → w ≡ word s (bit x) → i ≡ imageOf rows w → r ≡ word s (bit i) → r ≡ word s (onwardBy s x rows)
-  onward-made rows w i r = rw (r, i, w) (word-ext s (bit (imageOf rows (word s (bit x)))) (onwardBy s x rows) same)
+  pub onward-made : (rows : List ℕ) {w i r : ℕ} → w ≡ word s (bit x) → i ≡ imageOf rows w → r ≡ word s (bit i) → r ≡ word s (onward s x rows)
+  onward-made rows w i r = rw (r, i, w) (word-ext s (bit (imageOf rows (word s (bit x)))) (onward s x rows) same)
     where
       step : ℕ → ℕ → Bool
       step p q = bit (word s (bit x)) q && bit (getD rows q 0) p
@@ -52,7 +53,7 @@ module _ (s x : ℕ) (h : s ≤ 32) where
           sym (any-widen (length rows) s (step p) (omega arith) (λ q k. rw (List·getD-eq-default rows 0 k, bit-zero p) (and-false (bit (word s (bit x)) q))))
       far p false e = any-widen s (length rows) (step p) (ltb-false (length rows) s e) (λ q k. rw (word-high s (bit x) q k))
 
-      same : (p : ℕ) → p < s → bit (imageOf rows (word s (bit x))) p ≡ onwardBy s x rows p
+      same : (p : ℕ) → p < s → bit (imageOf rows (word s (bit x))) p ≡ onward s x rows p
       same p g =
           bit-image rows (word s (bit x)) p (omega arith)
           ∙ far p (ltb (length rows) s) refl
@@ -214,7 +215,7 @@ module _ (a b : Closed) where
 
 module _ (a b : Report) where
   -- two reports without a line end
-  pub whole-made : {rows : List ℕ} → rows ≡ rowsOf (a .s) (λ q. onwardBy (a .s) (getD (a .rows) q 0) (b .rows))
+  pub whole-made : {rows : List ℕ} → rows ≡ rowsOf (a .s) (λ q. onward (a .s) (getD (a .rows) q 0) (b .rows))
       → record { s = a .s; rows = rows; flag = 0; heads = 0; closed = 0; tail = 0 } ≡ wholeJoin a b
   whole-made e = rw e refl
 
@@ -224,7 +225,7 @@ module _ (a b : Report) where
   opening-made h c t r = rw (r, t, c, h) refl
 
   -- one with, then one without
-  pub ending-made : {h t : ℕ} {c : Closed} {r : Report} → t ≡ word (a .s) (onwardBy (a .s) (a .tail) (b .rows)) → h ≡ word (a .s) (bit (a .heads)) → c ≡ closedOf (closedBy (a .flag) (a .closed))
+  pub ending-made : {h t : ℕ} {c : Closed} {r : Report} → t ≡ word (a .s) (onward (a .s) (a .tail) (b .rows)) → h ≡ word (a .s) (bit (a .heads)) → c ≡ closedOf (closedBy (a .flag) (a .closed))
       → r ≡ withLines (a .s) h c t → r ≡ endingJoin a b
   ending-made t h c r = rw (r, t, c, h) refl
 

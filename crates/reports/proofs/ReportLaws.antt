@@ -13,10 +13,8 @@ use Rattle.pattern.specs.Meaning.{matches}
 use Rattle.pattern.specs.Moves.{states, leads}
 use Rattle.reports.specs.declared.report.Report.{Report}
 use Rattle.lines.specs.Lines.{countIn}
-use Rattle.reports.specs.Reports.{rowsOf, reportWith, report, joinedWith, joinedReports}
-use Rattle.reports.specs.Words.{pairsWith, pairs}
-use Rattle.reports.specs.Promises.{pairsIn}
-use Rattle.reports.specs.Empty.{emptyReport}
+use Rattle.reports.specs.Reports.{rowsOf, reportWith, report, joinedWith, joinedReports, emptyReport}
+use Rattle.reports.specs.Words.{pairsWith, pairs, pairsIn}
 use Rattle.reports.proofs.JoinLaw.{row-of, flag-set}
 use Rattle.reports.proofs.Joins.{shifted}
 use Rattle.reports.proofs.WordLaws.{sizes-le}

@@ -12,8 +12,7 @@ use lib.Seq.{take-at, getD-at, getD-append-add}
 use Rattle.pattern.specs.Moves.{states, leads}
 use Rattle.reports.specs.declared.report.Report.{Report}
 use Rattle.reports.specs.Reports.{rowsOf, noRows, reportWith, report}
-use Rattle.reports.specs.Words.{reportWords}
-use Rattle.reports.specs.Promises.{loaded}
+use Rattle.reports.specs.Words.{reportWords, loaded}
 use Rattle.pattern.specs.Form.{Pattern, atomCount}
 use Rattle.stateset.proofs.Tabled.{tabled-length, tabled-at}
 use Rattle.lines.specs.Parts.{laterParts}

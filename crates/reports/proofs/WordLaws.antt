@@ -12,8 +12,7 @@ use lib.ListN.{length, getD, take, drop, set, replicate, length-set, length-drop
 use lib.Seq.{length-take-le, take-suc, append-snoc, set-at, getD-drop, drop-drop, paste, paste-zero, paste-suc, length-paste, take-paste, drop-paste, sets-eq}
 use Rattle.stateset.specs.Set.{bit}
 use Rattle.reports.specs.declared.report.Report.{Report}
-use Rattle.reports.specs.Words.{reportWords}
-use Rattle.reports.specs.Promises.{loaded, pairsIn}
+use Rattle.reports.specs.Words.{reportWords, loaded, pairsIn}
 use Rattle.runs.specs.Counts.{countBelow, sumBelow}
 use Rattle.runs.proofs.CountLaws.{count-le}
 

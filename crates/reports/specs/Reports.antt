@@ -33,6 +33,10 @@ withoutEnd s X = record { s = s; rows = rowsOf s X; flag = 0; heads = 0; closed 
 abbrev pub withEnd : ℕ → (ℕ → Bool) → ℕ → (ℕ → Bool) → Report
 withEnd s H n T = record { s = s; rows = noRows; flag = cond (leb n most) 1 2; heads = word s H; closed = cond (leb n most) n 0; tail = word s T }
 
+-- the report of the empty run of a pattern with s states: each is reached from itself
+abbrev pub emptyReport : ℕ → Report
+emptyReport s = withoutEnd s (λ q p. eqb q p)
+
 -- "s rows (states reached from each state)"; "heads, the states from which the first line is accepted; closed, the matching lines
 -- strictly between first and last LF; tail, the states reached from line-start since the last LF"
 abbrev pub reportWith : Pattern → List ℕ → List (List ℕ) → Report
@@ -50,24 +54,23 @@ report t w = reportWith t w (laterParts w)
 abbrev pub alike : Report → Report → Bool
 alike a b = eqb (a .s) (b .s) && (leb 3 (a .s) && leb (a .s) 32)
 
--- the states that the rows of a report reach from the states of x
-abbrev pub onward : ℕ → ℕ → Report → ℕ → Bool
-onward s x b p = anyBelow s (λ r. bit x r && bit (getD (b .rows) r 0) p)
-
--- two sets have a state in common
-abbrev pub common : ℕ → ℕ → ℕ → Bool
-common s x y = anyBelow s (λ r. bit x r && bit y r)
+-- the states that rows reach from the states of x
+abbrev pub onward : ℕ → ℕ → List ℕ → ℕ → Bool
+onward s x rows p = anyBelow s (λ r. bit x r && bit (getD rows r 0) p)
 
 -- the closed lines of a report with a line end; beyond the largest count where its flag says so
+abbrev pub closedBy : ℕ → ℕ → ℕ
+closedBy flag lines = cond (leb 2 flag) (suc most) lines
+
 abbrev pub closedIn : Report → ℕ
-closedIn a = cond (leb 2 (a .flag)) (suc most) (a .closed)
+closedIn a = closedBy (a .flag) (a .closed)
 
 -- The last line of the left run and the first line of the right one are one line. That this is "the report of the two runs one
 -- after the other" is the theorem `join-reports`.
 abbrev pub joinedWith : ℕ → Bool → Bool → Report → Report → Report
-joinedWith s true true a b = withoutEnd s (λ q. onward s (getD (a .rows) q 0) b)
+joinedWith s true true a b = withoutEnd s (λ q. onward s (getD (a .rows) q 0) (b .rows))
 joinedWith s true false a b = withEnd s (λ q. common s (getD (a .rows) q 0) (b .heads)) (closedIn b) (bit (b .tail))
-joinedWith s false true a b = withEnd s (bit (a .heads)) (closedIn a) (onward s (a .tail) b)
+joinedWith s false true a b = withEnd s (bit (a .heads)) (closedIn a) (onward s (a .tail) (b .rows))
 joinedWith s false false a b =
     withEnd s (bit (a .heads)) (closedIn a + closedIn b + cond (common s (a .tail) (b .heads)) 1 0) (bit (b .tail))
 

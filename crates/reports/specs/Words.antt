@@ -1,13 +1,16 @@
--- Document 01, "States and steps", "Reports" and "Refused": the count over a book, its steps and its work words.
-use Prim.Native.Nat.{ℕ, zero, suc, _+_}
+-- Document 01, "States and steps" and "Reports": the pairs of states of a run, and the work words of a report.
+use Prim.Native.Nat.{ℕ, _+_, _-_}
+use mathlib.Core.Bool.{Bool, _&&_, cond}
 use mathlib.Core.List.{List, [], _∷_, _++_}
-use lib.ListN.{take}
-use Rattle.pattern.specs.Moves.{states, leads}
-use Rattle.pattern.specs.Reader as reader
-use Rattle.reports.specs.declared.report.Report.{Report}
-use Rattle.runs.specs.Counts.{countBelow}
+use lib.Dec.{leb, eqb}
+use lib.ListN.{length, getD, take, drop, replicate}
+use Rattle.runs.specs.Counts.{countBelow, sumBelow}
+use Rattle.stateset.specs.Set.{bit}
 use Rattle.pattern.specs.Form.{Pattern}
+use Rattle.pattern.specs.Moves.{states, leads}
 use Rattle.lines.specs.Parts.{laterParts, lastPart}
+use Rattle.reports.specs.declared.report.Report.{Report}
+use Rattle.reports.specs.Reports.{noReport}
 
 -- "the pairs of states (q, p) such that the items before it in that macro lead from q to p", where w is the run of those items:
 -- "Before any LF in them q is every state; after one, q is line-start alone, moving since the last LF."
@@ -21,3 +24,23 @@ pairs t w = pairsWith t w (laterParts w)
 -- "rows, flag, heads, closed, tail"
 abbrev pub reportWords : Report → List ℕ
 reportWords r = take (r .s) (r .rows) ++ (r .flag ∷ r .heads ∷ r .closed ∷ r .tail ∷ [])
+
+-- a report of s states read back from its words
+abbrev pub loaded : ℕ → List ℕ → Report
+loaded s w = record { s = s; rows = take s w ++ replicate (32 - s) 0; flag = getD w s 0; heads = getD w (s + 1) 0; closed = getD w (s + 2) 0; tail = getD w (s + 3) 0 }
+
+-- n words hold those of a report of s states from `at` on
+abbrev pub roomFor : ℕ → ℕ → ℕ → Bool
+roomFor n at s = leb s 32 && leb (at + (s + 4)) n
+
+-- the report whose words start at a place, or zeros where they are not all there
+abbrev pub loadedAt : List ℕ → ℕ → ℕ → Report
+loadedAt w at s = cond (roomFor (length w) at s) (loaded s (drop at w)) noReport
+
+-- the words with those of a report from a place on, or as they were where there is no room for all of them
+abbrev pub storedAt : List ℕ → ℕ → Report → List ℕ
+storedAt w at r = cond (roomFor (length w) at (r .s)) (take at w ++ (reportWords r ++ drop (at + (r .s + 4)) w)) w
+
+-- the pairs of states that a report shows
+abbrev pub pairsIn : Report → ℕ
+pairsIn r = cond (eqb (r .flag) 0) (sumBelow (r .s) (λ q. countBelow 64 (bit (getD (r .rows) q 0)))) (countBelow 64 (bit (r .tail)))

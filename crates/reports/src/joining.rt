@@ -10,13 +10,13 @@ use stateset::meets;
 use stateset::union;
 ghost use Prim.Native.Nat.{_≤_};
 ghost use mathlib.Core.Path.{_≡_};
-ghost use mathlib.Core.Bool.{_&&_};
+ghost use mathlib.Core.Bool.{_&&_, true, false};
 ghost use lib.Dec.{eqb, leb};
 ghost use lib.ListN.{getD};
-ghost use Rattle.stateset.specs.Set.{bit, word, common};
-ghost use Rattle.reports.specs.Reports.{rowsOf, joinedReports};
+ghost use Rattle.stateset.specs.Set.{bit, common, word};
+ghost use Rattle.reports.specs.Reports.{closedBy, joinedReports, joinedWith, onward, rowsOf};
 ghost use Rattle.reports.specs.Answers.{joinResult};
-ghost use Rattle.reports.specs.Joins.{onwardBy, closedBy, closedOf, Adds, withLines, wholeJoin, openingJoin, endingJoin, acrossJoin};
+ghost use Rattle.reports.specs.Promises.{Adds, closedOf, withLines};
 
 // The closed lines of a run with a line end, and the flag that goes with them.
 struct Closed {
@@ -35,7 +35,7 @@ fn within(s: u64, x: u64) -> u64
 // The states that the rows lead to from the states of x.
 fn onward_from(s: u64, x: u64, rows: &[u64; 32]) -> u64
     requires { ⌜ s ≤ 32 ⌝ }
-    ensures { λ r. ⌜ r ≡ word s (onwardBy s x (now (rows .entry))) ⌝ }
+    ensures { λ r. ⌜ r ≡ word s (onward s x (now (rows .entry))) ⌝ }
 {
     within(s, image(rows, within(s, x)))
 }
@@ -50,7 +50,7 @@ fn meeting(s: u64, x: u64, y: u64) -> bool
 // The rows of one run after the other.
 fn rows_through(s: u64, a: &[u64; 32], b: &[u64; 32]) -> [u64; 32]
     requires { ⌜ s ≤ 32 ⌝ }
-    ensures { λ r. ⌜ r ≡ rowsOf s (λ q. onwardBy s (getD (now (a .entry)) q 0) (now (b .entry))) ⌝ }
+    ensures { λ r. ⌜ r ≡ rowsOf s (λ q. onward s (getD (now (a .entry)) q 0) (now (b .entry))) ⌝ }
 {
     let n = s as usize;
     let mut rows = [0; 32];
@@ -125,7 +125,7 @@ fn with_lines(s: u64, heads: u64, c: Closed, tail: u64) -> Report
 // Two runs without a line end.
 fn whole_join(a: Report, b: Report) -> Report
     requires { ⌜ a .s ≤ 32 ⌝ }
-    ensures { λ r. ⌜ r ≡ wholeJoin a b ⌝ }
+    ensures { λ r. ⌜ r ≡ joinedWith (a .s) true true a b ⌝ }
 {
     let left = a.rows;
     let right = b.rows;
@@ -143,7 +143,7 @@ fn whole_join(a: Report, b: Report) -> Report
 // A run without a line end, then one with.
 fn opening_join(a: Report, b: Report) -> Report
     requires { ⌜ a .s ≤ 32 ⌝ }
-    ensures { λ r. ⌜ r ≡ openingJoin a b ⌝ }
+    ensures { λ r. ⌜ r ≡ joinedWith (a .s) true false a b ⌝ }
 {
     let rows = a.rows;
     let heads = heads_through(a.s, &rows, b.heads);
@@ -153,7 +153,7 @@ fn opening_join(a: Report, b: Report) -> Report
 // A run with a line end, then one without.
 fn ending_join(a: Report, b: Report) -> Report
     requires { ⌜ a .s ≤ 32 ⌝ }
-    ensures { λ r. ⌜ r ≡ endingJoin a b ⌝ }
+    ensures { λ r. ⌜ r ≡ joinedWith (a .s) false true a b ⌝ }
 {
     let rows = b.rows;
     let tail = onward_from(a.s, a.tail, &rows);
@@ -163,7 +163,7 @@ fn ending_join(a: Report, b: Report) -> Report
 // Two runs with a line end each: the last line of the one and the first of the other are one closed line.
 fn across_join(a: Report, b: Report) -> Report
     requires { ⌜ a .s ≤ 32 ⌝ }
-    ensures { λ r. ⌜ r ≡ acrossJoin a b ⌝ }
+    ensures { λ r. ⌜ r ≡ joinedWith (a .s) false false a b ⌝ }
 {
     let across = chosen(meeting(a.s, a.tail, b.heads), 1);
     let apart = sum(closed_by(a.flag, a.closed), closed_by(b.flag, b.closed));
@@ -171,7 +171,8 @@ fn across_join(a: Report, b: Report) -> Report
     with_lines(a.s, within(a.s, a.heads), closed, within(a.s, b.tail))
 }
 
-pub fn joined(a: Report, b: Report) -> Report
+// The report of one run after the other.
+fn joined(a: Report, b: Report) -> Report
     requires { ⌜ a .s ≤ 32 ⌝ }
     ensures { λ r. ⌜ r ≡ joinedReports a b ⌝ }
 {
@@ -191,13 +192,7 @@ pub fn joined(a: Report, b: Report) -> Report
 fn sizes_alike(s: u64, t: u64) -> bool
     ensures { λ r. ⌜ r ≡ (eqb s t && (leb 3 s && leb s 32)) ⌝ }
 {
-    if s != t {
-        return false;
-    }
-    if s < 3 {
-        return false;
-    }
-    s <= 32
+    (s == t) & ((3 <= s) & (s <= 32))
 }
 
 // Joins the reports of two runs into that of the one run after the other. Refused with 13 for reports that are not of one pattern's size.

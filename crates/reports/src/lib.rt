@@ -1,4 +1,4 @@
-// Reports.
+// Reports of runs: of the empty run, with one key more, joined, as work words; and the count that a report comes to.
 mod empty;
 mod extend;
 mod joining;
@@ -9,7 +9,6 @@ mod words;
 pub use empty::empty_report;
 pub use extend::extended;
 pub use joining::join;
-pub use joining::joined;
 pub use report::Joined;
 pub use report::Report;
 pub use total::Total;

@@ -1,7 +1,11 @@
 // Reports of runs.
+ghost use Prim.Native.Nat.{_≤_};
+ghost use mathlib.Core.Path.{_≡_};
+ghost use mathlib.Core.Bool.{cond};
+ghost use lib.Dec.{ltb};
 
 // The largest count.
-pub const MOST: u64 = 0xffff_ffff_ffff_ffff;
+pub(crate) const MOST: u64 = 0xffff_ffff_ffff_ffff;
 
 // What a run does to the states of a pattern (document 01, "Reports").
 pub struct Report {
@@ -23,4 +27,12 @@ pub struct Report {
 pub struct Joined {
     pub refused: u8,
     pub report: Report,
+}
+
+// How many of the 32 rows are used where there are s states.
+pub(crate) fn rows_used(s: u64) -> usize
+    ensures used { λ r. ⌜ r ≡ cond (ltb s 32) s 32 ⌝ }
+    ensures few { λ r. ⌜ r ≤ 32 ⌝ }
+{
+    if s < 32 { s as usize } else { 32 }
 }

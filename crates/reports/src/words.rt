@@ -1,15 +1,25 @@
 // The work words of reports (document 01, "Reports"): rows, flag, heads, closed, tail.
 use crate::report::Report;
+use crate::report::rows_used;
 use stateset::size;
 ghost use Prim.Native.Nat.{_+_, _-_, _≤_};
 ghost use mathlib.Core.Path.{_≡_};
 ghost use mathlib.Core.List.{_++_};
 ghost use lib.ListN.{length, getD, take, drop, replicate};
 ghost use lib.Seq.{paste};
-ghost use Rattle.stateset.specs.Set.{bit};
-ghost use Rattle.reports.specs.Words.{reportWords};
-ghost use Rattle.reports.specs.Promises.{loaded, pairsIn};
 ghost use Rattle.runs.specs.Counts.{countBelow, sumBelow};
+ghost use Rattle.stateset.specs.Set.{bit};
+ghost use Rattle.reports.specs.Words.{loaded, loadedAt, pairsIn, reportWords, roomFor, storedAt};
+
+// Whether n words hold those of a report of s states from `at` on.
+fn room_for(n: usize, at: usize, s: u64) -> bool
+    ensures { λ r. ⌜ r ≡ roomFor n at s ⌝ }
+{
+    if (s > 32) | (at > n) {
+        return false;
+    }
+    s as usize + 4 <= n - at
+}
 
 // The rows whose words start at `at`, and zeros for the states that there are not.
 fn load_rows(work: &[u64], at: usize, s: usize) -> [u64; 32]
@@ -26,8 +36,8 @@ fn load_rows(work: &[u64], at: usize, s: usize) -> [u64; 32]
 }
 
 // The report whose words start at `at`.
-pub fn load(work: &[u64], at: usize, s: usize) -> Report
-    requires { ⌜ (s ≤ 32) × (at + s + 4 ≤ length (now work)) ⌝ }
+fn load_words(work: &[u64], at: usize, s: usize) -> Report
+    requires { ⌜ (s ≤ 32) × (at + (s + 4) ≤ length (now work)) ⌝ }
     ensures { λ r. ⌜ r ≡ loaded s (drop at (now (work .entry))) ⌝ }
 {
     let rows = load_rows(work, at, s);
@@ -39,6 +49,24 @@ pub fn load(work: &[u64], at: usize, s: usize) -> Report
         heads: work[end + 1],
         closed: work[end + 2],
         tail: work[end + 3],
+    }
+}
+
+// The report of s states whose words start at `at`; zeros where they are not all there.
+pub fn load(work: &[u64], at: usize, s: u64) -> Report
+    ensures { λ r. ⌜ r ≡ loadedAt (now (work .entry)) at s ⌝ }
+{
+    if room_for(work.len(), at, s) {
+        return load_words(work, at, s as usize);
+    }
+    let rows = [0; 32];
+    Report {
+        s: 0,
+        rows: rows,
+        flag: 0,
+        heads: 0,
+        closed: 0,
+        tail: 0,
     }
 }
 
@@ -56,7 +84,7 @@ fn store_rows(work: &mut [u64], at: usize, rows: &[u64; 32], s: usize)
 }
 
 // Writes a report's words from `at` on.
-pub fn store(work: &mut [u64], at: usize, r: Report)
+fn store_words(work: &mut [u64], at: usize, r: Report)
     requires { ⌜ (r .s ≤ 32) × (at + (r .s + 4) ≤ length (now work)) ⌝ }
     ensures { λ _. ⌜ now (work .exit) ≡ take at (now (work .entry)) ++ (reportWords r ++ drop (at + (r .s + 4)) (now (work .entry))) ⌝ }
 {
@@ -68,6 +96,15 @@ pub fn store(work: &mut [u64], at: usize, r: Report)
     work[end + 1] = r.heads;
     work[end + 2] = r.closed;
     work[end + 3] = r.tail;
+}
+
+// The same where there is room for all of them; else nothing is written.
+pub fn store(work: &mut [u64], at: usize, r: Report)
+    ensures { λ _. ⌜ now (work .exit) ≡ storedAt (now (work .entry)) at r ⌝ }
+{
+    if room_for(work.len(), at, r.s) {
+        store_words(work, at, r);
+    }
 }
 
 // How many members the first s rows have together.
@@ -87,12 +124,11 @@ fn sizes(rows: &[u64; 32], s: usize) -> u64
 
 // How many pairs of states a report shows.
 pub fn pairs_in(r: Report) -> u64
-    requires { ⌜ r .s ≤ 32 ⌝ }
     ensures { λ n. ⌜ n ≡ pairsIn r ⌝ }
 {
     if r.flag == 0 {
         let rows = r.rows;
-        return sizes(&rows, r.s as usize);
+        return sizes(&rows, rows_used(r.s));
     }
     size(r.tail)
 }
