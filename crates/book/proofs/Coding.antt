@@ -12,7 +12,7 @@ use borrow.Author.Tests.{ltb-true, ltb-false, leb-true, eqb-true, lt-ltb, le-ltb
 use Rattle.book.specs.declared.item.Item.{Item}
 use Rattle.book.specs.declared.item.Item.the-variants.{Key, Call}
 use Rattle.book.specs.Reading.{got, itemOf, le16, readItem, readItems, readMacro, readMacros, hasMagic, readHeader, readAll, readBook}
-use Rattle.book.specs.Format.{Sound, Macro, le16Bytes, code, magic, encodeItems, encodeMacros, encode, soundItem, soundItems, soundMacro, soundMacros, wellFormed}
+use Rattle.book.specs.Format.{Sound, Macro, le16Bytes, code, magic, encodeItems, encodeMacros, encode, soundItem, soundItems, soundMacro, soundMacros, wellFormed, width}
 use Rattle.book.specs.Offset.{size, offset, bodyPart}
 use Rattle.book.proofs.Readings.{more-got}
 use Rattle.book.proofs.Walks.{item-got}
@@ -84,10 +84,10 @@ unfolding readItems encodeItems
 items-encode n zero b rest is h e = let none : is ≡ [] = cc in rw none (cc)
 items-encode n (suc k) b rest is h e =
     let (i, js, mid, same, one, others) = more-got (readItem n b) (readItems n k) is rest e in
-    let (there, two) = item-got n b mid i one in
+    let (there, room) = item-got n b mid i one in
     let item : code i ≡ le16 b = rw (← item-is n b mid i one .0) (code-item (le16 b)) in
-    let byte : Bytes mid = rw there (bytes-drop 2 b h) in
-    rw (same, items-encode n k mid rest js byte others, item, there) (word-number b h two)
+    let byte : Bytes mid = rw there (bytes-drop width b h) in
+    rw (same, items-encode n k mid rest js byte others, item, there) (word-number b h room)
 
 -- and so for a macro
 macro-encode : (n : ℕ) (b rest : List ℕ) (m : Macro) → Bytes b → readMacro n b ≡ got m rest → le16Bytes (length m) ++ (encodeItems m ++ rest) ≡ b
@@ -141,13 +141,13 @@ number-word c = omega arith
 item-read : (n : ℕ) (i : Item) (rest : List ℕ) → soundItem n i ≡ true → readItem n (le16Bytes (code i) ++ rest) ≡ got i rest
 unfolding soundItem readItem
 item-read n (Key k) rest h =
-    let long : 2 ≤ length (le16Bytes k ++ rest) = omega arith in
+    let long : width ≤ length (le16Bytes k ++ rest) = omega arith in
     let (low, high) = and-eq-true-iff (leb 1 k) (leb k 255) .0 h in
     let some : k ≡ 0 → ⊥ = omega (arith, leb-true 1 k low) in
     let small : k < 256 = omega (arith, leb-true k 255 high) in
     rw (le-ltb _ _ long, number-word k, lt-ltb _ _ small, ne-eqb _ _ some)
 item-read n (Call j) rest h =
-    let long : 2 ≤ length (le16Bytes (256 + j) ++ rest) = omega arith in
+    let long : width ≤ length (le16Bytes (256 + j) ++ rest) = omega arith in
     let large : 256 ≤ 256 + j = omega arith in
     let less : 256 + j - 256 ≡ j = omega arith in
     rw (le-ltb _ _ long, number-word (256 + j), le-ltb _ _ large, less, h)
@@ -243,11 +243,11 @@ encode-bytes ms h =
     let counted : List ℕ = le16Bytes (length ms) ++ encodeMacros ms in
     bytes-mark (le16Bytes 1 ++ counted) (bytes-word 1 counted (omega arith) (bytes-word (length ms) (encodeMacros ms) (omega arith) all-bytes))
 
--- an item is written as two bytes
-length-items : (is : List Item) → length (encodeItems is) ≡ 2 * length is
+-- an item is written in its bytes
+pub length-items : (is : List Item) → length (encodeItems is) ≡ width * length is
 unfolding encodeItems
 length-items [] = refl
-length-items (i ∷ is) = let h : length (encodeItems is) ≡ 2 * length is = length-items is in omega arith
+length-items (i ∷ is) = let h : length (encodeItems is) ≡ width * length is = length-items is in omega arith
 
 -- the body of a macro of a book that was read is its items, encoded
 pub body-encoded : (b : List ℕ) → Bytes b → (ms : List Macro) (rest : List ℕ) → readBook b ≡ got ms rest → (i : ℕ) → i < length ms → bodyPart b ms i ≡ encodeItems (getD ms i [])
@@ -255,4 +255,4 @@ body-encoded b h ms rest e i l =
     let m : Macro = getD ms i [] in
     let after : List ℕ = drop (offset ms (i + 1)) b in
     let same = macro-encode i (drop (offset ms i) b) after m (bytes-drop (offset ms i) b h) (book-at b ms rest e i l) in
-    rw (← drop-drop 2 (offset ms i) b, ← same) (take-at (encodeItems m) after (2 * length m) (length-items m))
+    rw (← drop-drop 2 (offset ms i) b, ← same) (take-at (encodeItems m) after (width * length m) (length-items m))

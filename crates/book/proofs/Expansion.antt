@@ -2,10 +2,10 @@
 use Prim.Native.Nat.{ℕ, zero, suc, _+_, _<_, _≤_}
 use native.Mathlib.Nat.{add-zero, add-suc, suc-add, zero-add}
 use native.Mathlib.Omega.{arith}
-use mathlib.Core.Path.{_≡_, refl, ap}
+use mathlib.Core.Path.{_≡_, refl, sym, ap, _∙_}
 use mathlib.Core.Logic.{⊎-elim}
 use mathlib.Core.Bool.{true, _&&_, and-eq-true-iff}
-use mathlib.Core.List.{List, [], _∷_, List·Memᴰ, List·Memᴰ·head, List·Memᴰ·tail, List·Memᴰ·not-nil, List·Memᴰ·cases-cons, List·Memᴰ·append-cases}
+use mathlib.Core.List.{List, [], _∷_, _++_, append-assoc, append-nil, List·Memᴰ, List·Memᴰ·head, List·Memᴰ·tail, List·Memᴰ·not-nil, List·Memᴰ·cases-cons, List·Memᴰ·append-cases}
 use lib.Dec.{leb}
 use lib.ListN.{length, getD, length-append}
 use borrow.Author.Tests.{ltb-true, leb-true}
@@ -13,7 +13,9 @@ use Rattle.book.specs.declared.item.Item.{Item}
 use Rattle.book.specs.declared.item.Item.the-variants.{Key, Call}
 use Rattle.book.specs.Format.{Macro, soundItem, soundItems, soundMacro, soundMacros, wellFormed}
 use Rattle.book.specs.Reach.{Calls}
-use Rattle.book.specs.Expansion.{expand, expandTo, expansion}
+use Rattle.book.specs.Expansion.{keysOf, expand, expandTo, expansion}
+use Rattle.runs.specs.Keys.{isKey, isRun}
+use Rattle.runs.proofs.KeyLaws.{run-keys}
 
 -- what a sound macro has: an item, and sound items
 macro-parts : (n : ℕ) (m : Macro) → soundMacro n m ≡ true → (1 ≤ length m) × (soundItems n m ≡ true)
@@ -31,7 +33,7 @@ macros-parts n m ms h =
     (q .0, q .1, p .1)
 
 -- the items at place i of a sound list that starts at number n are sound for macro n + i; where the list has ended there are none
-pub sound-items : (ms : List Macro) (n : ℕ) → soundMacros n ms ≡ true → (i : ℕ) → soundItems (n + i) (getD ms i []) ≡ true
+sound-items : (ms : List Macro) (n : ℕ) → soundMacros n ms ≡ true → (i : ℕ) → soundItems (n + i) (getD ms i []) ≡ true
 unfolding soundItems
 sound-items [] n h i = refl
 sound-items (m ∷ ms) n h zero = rw add-zero (macros-parts n m ms h .1)
@@ -62,11 +64,11 @@ well-macros ms h =
     .1
 
 -- so the items of its macro i are sound for i
-pub well-items : (ms : List Macro) → wellFormed ms ≡ true → (i : ℕ) → soundItems i (getD ms i []) ≡ true
+well-items : (ms : List Macro) → wellFormed ms ≡ true → (i : ℕ) → soundItems i (getD ms i []) ≡ true
 well-items ms h i = rw zero-add at (sound-items ms 0 (well-macros ms h) i)
 
 -- and each of its macros has an item
-pub well-nonempty : (ms : List Macro) → wellFormed ms ≡ true → (i : ℕ) → i < length ms → 1 ≤ length (getD ms i [])
+well-nonempty : (ms : List Macro) → wellFormed ms ≡ true → (i : ℕ) → i < length ms → 1 ≤ length (getD ms i [])
 well-nonempty ms h = sound-nonempty ms 0 (well-macros ms h)
 
 pub well-short : (ms : List Macro) → wellFormed ms ≡ true → (i : ℕ) → length (getD ms i []) ≤ 64
@@ -78,7 +80,7 @@ unfolding soundItems
 items-parts n i is h = and-eq-true-iff (soundItem n i) (soundItems n is) .0 h
 
 -- a call among the sound items of macro n goes to a lower macro
-pub call-lower : {n j : ℕ} (is : List Item) → soundItems n is ≡ true → List·Memᴰ (Call j) is → j < n
+call-lower : {n j : ℕ} (is : List Item) → soundItems n is ≡ true → List·Memᴰ (Call j) is → j < n
 unfolding soundItem
 call-lower [] h c = absurd (List·Memᴰ·not-nil c)
 call-lower {n} {j} (i ∷ is) h c =
@@ -96,6 +98,19 @@ unfolding expand
 expand-same f g [] e = refl
 expand-same f g (Key k ∷ is) e = ap (λ (l : List ℕ). k ∷ l) (expand-same f g is (λ j c. e j (List·Memᴰ·tail c)))
 expand-same f g (Call i ∷ is) e = rw (e i (List·Memᴰ·head refl), expand-same f g is (λ j c. e j (List·Memᴰ·tail c)))
+
+-- nothing is written of no items
+pub expand-none : (called : ℕ → List ℕ) → expand called [] ≡ []
+unfolding expand
+expand-none called = refl
+
+-- and one item more writes its keys behind
+pub expand-more : (called : ℕ → List ℕ) (is : List Item) (i : Item) → expand called (is ++ (i ∷ [])) ≡ expand called is ++ keysOf called i
+unfolding expand
+expand-more called [] i = append-nil (keysOf called i)
+expand-more called (j ∷ is) i =
+    ap (λ (l : List ℕ). keysOf called j ++ l) (expand-more called is i)
+    ∙ sym (append-assoc (keysOf called j) (expand called is) (keysOf called i))
 
 -- something is written if there is an item, and each called run is not empty
 expand-nonempty : (f : ℕ → List ℕ) (is : List Item) → 1 ≤ length is → ((j : ℕ) → List·Memᴰ (Call j) is → 0 < length (f j)) → 0 < length (expand f is)
@@ -163,12 +178,16 @@ module _ (ms : List Macro) (well : wellFormed ms ≡ true) where
   unfolding expansion
   expansion-keys m k c = expandTo-keys (suc m) m k c
 
+  -- and is one
+  pub expansion-run : (m : ℕ) → isRun (expansion ms m) ≡ true
+  expansion-run m = run-keys (expansion ms m) (expansion-keys m)
+
 -- each item of a macro is sound for it
 item-sound : (n : ℕ) {i : Item} (is : List Item) → soundItems n is ≡ true → List·Memᴰ i is → soundItem n i ≡ true
 item-sound n [] h m = absurd (List·Memᴰ·not-nil m)
 item-sound n (j ∷ is) h m = ⊎-elim (λ e. rw e (items-parts n j is h .0)) (λ l. item-sound n is (items-parts n j is h .1) l) (List·Memᴰ·cases-cons m)
 
 -- so each key is one from 1 to 255
-pub well-key : (ms : List Macro) → wellFormed ms ≡ true → (i : ℕ) {k : ℕ} → List·Memᴰ (Key k) (getD ms i []) → (leb 1 k && leb k 255) ≡ true
+pub well-key : (ms : List Macro) → wellFormed ms ≡ true → (i : ℕ) {k : ℕ} → List·Memᴰ (Key k) (getD ms i []) → isKey k ≡ true
 unfolding soundItem
 well-key ms h i m = item-sound i (getD ms i []) (well-items ms h i) m

@@ -1,14 +1,15 @@
--- Laws of the book's definitions, which the proofs of functions cite.
+-- Laws of the book's definitions. Other crates cite LayoutLaws, MacroItems, Requiring, Expansion, Reach, Coding and Sizes.
 pub mod Readings
 pub mod Items
 pub mod Walks
 pub mod Header
 pub mod Offsets
 pub mod Coding
-pub mod Layouts
-pub mod Parts
+pub mod Laid
+pub mod LayoutLaws
+pub mod Bodies
+pub mod MacroItems
+pub mod Requiring
 pub mod Expansion
 pub mod Reach
-pub mod Marks
-pub mod Listing
-pub mod Asked
+pub mod Sizes

@@ -1,6 +1,5 @@
 -- Laws of readings: what a reading that was got says of its parts.
 use Prim.Native.Nat.{ℕ}
-use native.Mathlib.Omega.{arith}
 use mathlib.Core.Path.{_≡_, refl}
 use mathlib.Core.Bool.{Bool, true, false, cond}
 use mathlib.Core.List.{List, _∷_}
@@ -23,13 +22,18 @@ pub same-got : {A : Type 0} {a b : A} {r s : List ℕ} → _≡_ {A = Reading A}
 same-got e = (cc, cc)
 
 -- one thing was read and then another
-pub next-got : {A B : Type 0} (g : Reading A) (f : A → Reader B) (b : B) (rest : List ℕ) → next g f ≡ got b rest → (a : A) × (mid : List ℕ) × (g ≡ got a mid) × (f a mid ≡ got b rest)
-next-got (got a mid) f b rest e = (a, mid, refl, e)
-next-got (refused r) f b rest e = clash (cc)
+module _ {A B : Type 0} (g : Reading A) (f : A → Reader B) (b : B) (rest : List ℕ) where
+  pub next-got : next g f ≡ got b rest → (a : A) × (mid : List ℕ) × (g ≡ got a mid) × (f a mid ≡ got b rest)
+  next-got e = go g e
+    where
+      go : (x : Reading A) → next x f ≡ got b rest → (a : A) × (mid : List ℕ) × (x ≡ got a mid) × (f a mid ≡ got b rest)
+      go (got a mid) h = (a, mid, refl, h)
+      go (refused r) h = clash (cc)
 
 -- an element was read and then others
-pub more-got : {A : Type 0} (g : Reading A) (h : Reader (List A)) (l : List A) (rest : List ℕ) → next g (λ a b. next (h b) (λ xs. done (a ∷ xs))) ≡ got l rest → (a : A) × (xs : List A) × (mid : List ℕ) × (l ≡ a ∷ xs) × (g ≡ got a mid) × (h mid ≡ got xs rest)
-more-got g h l rest e =
-    let (a, mid, one, f) = next-got g (λ a b. next (h b) (λ xs. done (a ∷ xs))) l rest e in
-    let (xs, r, others, q) = next-got (h mid) (λ xs. done (a ∷ xs)) l rest f in
-    (a, xs, mid, cc, one, cc)
+module _ {A : Type 0} (g : Reading A) (h : Reader (List A)) (l : List A) (rest : List ℕ) where
+  pub more-got : next g (λ a b. next (h b) (λ xs. done (a ∷ xs))) ≡ got l rest → (a : A) × (xs : List A) × (mid : List ℕ) × (l ≡ a ∷ xs) × (g ≡ got a mid) × (h mid ≡ got xs rest)
+  more-got e =
+      let (a, mid, one, f) = next-got g (λ a b. next (h b) (λ xs. done (a ∷ xs))) l rest e in
+      let (xs, r, others, q) = next-got (h mid) (λ xs. done (a ∷ xs)) l rest f in
+      (a, xs, mid, cc, one, cc)

@@ -2,12 +2,12 @@
 use Prim.Native.Nat.{ℕ, suc, _+_, _-_, _<_, _≤_}
 use native.Mathlib.Omega.{arith}
 use mathlib.Core.Path.{_≡_, refl, sym, ap, _∙_}
-use mathlib.Core.Bool.{Bool, true, false, cond}
+use mathlib.Core.Bool.{true, false, not, _&&_}
 use mathlib.Core.List.{List, _∷_}
-use lib.Dec.{ltb, eqb}
+use lib.Dec.{leb, ltb, eqb}
 use lib.ListN.{length, drop, length-drop}
 use lib.Seq.{drop-drop}
-use borrow.Author.Tests.{lt-ltb, le-ltb, lt-leb, le-leb, eq-eqb, ne-eqb}
+use borrow.Author.Tests.{lt-ltb, le-ltb, ltb-false, eq-eqb, ne-eqb, not-true, not-false}
 use Rattle.refusal.specs.declared.Refusal.{Refusal}
 use Rattle.refusal.specs.declared.Refusal.the-variants.{MalformedBody, InvalidKey, ForwardReference}
 use Rattle.book.specs.declared.item.Item.{Item}
@@ -16,41 +16,46 @@ use Rattle.book.specs.declared.item.ItemRead.{ItemRead}
 use Rattle.book.specs.declared.item.ItemRead.the-variants.{Found, Short}
 use Rattle.book.specs.declared.layout.Walk.{Walk}
 use Rattle.book.specs.declared.layout.Walk.the-variants.{At, Refused}
-use Rattle.book.specs.Reading.{Reading, got, refused, next, done, itemAt, le16, checkItem, readItem, readItems, readMacro}
-use Rattle.book.specs.Format.{Macro}
-use Rattle.book.specs.Steps.{walkOf}
-use Rattle.book.proofs.Items.{found-long}
+use Rattle.book.specs.Reading.{Reading, got, refused, next, done, itemOf, le16, checkItem, readItem, readItems, readMacro}
+use Rattle.book.specs.Format.{Macro, width}
+use Rattle.book.specs.Promises.{codeAt, walkOf}
+use Rattle.book.proofs.Items.{found-at, short-at}
+use Rattle.book.proofs.Readings.{test-got, untest-got, same-got}
 use Rattle.runs.proofs.Tests.{clash}
 
-module _ (s : List ℕ) (at n : ℕ) (r : ItemRead) (e : r ≡ itemAt (drop at s)) where
-  judged : (v : ItemRead) → r ≡ v → readItem n (drop at s) ≡ checkItem n v (drop 2 (drop at s))
-  unfolding readItem
-  judged v f = ap (λ (x : ItemRead). checkItem n x (drop 2 (drop at s))) (sym e ∙ f)
-
+module _ (s : List ℕ) (at n : ℕ) (r : ItemRead) (e : r ≡ codeAt (drop at s)) where
   pub item-cut : r ≡ Short → Refused MalformedBody ≡ walkOf (length s) (readItem n (drop at s))
-  item-cut f = rw (judged Short f)
+  unfolding readItem
+  item-cut f = rw (lt-ltb _ _ (short-at (drop at s) (sym e ∙ f)))
 
-  module _ (i : Item) (f : r ≡ Found i) where
-    pub item-fits : at + 2 ≤ length s
-    item-fits = let h : 2 ≤ length s - at = rw length-drop at (found-long (drop at s) i (sym e ∙ f)) in omega arith
+  module _ (k : ℕ) (f : r ≡ Found k) where
+    pub item-fits : at + width ≤ length s
+    item-fits = let h : width ≤ length s - at = rw length-drop at (found-at (drop at s) k (sym e ∙ f) .0) in omega arith
 
-    on : At (at + 2) ≡ At (length s - length (drop 2 (drop at s)))
-    on =
-        let h : at + 2 ≤ length s = item-fits in
-        let g : at + 2 ≡ length s - (length s - at - 2) = omega arith in
-        simp (length-drop) (ap At g)
+    module _ (i : Item) (g : i ≡ itemOf k) where
+      judged : readItem n (drop at s) ≡ checkItem n i (drop width (drop at s))
+      unfolding readItem
+      judged =
+          let (long, same) = found-at (drop at s) k (sym e ∙ f) in
+          rw (le-ltb _ _ long, g, same)
 
-    pub key-zero : (k : ℕ) → i ≡ Key k → k ≡ 0 → Refused InvalidKey ≡ walkOf (length s) (readItem n (drop at s))
-    key-zero k g z = rw (judged (Found (Key k)) (f ∙ ap Found g), eq-eqb _ _ z)
+      on : At (at + width) ≡ At (length s - length (drop width (drop at s)))
+      on =
+          let h : at + width ≤ length s = item-fits in
+          let q : at + width ≡ length s - (length s - at - width) = omega arith in
+          simp (length-drop) (ap At q)
 
-    pub key-on : (k : ℕ) → i ≡ Key k → (k ≡ 0 → ⊥) → At (at + 2) ≡ walkOf (length s) (readItem n (drop at s))
-    key-on k g z = rw (judged (Found (Key k)) (f ∙ ap Found g), ne-eqb _ _ z) on
+      pub key-zero : (x : ℕ) → i ≡ Key x → x ≡ 0 → Refused InvalidKey ≡ walkOf (length s) (readItem n (drop at s))
+      key-zero x h z = rw (judged, h, eq-eqb _ _ z)
 
-    pub call-high : (j : ℕ) → i ≡ Call j → n ≤ j → Refused ForwardReference ≡ walkOf (length s) (readItem n (drop at s))
-    call-high j g h = rw (judged (Found (Call j)) (f ∙ ap Found g), le-ltb _ _ h)
+      pub key-on : (x : ℕ) → i ≡ Key x → (x ≡ 0 → ⊥) → At (at + width) ≡ walkOf (length s) (readItem n (drop at s))
+      key-on x h z = rw (judged, h, ne-eqb _ _ z) on
 
-    pub call-on : (j : ℕ) → i ≡ Call j → j < n → At (at + 2) ≡ walkOf (length s) (readItem n (drop at s))
-    call-on j g h = rw (judged (Found (Call j)) (f ∙ ap Found g), lt-ltb _ _ h) on
+      pub call-high : (j : ℕ) → i ≡ Call j → n ≤ j → Refused ForwardReference ≡ walkOf (length s) (readItem n (drop at s))
+      call-high j h l = rw (judged, h, le-ltb _ _ l)
+
+      pub call-on : (j : ℕ) → i ≡ Call j → j < n → At (at + width) ≡ walkOf (length s) (readItem n (drop at s))
+      call-on j h l = rw (judged, h, lt-ltb _ _ l) on
 
 -- what a walk says of the reading behind it
 pub walked-refused : {A : Type 0} (n : ℕ) (g : Reading A) (r : Refusal) → walkOf n g ≡ Refused r → g ≡ refused r
@@ -66,23 +71,16 @@ walked-map : {A B : Type 0} (n : ℕ) (g : Reading A) (f : A → B) → walkOf n
 walked-map n (got a rest) f = refl
 walked-map n (refused q) f = refl
 
--- an item that was read took two bytes
-pub item-got : (n : ℕ) (b rest : List ℕ) (i : Item) → readItem n b ≡ got i rest → (rest ≡ drop 2 b) × (2 ≤ length b)
+-- an item that was read took its bytes
+pub item-got : (n : ℕ) (b rest : List ℕ) (i : Item) → readItem n b ≡ got i rest → (rest ≡ drop width b) × (width ≤ length b)
 unfolding readItem
-item-got n b rest i e = go (itemAt b) refl (e)
+item-got n b rest i e =
+    let (long, f) = untest-got (ltb (length b) width) (checkItem n (itemOf (le16 b)) (drop width b)) MalformedBody i rest e in
+    (go (itemOf (le16 b)) f, ltb-false _ _ long)
   where
-    key : (t : Bool) (k : ℕ) → cond t (refused InvalidKey) (got (Key k) (drop 2 b)) ≡ got i rest → rest ≡ drop 2 b
-    key true k g = cc
-    key false k g = cc
-
-    call : (t : Bool) (j : ℕ) → cond t (got (Call j) (drop 2 b)) (refused ForwardReference) ≡ got i rest → rest ≡ drop 2 b
-    call true j g = cc
-    call false j g = cc
-
-    go : (r : ItemRead) → itemAt b ≡ r → checkItem n r (drop 2 b) ≡ got i rest → (rest ≡ drop 2 b) × (2 ≤ length b)
-    go Short h g = clash (cc)
-    go (Found (Key k)) h g = (key (eqb k 0) k g, found-long b (Key k) h)
-    go (Found (Call j)) h g = (call (ltb j n) j g, found-long b (Call j) h)
+    go : (j : Item) → checkItem n j (drop width b) ≡ got i rest → rest ≡ drop width b
+    go (Key k) g = sym (same-got (untest-got (eqb k 0) (got (Key k) (drop width b)) InvalidKey i rest g .1) .1)
+    go (Call j) g = sym (same-got (test-got (ltb j n) (got (Call j) (drop width b)) ForwardReference i rest g .1) .1)
 
 module _ (s : List ℕ) (n : ℕ) where
   items-step : (k : ℕ) (b rest : List ℕ) (i : Item) → readItem n b ≡ got i rest → walkOf (length s) (readItems n (suc k) b) ≡ walkOf (length s) (readItems n k rest)
@@ -105,10 +103,10 @@ module _ (s : List ℕ) (n : ℕ) where
         on : ((i : Item) × (rest : List ℕ) × (readItem n (drop at s) ≡ got i rest) × (p ≡ length s - length rest)) → (p ≤ length s) × (walkOf (length s) (readItems n (left - 1) (drop p s)) ≡ whole)
         on (i, rest, g, q) =
             let (same, long) = item-got n (drop at s) rest i g in
-            let two : 2 ≤ length s - at = rw length-drop at long in
-            let size : length rest ≡ length s - at - 2 = rw (same, length-drop, length-drop) in
-            let offset : p ≡ at + 2 = omega arith in
-            let there : drop p s ≡ rest = rw (offset, same, drop-drop 2 at s) in
+            let room : width ≤ length s - at = rw length-drop at long in
+            let size : length rest ≡ length s - at - width = rw (same, length-drop, length-drop) in
+            let offset : p ≡ at + width = omega arith in
+            let there : drop p s ≡ rest = rw (offset, same, drop-drop width at s) in
             (omega arith, rw there (sym (items-step (left - 1) (drop at s) rest i g) ∙ rw less at inv))
 
   pub items-done : (at left : ℕ) (whole : Walk) → walkOf (length s) (readItems n left (drop at s)) ≡ whole → left ≤ 0 → at ≤ length s → At at ≡ whole
@@ -124,16 +122,10 @@ module _ (s : List ℕ) (at n : ℕ) where
   macro-cut h = simp (length-drop, lt-ltb _ _ h)
 
   module _ (h : 2 ≤ length s - at) (k : ℕ) (e : k ≡ le16 (drop at s)) where
-    pub macro-none : k < 1 → Refused MalformedBody ≡ walkOf (length s) (readMacro n (drop at s))
+    pub macro-count : not (leb 1 k && leb k 64) ≡ true → Refused MalformedBody ≡ walkOf (length s) (readMacro n (drop at s))
     unfolding readMacro
-    macro-none l = simp (length-drop, le-ltb _ _ h, ← e, lt-leb _ _ l)
+    macro-count l = simp (length-drop, le-ltb _ _ h, ← e, not-true (leb 1 k && leb k 64) l)
 
-    pub macro-many : 64 < k → Refused MalformedBody ≡ walkOf (length s) (readMacro n (drop at s))
+    pub macro-items : (w : Walk) → not (leb 1 k && leb k 64) ≡ false → w ≡ walkOf (length s) (readItems n k (drop (at + 2) s)) → w ≡ walkOf (length s) (readMacro n (drop at s))
     unfolding readMacro
-    macro-many l =
-        let one : 1 ≤ k = omega arith in
-        simp (length-drop, le-ltb _ _ h, ← e, le-leb _ _ one, lt-leb _ _ l)
-
-    pub macro-items : (w : Walk) → 1 ≤ k → k ≤ 64 → w ≡ walkOf (length s) (readItems n k (drop (at + 2) s)) → w ≡ walkOf (length s) (readMacro n (drop at s))
-    unfolding readMacro
-    macro-items w l m f = f ∙ simp (length-drop, le-ltb _ _ h, ← e, le-leb _ _ l, le-leb _ _ m, drop-drop)
+    macro-items w l f = f ∙ simp (length-drop, le-ltb _ _ h, ← e, not-false (leb 1 k && leb k 64) l, drop-drop)

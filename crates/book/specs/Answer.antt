@@ -1,20 +1,16 @@
 -- What each operation of the book answers, by the definitions of the book.
 use Prim.Native.Nat.{ℕ, _+_, _-_}
-use mathlib.Core.Path.{_≡_}
 use mathlib.Core.Bool.{cond}
 use mathlib.Core.List.{List, [], _++_}
 use lib.Dec.{ltb}
 use lib.ListN.{length, replicate}
-use Rattle.refusal.specs.declared.Refusal.{Refusal}
-use Rattle.refusal.specs.declared.Refusal.the-variants.{NoSuchMacro, InsufficientSpace}
+use Rattle.refusal.specs.declared.Refusal.the-variants.{NoSuchMacro}
 use Rattle.refusal.specs.Number as Number
 use Rattle.refusal.specs.Figures.{Figures, answered, refusedFor}
 use Rattle.book.specs.declared.layout.Checked.{Checked}
 use Rattle.book.specs.declared.layout.Layout.{Layout}
-use Rattle.book.specs.declared.reachable.Reached.{Reached}
 use Rattle.book.specs.Format.{Macro}
 use Rattle.book.specs.Offset.{starts, bodyPart, offset}
-use Rattle.book.specs.Reach.{ReachList}
 use Rattle.book.specs.Reading.{Reading, Reader, got, refused, _>>=_, readBook}
 
 -- the check of a book: its macro count
@@ -30,6 +26,10 @@ checkResult (refused r) = refusedFor r
 abbrev pub layoutFor : Reading (List Macro) → Layout
 layoutFor (got ms rest) = record { answer = Checked.Sound (length ms); offsets = starts 7 ms ++ replicate (1024 - length ms) 0 }
 layoutFor (refused r) = record { answer = Checked.Refused r; offsets = replicate 1025 0 }
+
+-- the layout of a book's bytes
+unfoldable pub layout : List ℕ → Layout
+layout b = layoutFor (readBook b)
 
 -- 10 after 1 to 6: "m not below M"
 unfoldable pub requireMacro : ℕ → Reader (List Macro)
@@ -51,18 +51,3 @@ bodyAt p m (refused r) = p
 abbrev pub refusalOf : {A : Type 0} → Reading A → ℕ
 refusalOf (got a rest) = 0
 refusalOf (refused r) = Number.number r
-
--- 11 after 10: "fewer .. entries than stated", which is m + 1
-unfoldable pub requireEntries : ℕ → ℕ → Reader (List Macro)
-requireEntries m entries = do
-  ms ← requireMacro m
-  λ rest. cond (ltb entries (m + 1)) (refused InsufficientSpace) (got ms rest)
-
--- the reach list of macro m: the figures of the answer, and the lent list before and after; a refusal leaves it "unchanged"
-abbrev pub ReachAnswer : Reading (List Macro) → ℕ → Figures ℕ → List ℕ → List ℕ → Type 0
-ReachAnswer (got ms rest) m f before after = (f .refusal ≡ 0) × ReachList ms m (f .value) before after
-ReachAnswer (refused r) m f before after = (f ≡ refusedFor r) × (after ≡ before)
-
-abbrev pub reachedFigures : Reached → Figures ℕ
-reachedFigures (Reached.Written n) = answered n
-reachedFigures (Reached.Refused r) = refusedFor r

@@ -1,10 +1,11 @@
 -- Document 01, "The book": the bytes of a book, and what makes one sound.
-use Prim.Native.Nat.{ℕ, suc, _+_, _/_, _%_, _<_}
+use Prim.Native.Nat.{ℕ, suc, _+_, _/_, _%_}
 use mathlib.Core.Path.{_≡_}
 use mathlib.Core.Bool.{Bool, true, _&&_}
 use mathlib.Core.List.{List, [], _∷_, _++_}
 use lib.Dec.{leb, ltb}
-use lib.ListN.{length, getD}
+use lib.ListN.{length}
+use Rattle.runs.specs.Keys.{isKey}
 use Rattle.book.specs.declared.item.Item.{Item}
 use Rattle.book.specs.declared.item.Item.the-variants.{Key, Call}
 
@@ -15,6 +16,10 @@ Macro = List Item
 -- "two-byte numbers have the low byte first"
 abbrev pub le16Bytes : ℕ → List ℕ
 le16Bytes n = n % 256 ∷ n / 256 ∷ []
+
+-- how many bytes an item has: "two-byte items"
+abbrev pub width : ℕ
+width = 2
 
 -- "An item from 1 to 255 is a key. An item 256 + j calls macro j"
 abbrev pub code : Item → ℕ
@@ -41,7 +46,7 @@ encode ms = magic ++ (le16Bytes 1 ++ (le16Bytes (length ms) ++ encodeMacros ms))
 
 -- the item of macro n is a key "from 1 to 255", or a call of macro j "and j is lower than the number of the macro it stands in"
 unfoldable pub soundItem : ℕ → Item → Bool
-soundItem n (Key k) = leb 1 k && leb k 255
+soundItem n (Key k) = isKey k
 soundItem n (Call j) = ltb j n
 
 unfoldable pub soundItems : ℕ → List Item → Bool

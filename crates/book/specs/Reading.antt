@@ -8,9 +8,7 @@ use Rattle.refusal.specs.declared.Refusal.{Refusal}
 use Rattle.refusal.specs.declared.Refusal.the-variants.{BadMagic, UnsupportedVersion, BadMacroCount, MalformedBody, InvalidKey, ForwardReference}
 use Rattle.book.specs.declared.item.Item.{Item}
 use Rattle.book.specs.declared.item.Item.the-variants.{Key, Call}
-use Rattle.book.specs.declared.item.ItemRead.{ItemRead}
-use Rattle.book.specs.declared.item.ItemRead.the-variants.{Found, Short}
-use Rattle.book.specs.Format.{Macro}
+use Rattle.book.specs.Format.{Macro, width}
 
 -- what was read and the bytes after it, or the refusal
 pub data Reading (A : Type 0) : Type 0 where
@@ -40,24 +38,14 @@ le16 b = getD b 0 0 + 256 * getD b 1 0
 abbrev pub itemOf : ℕ → Item
 itemOf c = cond (ltb c 256) (Key c) (Call (c - 256))
 
--- the item at the front of some bytes, where they are enough
-abbrev pub itemAt : List ℕ → ItemRead
-itemAt b = cond (ltb (length b) 2) Short (Found (itemOf (le16 b)))
+-- an item of macro n: 5, "item 0"; 6, "256 or more, and not a lower macro"
+abbrev pub checkItem : ℕ → Item → Reader Item
+checkItem n (Key k) rest = cond (eqb k 0) (refused InvalidKey) (got (Key k) rest)
+checkItem n (Call j) rest = cond (ltb j n) (got (Call j) rest) (refused ForwardReference)
 
--- the items that bytes hold, two bytes each
-unfoldable pub itemsOf : List ℕ → List Item
-itemsOf [] = []
-itemsOf (l ∷ []) = []
-itemsOf (l ∷ h ∷ b) = itemOf (l + 256 * h) ∷ itemsOf b
-
--- an item of macro n: 4, "bytes run out"; 5, "item 0"; 6, "256 or more, and not a lower macro"
-abbrev pub checkItem : ℕ → ItemRead → Reader Item
-checkItem n Short rest = refused MalformedBody
-checkItem n (Found (Key k)) rest = cond (eqb k 0) (refused InvalidKey) (got (Key k) rest)
-checkItem n (Found (Call j)) rest = cond (ltb j n) (got (Call j) rest) (refused ForwardReference)
-
+-- 4, "bytes run out", comes before these
 unfoldable pub readItem : ℕ → Reader Item
-readItem n b = checkItem n (itemAt b) (drop 2 b)
+readItem n b = cond (ltb (length b) width) (refused MalformedBody) (checkItem n (itemOf (le16 b)) (drop width b))
 
 -- k items of macro n
 unfoldable pub readItems : ℕ → ℕ → Reader Macro

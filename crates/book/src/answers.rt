@@ -1,7 +1,7 @@
 // What is asked of a whole book.
 use crate::layout::Checked;
 use crate::layout::layout_of;
-use crate::layout::part_of;
+use crate::macro_items::part_of;
 use refusal::Refusal;
 use refusal::code;
 ghost use denote.Ref.{ptr};

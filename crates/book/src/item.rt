@@ -2,7 +2,11 @@
 ghost use mathlib.Core.Path.{_≡_};
 ghost use Prim.Native.Nat.{_+_, _*_, _<_};
 ghost use lib.ListN.{length, drop};
-ghost use Rattle.book.specs.Reading.{itemAt, le16};
+ghost use Rattle.book.specs.Reading.{itemOf, le16};
+ghost use Rattle.book.specs.Promises.{codeAt};
+
+// How many bytes an item has.
+pub(crate) const WIDTH: usize = 2;
 
 // Document 01, "The book": an item from 1 to 255 is a key, 256 + j calls macro j. A key of 0 is in no sound book.
 pub enum Item {
@@ -10,9 +14,9 @@ pub enum Item {
     Call(u16),
 }
 
-// What stands at a place: an item, or fewer bytes than an item has.
-pub enum ItemRead {
-    Found(Item),
+// What stands at a place: the number of an item, or fewer bytes than an item has.
+pub(crate) enum ItemRead {
+    Found(u16),
     Short,
 }
 
@@ -32,20 +36,26 @@ pub(crate) fn le16_at(s: &[u8], at: usize) -> u16
     low + 256 * high
 }
 
-// The item whose two bytes start at `at`.
-pub fn read_item(s: &[u8], at: usize) -> ItemRead
-    ensures { λ r. ⌜ r ≡ itemAt (drop at (now (s .entry))) ⌝ }
+// The number of the item whose bytes start at `at`.
+pub(crate) fn read_item(s: &[u8], at: usize) -> ItemRead
+    ensures { λ r. ⌜ r ≡ codeAt (drop at (now (s .entry))) ⌝ }
 {
-    if s.len() < 2 {
+    if s.len() < WIDTH {
         return ItemRead::Short;
     }
-    if s.len() - 2 < at {
+    if s.len() - WIDTH < at {
         return ItemRead::Short;
     }
-    let code = le16_at(s, at);
+    ItemRead::Found(le16_at(s, at))
+}
+
+// What an item's number stands for.
+pub fn item_of(code: u16) -> Item
+    ensures { λ r. ⌜ r ≡ itemOf code ⌝ }
+{
     if code < 256 {
-        ItemRead::Found(Item::Key(code as u8))
+        Item::Key(code as u8)
     } else {
-        ItemRead::Found(Item::Call(code - 256))
+        Item::Call(code - 256)
     }
 }

@@ -1,18 +1,20 @@
 // The check of a whole book, in reading order (document 01, "Refused", 1 to 6), and the places of its macros.
 use crate::item::Item;
 use crate::item::ItemRead;
+use crate::item::WIDTH;
+use crate::item::item_of;
 use crate::item::le16_at;
 use crate::item::read_item;
 use refusal::Refusal;
 ghost use mathlib.Core.Path.{_≡_};
-ghost use Prim.Native.Nat.{_≤_, _+_};
+ghost use Prim.Native.Nat.{_≤_};
+ghost use mathlib.Core.Bool.{_&&_};
 ghost use mathlib.Core.List.{_∷_};
+ghost use lib.Dec.{leb};
 ghost use lib.ListN.{length, drop, replicate};
-ghost use Rattle.book.specs.Reading.{macrosIn, hasMagic, readAll, readBook, readHeader, readItem, readItems, readMacro, refused};
-ghost use Rattle.book.specs.Answer.{layoutFor};
-ghost use Rattle.book.specs.Steps.{Located, headerOf, walkOf};
-ghost use Rattle.book.specs.Offset.{bodyPart, offset};
-ghost use denote.Ref.{ptr};
+ghost use Rattle.book.specs.Reading.{hasMagic, readAll, readHeader, readItem, readItems, readMacro, refused};
+ghost use Rattle.book.specs.Answer.{layout, layoutFor};
+ghost use Rattle.book.specs.Promises.{headerOf, walkOf};
 
 // Document 01's mark, which a book begins with.
 const MAGIC: [u8; 3] = *b"MBK";
@@ -37,30 +39,24 @@ pub struct Layout {
 }
 
 // Where reading goes on, or why it stops.
-pub(crate) enum Walk {
+enum Walk {
     At(usize),
     Refused(Refusal),
 }
 
+// Whether there are bytes enough for a header, and the mark is in front.
 fn has_magic(s: &[u8]) -> bool
-    requires { ⌜ 3 ≤ length (now s) ⌝ }
-    ensures { λ r. ⌜ r ≡ hasMagic (now (s .entry)) ⌝ }
+    ensures { λ r. ⌜ r ≡ leb 7 (length (now (s .entry))) && hasMagic (now (s .entry)) ⌝ }
 {
-    if s[0] != MAGIC[0] {
+    if s.len() < 7 {
         return false;
     }
-    if s[1] != MAGIC[1] {
-        return false;
-    }
-    s[2] == MAGIC[2]
+    (s[0] == MAGIC[0]) & ((s[1] == MAGIC[1]) & (s[2] == MAGIC[2]))
 }
 
 fn read_header(s: &[u8]) -> Header
     ensures { λ r. ⌜ r ≡ headerOf (readHeader (now (s .entry))) ⌝ }
 {
-    if s.len() < 7 {
-        return Header::Refused(Refusal::BadMagic);
-    }
     if !has_magic(s) {
         return Header::Refused(Refusal::BadMagic);
     }
@@ -68,10 +64,7 @@ fn read_header(s: &[u8]) -> Header
         return Header::Refused(Refusal::UnsupportedVersion);
     }
     let count = le16_at(s, 5);
-    if count < 1 {
-        return Header::Refused(Refusal::BadMacroCount);
-    }
-    if 1024 < count {
+    if !((1 <= count) & (count <= 1024)) {
         return Header::Refused(Refusal::BadMacroCount);
     }
     Header::Macros(count)
@@ -82,21 +75,21 @@ fn check_item(s: &[u8], at: usize, n: u16) -> Walk
     ensures { λ r. ⌜ r ≡ walkOf (length (now (s .entry))) (readItem n (drop at (now (s .entry)))) ⌝ }
 {
     let read = read_item(s, at);
-    let ItemRead::Found(item) = read else {
+    let ItemRead::Found(code) = read else {
         return Walk::Refused(Refusal::MalformedBody);
     };
-    match item {
+    match item_of(code) {
         Item::Key(k) => {
             if k == 0 {
                 return Walk::Refused(Refusal::InvalidKey);
             }
-            Walk::At(at + 2)
+            Walk::At(at + WIDTH)
         }
         Item::Call(j) => {
             if n <= j {
                 return Walk::Refused(Refusal::ForwardReference);
             }
-            Walk::At(at + 2)
+            Walk::At(at + WIDTH)
         }
     }
 }
@@ -131,10 +124,7 @@ fn check_macro(s: &[u8], at: usize, n: u16) -> Walk
         return Walk::Refused(Refusal::MalformedBody);
     }
     let count = le16_at(s, at);
-    if count < 1 {
-        return Walk::Refused(Refusal::MalformedBody);
-    }
-    if 64 < count {
+    if !((1 <= count) & (count <= 64)) {
         return Walk::Refused(Refusal::MalformedBody);
     }
     check_items(s, at + 2, count, n)
@@ -189,20 +179,10 @@ fn layout_macros(s: &[u8], count: u16) -> Layout
 
 // One walk over the book: the check of each byte, and the places.
 pub fn layout_of(book: &[u8]) -> Layout
-    ensures { λ r. ⌜ r ≡ layoutFor (readBook (now (book .entry))) ⌝ }
+    ensures { λ r. ⌜ r ≡ layout (now (book .entry)) ⌝ }
 {
     match read_header(book) {
         Header::Macros(count) => layout_macros(book, count),
         Header::Refused(r) => refused_layout(r),
     }
-}
-
-// The body of macro i, where the places are those of the book's layout.
-pub(crate) fn part_of<'a>(book: &'a [u8], offsets: &[usize; 1025], i: usize) -> &'a [u8]
-    requires { ⌜ Located (now book) (now offsets) i ⌝ }
-    ensures { λ r. ⌜ (now r ≡ bodyPart (now (book .entry)) (macrosIn (now (book .entry))) i) × (ptr r ≡ (ptr (book .entry) .0, offset (macrosIn (now (book .entry))) i + 2 + ptr (book .entry) .1)) ⌝ }
-{
-    let start = offsets[i] + 2;
-    let end = offsets[i + 1];
-    &book[start..end]
 }

@@ -1,16 +1,15 @@
-// The macro book of document 01: its check, its items, a macro's body and what a macro reaches.
+// The macro book of document 01: its check, where its macros stand, their items, and a macro's body.
 mod answers;
 mod item;
 mod layout;
-mod reachable;
+mod macro_items;
 
 pub use answers::body;
 pub use answers::check;
 pub use item::Item;
-pub use item::ItemRead;
-pub use item::read_item;
+pub use item::item_of;
 pub use layout::Checked;
 pub use layout::Layout;
 pub use layout::layout_of;
-pub use reachable::Reached;
-pub use reachable::reach_list;
+pub use macro_items::Items;
+pub use macro_items::items_of;

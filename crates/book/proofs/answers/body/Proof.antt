@@ -1,10 +1,18 @@
 -- `book::body`: each way out is a case of what is read of macro m.
 use native.Mathlib.Omega.{arith}
-use mathlib.Core.Path.{refl}
 use denote.Ref.{now}
-use borrow.Author.Needs.{needs}
+use Prim.Native.Nat.{ℕ, _<_}
+use mathlib.Core.Path.{ap, _∙_}
+use mathlib.Core.List.{List}
+use lib.ListN.{length}
+use Rattle.book.specs.declared.layout.Layout.{Layout}
+use Rattle.book.specs.Reading.{macrosIn}
+use Rattle.book.specs.MacroItems.{partFrom, partAt}
 use Rattle.book.specs.Answer.{requireMacro}
-use Rattle.book.proofs.Asked.{asked-refused, asked-out, asked-in, asked-located, body-none, body-some}
+use Rattle.book.proofs.LayoutLaws.{layout-refused, layout-sound, layout-count}
+use Rattle.book.proofs.Requiring.{require-refused, require-out, require-in}
+use Rattle.book.proofs.Bodies.{part-is, part-at, body-none, body-some}
+use borrow.Author.Needs.{needs}
 use Rattle.book.proofs.answers.body.Statement.{statement}
 use Rattle.book.proofs.answers.body.Tie as tie
 
@@ -37,33 +45,38 @@ returns c =
     let k = c .before .before .before .before in
     let l = k .before .before in
     let a = l .before .before .args in
-    body-none (now (a .book)) (a .book .ptr) (a .m) (requireMacro (a .m) (now (a .book))) _ _
-    (asked-out (now (a .book)) (a .m) _ (l .layout-of .ensures) _ refl _ (k .answer2 .given .1) (c .before .before .if1 .taken))
-    (c .before .code2 .ensures)
+    let b = now (a .book) in
+    let sound = layout-sound b (l .layout-of .ensures) (k .answer2 .given .1) in
+    let count = layout-count b (l .layout-of .ensures) (k .answer2 .given .1) in
+    let out = require-out (a .m) b sound (omega arith) in
+    body-none b (a .book .ptr) (a .m) (requireMacro (a .m) b) _ _ out (c .before .code2 .ensures)
 
 part-of-requires : tie.Need-part-of-requires
-part-of-requires c κs =
-    let k = c .before .before .before .before in
-    let l = k .before .before in
-    let a = l .before .before .args in
-    asked-located (now (a .book)) (a .m) _ (l .layout-of .ensures) _ refl _ (k .answer2 .given .1) (omega arith)
+part-of-requires c κs = search needs
 
 returns-2 : tie.Need-returns-2
 returns-2 c =
     let k = c .before .before .before in
     let l = k .before .before in
     let a = l .before .before .args in
-    body-none (now (a .book)) (a .book .ptr) (a .m) (requireMacro (a .m) (now (a .book))) _ _
-    (asked-refused (now (a .book)) (a .m) _ (l .layout-of .ensures) _ refl _ (k .answer .given .1))
-    (c .before .code .ensures)
+    let b = now (a .book) in
+    let out = require-refused (a .m) b (layout-refused b (l .layout-of .ensures) (k .answer .given .1)) in
+    body-none b (a .book .ptr) (a .m) (requireMacro (a .m) b) _ _ out (c .before .code .ensures)
 
 returns-3 : tie.Need-returns-3
 returns-3 c =
     let k = c .before .before .before .before .before in
     let l = k .before .before in
     let a = l .before .before .args in
-    let read = asked-in (now (a .book)) (a .m) _ (l .layout-of .ensures) _ refl _ (k .answer2 .given .1) (omega arith) in
-    body-some (now (a .book)) (a .book .ptr) (a .m) (requireMacro (a .m) (now (a .book))) _ _ _ _ (read .2) (c .part-of .ensures .0) (c .part-of .ensures .1)
+    let b = now (a .book) in
+    let sound = layout-sound b (l .layout-of .ensures) (k .answer2 .given .1) in
+    let inside : a .m < length (macrosIn b) = omega (arith, layout-count b (l .layout-of .ensures) (k .answer2 .given .1)) in
+    let table = ap (λ (x : Layout). x .offsets) (l .layout-of .ensures) in
+    let part = ap (λ (o : List ℕ). partFrom b o (a .m)) table ∙ part-is b (a .m) inside in
+    let place = ap (λ (o : List ℕ). partAt (a .book .ptr) b o (a .m)) table ∙ part-at b (a .m) inside (a .book .ptr) in
+    body-some b (a .book .ptr) (a .m) (requireMacro (a .m) b) _ _ (require-in (a .m) b sound inside) _ _
+    (c .part-of .ensures .0 ∙ part)
+    (c .part-of .ensures .1 ∙ place)
 
 pub body-spec : {M : Type 1} → statement M
 body-spec =

@@ -1,8 +1,7 @@
 -- `book::check`: the figures are those of the layout's answer.
 use denote.Ref.{now}
 use borrow.Author.Needs.{needs}
-use Rattle.book.specs.Reading.{readBook}
-use Rattle.book.proofs.Layouts.{layout-figures}
+use Rattle.book.proofs.LayoutLaws.{layout-figures}
 use Rattle.book.proofs.answers.check.Statement.{statement}
 use Rattle.book.proofs.answers.check.Tie as tie
 
@@ -10,7 +9,7 @@ layout-of-requires : tie.Need-layout-of-requires
 layout-of-requires c κs = search needs
 
 returns : tie.Need-returns
-returns c = layout-figures (readBook (now (c .before .before .args .book))) _ (c .layout-of .ensures)
+returns c = layout-figures (now (c .before .before .args .book)) (c .layout-of .ensures)
 
 pub check-spec : {M : Type 1} → statement M
 check-spec = tie.close (tie.spec layout-of-requires returns)

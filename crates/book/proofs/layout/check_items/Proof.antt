@@ -7,7 +7,7 @@ use denote.Ref.{now}
 use borrow.Author.Needs.{needs}
 use Rattle.book.proofs.Walks.{items-refused, items-on, items-done}
 use Rattle.book.specs.Reading.{readItems}
-use Rattle.book.specs.Steps.{walkOf}
+use Rattle.book.specs.Promises.{walkOf}
 use Rattle.book.proofs.layout.check_items.Statement.{statement}
 use Rattle.book.proofs.layout.check_items.Tie as tie
 

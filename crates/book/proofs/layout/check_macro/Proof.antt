@@ -1,6 +1,6 @@
 -- `check_macro`: each way out is a case of reading one macro.
+use Rattle.book.proofs.Walks.{macro-cut, macro-count, macro-items}
 use borrow.Author.Needs.{needs}
-use Rattle.book.proofs.Walks.{macro-cut, macro-none, macro-many, macro-items}
 use Rattle.book.proofs.layout.check_macro.Statement.{statement}
 use Rattle.book.proofs.layout.check_macro.Tie as tie
 
@@ -14,10 +14,7 @@ le16-at-requires : tie.Need-le16-at-requires
 le16-at-requires c κs = search needs
 
 returns-2 : tie.Need-returns-2
-returns-2 c = search macro-none
-
-returns-3 : tie.Need-returns-3
-returns-3 c = search macro-many
+returns-2 c = search macro-count
 
 add-check-items : tie.Need-add-check-items
 add-check-items c = search needs
@@ -25,8 +22,8 @@ add-check-items c = search needs
 check-items-requires : tie.Need-check-items-requires
 check-items-requires c κs = search needs
 
-returns-4 : tie.Need-returns-4
-returns-4 c = search macro-items
+returns-3 : tie.Need-returns-3
+returns-3 c = search macro-items
 
 pub check-macro-spec : {M : Type 1} → statement M
 check-macro-spec =
@@ -36,7 +33,6 @@ check-macro-spec =
     returns
     le16-at-requires
     returns-2
-    returns-3
     add-check-items
     check-items-requires
-    returns-4)
+    returns-3)

@@ -4,7 +4,7 @@ use native.Mathlib.Omega.{arith}
 use lib.ListN.{length}
 use denote.Ref.{now}
 use borrow.Author.Needs.{needs}
-use Rattle.book.proofs.Layouts.{Laid, laid-none, laid-refused, laid-more, laid-left, laid-end}
+use Rattle.book.proofs.Laid.{Laid, laid-none, laid-refused, laid-more, laid-left, laid-end}
 use Rattle.book.proofs.layout.layout_macros.Statement.{statement}
 use Rattle.book.proofs.layout.layout_macros.Tie as tie
 
@@ -57,7 +57,8 @@ loop-again c =
     let k = c .before .before .before in
     let l = k .before .before in
     let a = l .before .before .before .args in
-    let more = laid-more (now (a .s)) (a .count) (l .loop .offsets) (l .loop .at) (l .loop .n) (l .loop .inv .2) _ (omega arith) (k .check-macro .ensures) _ (l .loop .inv .1) (omega arith) (c .before .next .given .1) in
+    let x = l .loop in
+    let more = laid-more (now (a .s)) (a .count) (x .offsets) (x .at) (x .n) (x .inv .2) _ (omega arith) (k .check-macro .ensures) _ (x .inv .1) (omega arith) (c .before .next .given .1) in
     (omega arith, more .0, more .1)
 
 refused-layout-requires-2 : tie.Need-refused-layout-requires-2 Inv-loop μ-loop

@@ -1,7 +1,7 @@
 -- `book::layout_of`: the header, then the macros.
 use denote.Ref.{now}
 use borrow.Author.Needs.{needs}
-use Rattle.book.proofs.Layouts.{header-fits, whole-macros, whole-refused}
+use Rattle.book.proofs.Laid.{header-fits, whole-macros, whole-refused}
 use Rattle.book.proofs.layout.layout_of.Statement.{statement}
 use Rattle.book.proofs.layout.layout_of.Tie as tie
 

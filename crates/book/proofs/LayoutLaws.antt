@@ -1,0 +1,74 @@
+-- What a book's layout says of its reading: the laws by which callers of `layout_of` and `check` go on.
+use Prim.Native.Nat.{ℕ, _<_, _≤_}
+use native.Mathlib.Omega.{arith}
+use mathlib.Core.Path.{_≡_, refl, sym, ap, _∙_}
+use mathlib.Core.Bool.{true}
+use mathlib.Core.List.{List, []}
+use lib.ListN.{length}
+use Rattle.refusal.specs.declared.Refusal.{Refusal}
+use Rattle.book.specs.declared.layout.Checked.{Checked}
+use Rattle.book.specs.declared.layout.Layout.{Layout}
+use Rattle.book.specs.Format.{Macro, wellFormed}
+use Rattle.book.specs.Reading.{Reading, got, refused, readBook, macrosOf, macrosIn}
+use Rattle.book.specs.Answer.{layout, layoutFor, checkResult, checkedFigures}
+use Rattle.book.proofs.Offsets.{whole}
+use Rattle.book.proofs.Coding.{read-well}
+use Rattle.runs.proofs.Tests.{clash}
+
+-- what a reading has whose layout answers so
+answer-refused : (g : Reading (List Macro)) {r : Refusal} → (layoutFor g) .answer ≡ Checked.Refused r → g ≡ refused r
+answer-refused (got ms rest) e = cc
+answer-refused (refused q) e = ap refused (cc)
+
+answer-sound : (g : Reading (List Macro)) {n : ℕ} → (layoutFor g) .answer ≡ Checked.Sound n → (rest : List ℕ) × (g ≡ got (macrosOf g) rest) × (n ≡ length (macrosOf g))
+answer-sound (got ms rest) e = (rest, refl, cc)
+answer-sound (refused q) e = clash (cc)
+
+module _ (b : List ℕ) {l : Layout} (e : l ≡ layout b) where
+  told : {a : Checked} → l .answer ≡ a → (layoutFor (readBook b)) .answer ≡ a
+  unfolding layout
+  told f = ap (λ (x : Layout). x .answer) (sym e) ∙ f
+
+  pub layout-refused : {r : Refusal} → l .answer ≡ Checked.Refused r → readBook b ≡ refused r
+  layout-refused f = answer-refused (readBook b) (told f)
+
+  module _ {n : ℕ} (f : l .answer ≡ Checked.Sound n) where
+    pub layout-sound : readBook b ≡ got (macrosIn b) []
+    layout-sound =
+        let (rest, g, many) = answer-sound (readBook b) (told f) in
+        g ∙ ap (got (macrosIn b)) (whole b (macrosIn b) rest g .end)
+
+    pub layout-count : n ≡ length (macrosIn b)
+    layout-count = answer-sound (readBook b) (told f) .2
+
+  -- the figures of the answer
+  pub layout-figures : checkedFigures (l .answer) ≡ checkResult (readBook b)
+  unfolding layout
+  layout-figures = rw e (go (readBook b))
+    where
+      go : (g : Reading (List Macro)) → checkedFigures ((layoutFor g) .answer) ≡ checkResult g
+      go (got ms rest) = refl
+      go (refused r) = refl
+
+-- a book that has a macro was read
+pub read-in : (b : List ℕ) {i : ℕ} → i < length (macrosIn b) → (rest : List ℕ) × (readBook b ≡ got (macrosIn b) rest)
+read-in b {i} h = go (readBook b) h
+  where
+    never : i < 0 → ⊥
+    never l = omega arith
+
+    go : (g : Reading (List Macro)) → i < length (macrosOf g) → (rest : List ℕ) × (g ≡ got (macrosOf g) rest)
+    go (got ms rest) l = (rest, refl)
+    go (refused r) l = absurd (never l)
+
+-- so its macros are well formed
+pub well-in : (b : List ℕ) {i : ℕ} → i < length (macrosIn b) → wellFormed (macrosIn b) ≡ true
+well-in b h = let (rest, e) = read-in b h in read-well b (macrosIn b) rest e
+
+-- a book has 1,024 macros at the most
+pub macros-few : (b : List ℕ) → length (macrosIn b) ≤ 1024
+macros-few b = go (readBook b) refl
+  where
+    go : (g : Reading (List Macro)) → readBook b ≡ g → length (macrosOf g) ≤ 1024
+    go (got ms rest) e = whole b ms rest e .few
+    go (refused r) e = omega arith

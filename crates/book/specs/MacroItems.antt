@@ -1,0 +1,54 @@
+-- The items of one macro, found by a table of offsets, and the bytes that hold them.
+use Prim.Native.Nat.{ℕ, zero, suc, _+_, _-_, _/_, min}
+use mathlib.Core.Bool.{Bool, _&&_, cond}
+use mathlib.Core.List.{List, [], _∷_, _++_, map}
+use lib.Dec.{leb, ltb}
+use lib.ListN.{length, drop, getD, replicate, take}
+use Rattle.book.specs.declared.item.Item.{Item}
+use Rattle.book.specs.declared.macro_items.Items.{Items}
+use Rattle.book.specs.Format.{width}
+use Rattle.book.specs.Reading.{itemOf, le16}
+
+-- where the items of macro i start, behind its two-byte item count, and where they end, at the next macro
+abbrev pub itemsStart : List ℕ → ℕ → ℕ
+itemsStart offsets i = getD offsets i 0 + 2
+
+abbrev pub itemsEnd : List ℕ → ℕ → ℕ
+itemsEnd offsets i = getD offsets (i + 1) 0
+
+-- a macro of that number can be, and its items have a place in b
+abbrev pub placed : List ℕ → List ℕ → ℕ → Bool
+placed b offsets i = ltb i 1024 && (leb (itemsStart offsets i) (itemsEnd offsets i) && leb (itemsEnd offsets i) (length b))
+
+-- the bytes from one place to another
+abbrev pub between : ℕ → ℕ → List ℕ → List ℕ
+between start end b = take (end - start) (drop start b)
+
+-- the bytes of macro i's items
+unfoldable pub partFrom : List ℕ → List ℕ → ℕ → List ℕ
+partFrom b offsets i = cond (placed b offsets i) (between (itemsStart offsets i) (itemsEnd offsets i) b) []
+
+-- where they stand, if b stands at p
+unfoldable pub partAt : ℕ × ℕ → List ℕ → List ℕ → ℕ → ℕ × ℕ
+partAt p b offsets i = cond (placed b offsets i) (p .0, itemsStart offsets i + p .1) p
+
+-- the numbers of the first k items that some bytes hold
+unfoldable pub codesIn : ℕ → List ℕ → List ℕ
+codesIn zero b = []
+codesIn (suc k) b = le16 b ∷ codesIn k (drop width b)
+
+-- k items, and zeros up to 64
+abbrev pub itemsUpTo : ℕ → List ℕ → Items
+itemsUpTo k b = record { codes = codesIn k b ++ replicate (64 - k) 0; count = k }
+
+-- the items that some bytes hold, 64 at the most
+unfoldable pub itemsIn : List ℕ → Items
+itemsIn b = itemsUpTo (min 64 (length b / width)) b
+
+-- the items of macro i of b, where `offsets` says where the macros start
+unfoldable pub itemsFrom : List ℕ → List ℕ → ℕ → Items
+itemsFrom b offsets i = itemsIn (partFrom b offsets i)
+
+-- what the first `count` numbers stand for
+unfoldable pub decoded : Items → List Item
+decoded r = map itemOf (take (r .count) (r .codes))
