@@ -1,12 +1,15 @@
 -- Laws of the parts of a run between line ends.
 use Prim.Native.Nat.{ℕ, _+_}
+use native.Mathlib.Omega.{arith}
 use native.Mathlib.Nat.{zero-add, add-zero, add-assoc}
 use mathlib.Core.Path.{_≡_, refl, sym, ap, _∙_}
 use mathlib.Core.Bool.{Bool, true, false, not, cond, _&&_}
 use mathlib.Core.List.{List, [], _∷_, _++_}
 use lib.Dec.{leb, eqb}
 use borrow.Author.Tests.{eqb-false, ne-eqb}
-use Rattle.lines.specs.Lines.{countIn}
+use Rattle.lines.specs.Lines.{onto, lines, countIn, matching, isOpen}
+use Rattle.pattern.specs.Form.{Pattern}
+use Rattle.pattern.specs.Meaning.{matches}
 use Rattle.runs.proofs.Tests.{clash, and-both, and-fst, and-snd}
 use Rattle.runs.specs.Keys.{lineKey, isLine, lineEnd, isRun}
 use Rattle.lines.specs.Parts.{firstPart, laterParts, lastPart, partsBefore}
@@ -123,3 +126,67 @@ pub last-line : (l : List ℕ) (ls : List (List ℕ)) → allLines (l ∷ ls) �
 unfolding allLines lastPart
 last-line l [] h = and-fst (isLine l) true h
 last-line l (m ∷ ms) h = last-line m ms (and-snd (isLine l) (isLine m && allLines ms) h)
+
+-- One key.
+
+pub later-none : laterParts [] ≡ []
+unfolding laterParts
+later-none = refl
+
+pub end-part : laterParts (lineEnd ∷ []) ≡ [] ∷ []
+unfolding laterParts firstPart
+end-part = refl
+
+pub end-first : firstPart (lineEnd ∷ []) ≡ []
+unfolding firstPart
+end-first = refl
+
+pub key-part : (k : ℕ) → eqb lineEnd k ≡ false → laterParts (k ∷ []) ≡ []
+unfolding laterParts
+key-part k f = rw f refl
+
+-- one part is the last, and has none before it
+pub last-one : (l : List ℕ) → lastPart l [] ≡ l
+unfolding lastPart
+last-one l = refl
+
+pub before-none : (X : List ℕ → Bool) (l : List ℕ) → countIn X (partsBefore l []) ≡ 0
+unfolding partsBefore countIn
+before-none X l = refl
+
+-- The lines of a run, by its parts: the last part is a line if it has a key
+abbrev lastOnly : List ℕ → List (List ℕ)
+lastOnly [] = []
+lastOnly (c ∷ l) = (c ∷ l) ∷ []
+
+abbrev linesOf : List ℕ → List (List ℕ) → List (List ℕ)
+linesOf l [] = lastOnly l
+linesOf l (m ∷ ms) = l ∷ linesOf m ms
+
+lines-parts : (w : List ℕ) → lines w ≡ linesOf (firstPart w) (laterParts w)
+unfolding lines firstPart laterParts
+lines-parts [] = refl
+lines-parts (c ∷ w) = go (eqb lineEnd c) (firstPart w) (laterParts w) (lines-parts w)
+  where
+    go : (b : Bool) (f : List ℕ) (ls : List (List ℕ)) → lines w ≡ linesOf f ls → cond b ([] ∷ lines w) (onto c (lines w)) ≡ linesOf (cond b [] (c ∷ f)) (cond b (f ∷ ls) ls)
+    go true f ls e = ap (λ (l : List (List ℕ)). [] ∷ l) e
+    go false [] [] e = rw e refl
+    go false (d ∷ f) [] e = rw e refl
+    go false f (m ∷ ms) e = rw e refl
+
+count-parts : (X : List ℕ → Bool) (l : List ℕ) (ls : List (List ℕ)) → countIn X (linesOf l ls) ≡ countIn X (partsBefore l ls) + cond (isOpen (lastPart l ls) && X (lastPart l ls)) 1 0
+unfolding countIn partsBefore lastPart
+count-parts X [] [] = refl
+count-parts X (c ∷ l) [] = omega arith
+count-parts X l (m ∷ ms) = ap (λ (n : ℕ). cond (X l) 1 0 + n) (count-parts X m ms) ∙ sym (add-assoc (cond (X l) 1 0) (countIn X (partsBefore m ms)) _)
+
+module _ (t : Pattern) (w : List ℕ) where
+  -- a run without a line end is one line, if it has a key
+  pub matching-whole : laterParts w ≡ [] → matching t w ≡ cond (isOpen w && matches t w) 1 0
+  unfolding matching countIn partsBefore lastPart
+  matching-whole e = ap (countIn (matches t)) (rw e at (lines-parts w) ∙ ap lastOnly (first-whole w e)) ∙ count-parts (matches t) w [] ∙ zero-add _
+
+  -- with line ends: the first line, those between, and the last part if it has a key
+  pub matching-parts : {l : List ℕ} {ls : List (List ℕ)} → laterParts w ≡ l ∷ ls → matching t w ≡ cond (matches t (firstPart w)) 1 0 + (countIn (matches t) (partsBefore l ls) + cond (isOpen (lastPart l ls) && matches t (lastPart l ls)) 1 0)
+  unfolding matching countIn
+  matching-parts {l} {ls} e = ap (countIn (matches t)) (rw e at (lines-parts w)) ∙ ap (λ (n : ℕ). cond (matches t (firstPart w)) 1 0 + n) (count-parts (matches t) l ls)

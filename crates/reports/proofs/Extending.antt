@@ -10,40 +10,40 @@ use lib.Bits.{bitOr}
 use lib.Pow.{pow-lt}
 use lib.ListN.{getD, set, replicate}
 use borrow.Author.Tests.{ltb-true, ltb-false, leb-true, leb-false, le-leb, lt-leb, eq-eqb, ne-eqb}
-use Rattle.stateset.specs.Set.{bit, word}
+use Rattle.stateset.specs.Set.{bit, word, common}
 use Rattle.stateset.proofs.Sets.{word-ext, word-one, bit-word, word-high, bits-ext}
 use Rattle.pattern.specs.Meaning.{matches}
 use Rattle.pattern.specs.Moves.{states, accepting, leads, acceptedFrom}
-use Rattle.pattern.proofs.Moving.{common}
 use Rattle.pattern.proofs.AcceptedLines.{states-match}
 use Rattle.reports.specs.declared.report.Report.{Report}
 use Rattle.lines.specs.Lines.{countIn}
 use Rattle.reports.specs.Reports.{most, rowsOf, noRows, withoutEnd, withEnd, reportWith, report}
-use Rattle.lines.specs.Promises.{Advances}
-use Rattle.reports.specs.Promises.{AdvancesRows, Extended, Ended}
-use Rattle.reports.proofs.Joins.{filled-none, filled-more, gathered-more}
-use Rattle.lines.proofs.Reaching.{leads-high, leads-more, leads-accepts}
+use Rattle.reports.specs.Promises.{rowsAdvanced, Extended, Ended}
+use Rattle.stateset.proofs.Gathering.{begun-none, begun-more, gathered-more}
+use Rattle.lines.proofs.Reaching.{looked-up, leads-high, leads-more, leads-accepts}
 use Rattle.reports.proofs.JoinLaw.{row-of}
 use Rattle.runs.proofs.Tests.{torn, and-snd, tests-ext}
 use Rattle.pattern.specs.Form.{Pattern, atomCount}
 use Rattle.stateset.specs.Tabled.{tabled}
 use Rattle.stateset.proofs.Tabled.{tabled-same}
-use Rattle.runs.specs.Keys.{lineEnd, isRun}
+use Rattle.runs.specs.Keys.{lineEnd, isRun, lineKey}
 use Rattle.runs.proofs.KeyLaws.{key-of-line}
 use Rattle.pattern.specs.declared.automaton.Accepting.{Accepting}
 use Rattle.lines.specs.Parts.{firstPart, laterParts, lastPart, partsBefore}
-use Rattle.pattern.specs.Automata.{Automaton, accepts}
-use Rattle.lines.specs.Moving.{moved}
-use Rattle.lines.proofs.PartLaws.{first-into, later-into, first-kept, later-kept, last-open, before-open, last-closed, before-closed, later-lines, last-line}
+use Rattle.pattern.specs.Automata.{Automaton}
+use Rattle.lines.specs.Moving.{moved, lookedUp}
+use Rattle.pattern.proofs.Readings.{accepting-of}
+use Rattle.pattern.proofs.Leading.{leads-none}
+use Rattle.lines.proofs.PartLaws.{first-into, later-into, first-kept, later-kept, last-open, before-open, last-closed, before-closed, later-lines, last-line, end-part, key-part, end-first, last-one, before-none}
 
 -- The states whose rows accept, gathered one by one.
 
 -- whether a row has a state of z
 abbrev pub rowMeets : List ℕ → ℕ → ℕ → Bool
-rowMeets rows z q = common (getD rows q 0) z
+rowMeets rows z q = common 64 (getD rows q 0) z
 
 -- one row more
-pub row-gathered : (rows : List ℕ) (z q : ℕ) {a o x r : ℕ} {m : Bool} → q < 32 → a ≡ word q (rowMeets rows z) → m ≡ common (getD rows q 0) z → o ≡ 2 ^ q % 2 ^ 64 → x ≡ cond m o 0 → r ≡ bitOr a x → r ≡ word (q + 1) (rowMeets rows z)
+pub row-gathered : (rows : List ℕ) (z q : ℕ) {a o x r : ℕ} {m : Bool} → q < 32 → a ≡ word q (rowMeets rows z) → m ≡ common 64 (getD rows q 0) z → o ≡ 2 ^ q % 2 ^ 64 → x ≡ cond m o 0 → r ≡ bitOr a x → r ≡ word (q + 1) (rowMeets rows z)
 row-gathered rows z q h e f g i j =
     let low : q < 64 = omega arith in
     rw (j, i, g, f, e, mod-eq-of-lt (pow-lt low)) (gathered-more (rowMeets rows z) q)
@@ -52,24 +52,20 @@ row-gathered rows z q h e f g i j =
 
 module _ (keys enter : List ℕ) (c : Accepting) (rows : List ℕ) (k : ℕ) where
   -- no row has moved yet
-  pub rows-none : AdvancesRows keys enter c rows 0 k (replicate 32 0)
-  unfolding AdvancesRows
-  rows-none t h l = filled-none (λ q. moved t (getD rows q 0) k)
+  pub rows-none : replicate 32 0 ≡ rowsAdvanced keys enter c rows 0 k
+  unfolding rowsAdvanced
+  rows-none = begun-none (λ q. lookedUp keys enter c (getD rows q 0) k) 32
 
   -- one row more
-  pub rows-more : (q : ℕ) (r : List ℕ) (x : ℕ) → q < 32 → AdvancesRows keys enter c rows q k r → Advances keys enter c (getD rows q 0) k x → AdvancesRows keys enter c rows (q + 1) k (set r q x)
-  unfolding AdvancesRows Advances
-  rows-more q r x h f g t i l = rw (f t i l, g t i l) (filled-more (λ p. moved t (getD rows p 0) k) q h)
+  pub rows-more : (q : ℕ) (r : List ℕ) (x : ℕ) → q < 32 → r ≡ rowsAdvanced keys enter c rows q k → x ≡ lookedUp keys enter c (getD rows q 0) k → set r q x ≡ rowsAdvanced keys enter c rows (q + 1) k
+  unfolding rowsAdvanced
+  rows-more q r x h f g = rw (f, g) (begun-more (λ p. lookedUp keys enter c (getD rows p 0) k) 32 q h)
 
 -- A count with a limit.
 
--- it has gone beyond the largest
-pub fits-never : (closed line : ℕ) {flag : ℕ} → (flag ≡ 1 → ⊥) → false ≡ (eqb flag 1 && leb (closed + line) most)
-fits-never closed line n = rw (ne-eqb _ 1 n) refl
-
--- it has not
-pub fits-below : (closed line : ℕ) {flag : ℕ} → flag ≡ 1 → closed ≤ most → leb line (most - closed) ≡ (eqb flag 1 && leb (closed + line) most)
-fits-below closed line e l = rw (eq-eqb _ 1 e) (tests-ext (leb line (most - closed)) (leb (closed + line) most) (λ h. le-leb (closed + line) most (omega (arith, leb-true line (most - closed) h))) (λ h. le-leb line (most - closed) (omega (arith, leb-true (closed + line) most h))))
+-- a sum within the largest, by a difference
+pub fits-told : (flag closed line : ℕ) → closed ≤ most → (eqb flag 1 && leb line (most - closed)) ≡ (eqb flag 1 && leb (closed + line) most)
+fits-told flag closed line l = ap (λ (b : Bool). eqb flag 1 && b) (tests-ext (leb line (most - closed)) (leb (closed + line) most) (λ h. le-leb (closed + line) most (omega (arith, leb-true line (most - closed) h))) (λ h. le-leb line (most - closed) (omega (arith, leb-true (closed + line) most h))))
 
 -- then a line more is no more than the largest
 pub fits-sum : (flag closed line : ℕ) {b : Bool} → b ≡ (eqb flag 1 && leb (closed + line) most) → b ≡ true → closed + line ≤ most
@@ -94,7 +90,7 @@ module _ (t : Pattern) (few : atomCount t ≤ 29) (q : ℕ) (inside : q < states
           word-high (states t) (leads t q w) p h ∙ sym (high p h (ltb p 32) refl)
 
   -- the keys lead to a state that accepts
-  pub row-accepts : (w : List ℕ) → common (word (states t) (leads t q w)) (accepts t .accepting) ≡ acceptedFrom t q w
+  pub row-accepts : (w : List ℕ) → common 64 (word (states t) (leads t q w)) (word 32 (accepting t)) ≡ acceptedFrom t q w
   row-accepts w = rw (row-wide w) (leads-accepts t few q inside w)
 
   -- a row moves on one key more
@@ -103,8 +99,15 @@ module _ (t : Pattern) (few : atomCount t ≤ 29) (q : ℕ) (inside : q < states
 
 -- line-start alone
 start-word : (t : Pattern) → 1 ≡ word (states t) (leads t 0 [])
-unfolding leads
-start-word t = word-one (states t) 0 (omega arith)
+start-word t = word-one (states t) 0 (omega arith) ∙ word-ext (states t) (λ p. eqb 0 p) (leads t 0 []) (λ p h. sym (leads-none t 0 p))
+
+-- where there are at most 32 states, all rows are used
+pub used-all : {s n : ℕ} → s ≤ 32 → n ≡ cond (ltb s 32) s 32 → n ≡ s
+used-all {s} {n} h e = go (ltb s 32) refl e
+  where
+    go : (b : Bool) → ltb s 32 ≡ b → n ≡ cond b s 32 → n ≡ s
+    go true i f = f
+    go false i f = omega (arith, f, ltb-false s 32 i)
 
 -- The count of closed lines that a report shows, with x lines more.
 shown-more : (n x : ℕ) → (eqb (cond (leb n most) 1 2) 1 && leb (cond (leb n most) n 0 + x) most) ≡ true → (_≡_ {A = ℕ} 1 (cond (leb (n + x) most) 1 2)) × (cond (leb n most) n 0 + x ≡ cond (leb (n + x) most) (n + x) 0)
@@ -129,38 +132,19 @@ flag-of n = go (leb n most)
     go true e = omega arith
     go false e = omega arith
 
--- the parts of one key
-end-part : laterParts (lineEnd ∷ []) ≡ [] ∷ []
-unfolding laterParts firstPart
-end-part = refl
-
-end-first : firstPart (lineEnd ∷ []) ≡ []
-unfolding firstPart
-end-first = refl
-
-end-last : lastPart [] [] ≡ []
-unfolding lastPart
-end-last = refl
-
-end-count : (X : List ℕ → Bool) → countIn X (partsBefore [] []) ≡ 0
-unfolding countIn partsBefore
-end-count X = refl
-
-key-part : (k : ℕ) → eqb lineEnd k ≡ false → laterParts (k ∷ []) ≡ []
-unfolding laterParts
-key-part k f = rw f refl
-
 -- The report of a run with one key more, by what the run and the key are.
 module _ (t : Pattern) (w : List ℕ) where
   -- a first line end
   first-end : laterParts w ≡ [] → report t (w ++ (lineEnd ∷ [])) ≡ record { s = states t; rows = noRows; flag = 1; heads = word (states t) (λ q. acceptedFrom t q w); closed = 0; tail = 1 }
-  unfolding report laterParts firstPart lastPart partsBefore countIn
-  first-end e = rw (later-into w (lineEnd ∷ []) e, first-into w (lineEnd ∷ []) e, append-nil w, ← start-word t) refl
+  unfolding report
+  first-end e =
+      let v = lineEnd ∷ [] in
+      rw (later-into w v e, end-part, first-into w v e, end-first, append-nil w, before-none (matches t) [], last-one [], ← start-word t) refl
 
   -- a key of the first line
   first-on : (k : ℕ) → eqb lineEnd k ≡ false → laterParts w ≡ [] → report t (w ++ (k ∷ [])) ≡ withoutEnd (states t) (λ q p. leads t q (w ++ (k ∷ [])) p)
-  unfolding report laterParts
-  first-on k f e = rw (later-into w (k ∷ []) e, f) refl
+  unfolding report
+  first-on k f e = rw (later-into w (k ∷ []) e, key-part k f) refl
 
   module _ {l : List ℕ} {ls : List (List ℕ)} (e : laterParts w ≡ l ∷ ls) where
     -- a later line end
@@ -168,7 +152,7 @@ module _ (t : Pattern) (w : List ℕ) where
     unfolding report
     later-end =
         let v = lineEnd ∷ [] in
-        rw (later-kept w v e, first-kept w v e, before-closed l ls v (matches t) end-part, last-closed l ls v end-part, end-last, end-first, end-count (matches t), append-nil (lastPart l ls), add-zero) refl
+        rw (later-kept w v e, first-kept w v e, before-closed l ls v (matches t) end-part, last-closed l ls v end-part, last-one [], end-first, before-none (matches t) [], append-nil (lastPart l ls), add-zero) refl
 
     -- a key of a later line
     later-on : (k : ℕ) → eqb lineEnd k ≡ false → report t (w ++ (k ∷ [])) ≡ withEnd (states t) (λ q. acceptedFrom t q (firstPart w)) (countIn (matches t) (partsBefore l ls)) (leads t 0 (lastPart l ls ++ (k ∷ [])))
@@ -185,54 +169,55 @@ same-report e f g h i j = rw (e, f, g, h, i, j) refl
 -- One line end more.
 module _ (c : Accepting) (a : Report) where
   -- the first
-  pub ended-first : {h : ℕ} → a .flag ≡ 0 → h ≡ word (a .s) (rowMeets (a .rows) (c .accepting)) → Ended c a (record { s = a .s; rows = noRows; flag = 1; heads = h; closed = 0; tail = 1 })
+  pub ended-first : {h n z : ℕ} → a .flag ≡ 0 → n ≡ cond (ltb (a .s) 32) (a .s) 32 → h ≡ word n (rowMeets (a .rows) (c .accepting)) → z ≡ 2 ^ 0 % 2 ^ 64 → Ended c a (record { s = a .s; rows = noRows; flag = 1; heads = h; closed = 0; tail = z })
   unfolding Ended report
-  ended-first {h} z e keys enter = record { size = refl; extends = λ t m w r k f. go t m w (laterParts w) refl f }
+  ended-first {h} {n} {z = y} z u e v keys enter = record { size = refl; extends = λ t m w r k f. go t m w (laterParts w) refl f }
     where
       heads : (t : Pattern) → Automaton t keys enter c → (w : List ℕ) → a ≡ withoutEnd (states t) (λ q p. leads t q w p) → h ≡ word (states t) (λ q. acceptedFrom t q w)
       heads t m w f =
           let few = m .few in
           e
-          ∙ rw (f, m .closing)
-          (word-ext (states t) (rowMeets (rowsOf (states t) (λ q p. leads t q w p)) (accepts t .accepting)) (λ q. acceptedFrom t q w)
+          ∙ ap (λ (i : ℕ). word i (rowMeets (a .rows) (c .accepting))) (used-all {s = a .s} (rw f (omega (arith, few))) u)
+          ∙ rw (f, accepting-of m)
+          (word-ext (states t) (rowMeets (rowsOf (states t) (λ q p. leads t q w p)) (word 32 (accepting t))) (λ q. acceptedFrom t q w)
           (λ q l. rw (row-of (states t) (λ q p. leads t q w p) q l (omega arith)) (row-accepts t few q l w)))
 
-      go : (t : Pattern) → Automaton t keys enter c → (w : List ℕ) (ls : List (List ℕ)) → laterParts w ≡ ls → a ≡ reportWith t w ls → record { s = a .s; rows = noRows; flag = 1; heads = h; closed = 0; tail = 1 } ≡ report t (w ++ (lineEnd ∷ []))
-      go t m w [] i f = same-report (ap (λ (b : Report). b .s) f) refl refl (heads t m w f) refl refl ∙ sym (first-end t w i)
+      go : (t : Pattern) → Automaton t keys enter c → (w : List ℕ) (ls : List (List ℕ)) → laterParts w ≡ ls → a ≡ reportWith t w ls → record { s = a .s; rows = noRows; flag = 1; heads = h; closed = 0; tail = y } ≡ report t (w ++ (lineEnd ∷ []))
+      go t m w [] i f = same-report (ap (λ (b : Report). b .s) f) refl refl (heads t m w f) refl v ∙ sym (first-end t w i)
       go t m w (l ∷ ls) i f = absurd (flag-of (countIn (matches t) (partsBefore l ls)) (sym (ap (λ (b : Report). b .flag) f) ∙ z))
 
-  module _ {m : Bool} {x : ℕ} (e : m ≡ common (a .tail) (c .accepting)) (f : x ≡ cond m 1 0) where
+  module _ {m : Bool} {x : ℕ} (e : m ≡ common 64 (a .tail) (c .accepting)) (f : x ≡ cond m 1 0) where
     -- the line that is closed
     line-closed : {t : Pattern} {keys enter : List ℕ} → Automaton t keys enter c → (w l : List ℕ) (ls : List (List ℕ)) → isRun w ≡ true → laterParts w ≡ l ∷ ls → a ≡ reportWith t w (l ∷ ls) → x ≡ cond (matches t (lastPart l ls)) 1 0
     line-closed {t} h w l ls r i j =
-        rw (f, e, ap (λ (b : Report). b .tail) j, h .closing, row-accepts t (h .few) 0 (omega arith) (lastPart l ls), states-match t (lastPart l ls) (last-line l ls (rw i at (later-lines w r)))) refl
+        rw (f, e, ap (λ (b : Report). b .tail) j, accepting-of h, row-accepts t (h .few) 0 (omega arith) (lastPart l ls), states-match t (lastPart l ls) (last-line l ls (rw i at (later-lines w r)))) refl
 
     -- the report then
     ended-as : {t : Pattern} {keys enter : List ℕ} → Automaton t keys enter c → (w l : List ℕ) (ls : List (List ℕ)) → isRun w ≡ true → laterParts w ≡ l ∷ ls → a ≡ reportWith t w (l ∷ ls) → report t (w ++ (lineEnd ∷ [])) ≡ withEnd (states t) (λ q. acceptedFrom t q (firstPart w)) (countIn (matches t) (partsBefore l ls) + x) (leads t 0 [])
     ended-as {t} h w l ls r i j = rw (line-closed h w l ls r i j) (later-end t w i)
 
     -- another, while the count fits
-    pub ended-more : {b : Bool} → (a .flag ≡ 0 → ⊥) → b ≡ (eqb (a .flag) 1 && leb (a .closed + x) most) → b ≡ true → Ended c a (record { s = a .s; rows = a .rows; flag = 1; heads = a .heads; closed = a .closed + x; tail = 1 })
+    pub ended-more : {b : Bool} {v : ℕ} → v ≡ 2 ^ 0 % 2 ^ 64 → (a .flag ≡ 0 → ⊥) → b ≡ (eqb (a .flag) 1 && leb (a .closed + x) most) → b ≡ true → Ended c a (record { s = a .s; rows = a .rows; flag = 1; heads = a .heads; closed = a .closed + x; tail = v })
     unfolding Ended report
-    ended-more z d y keys enter = record { size = refl; extends = λ t h w r k i. go t h w r (laterParts w) refl i }
+    ended-more {v = v} s z d y keys enter = record { size = refl; extends = λ t h w r k i. go t h w r (laterParts w) refl i }
       where
-        go : (t : Pattern) → Automaton t keys enter c → (w : List ℕ) → isRun w ≡ true → (ls : List (List ℕ)) → laterParts w ≡ ls → a ≡ reportWith t w ls → record { s = a .s; rows = a .rows; flag = 1; heads = a .heads; closed = a .closed + x; tail = 1 } ≡ report t (w ++ (lineEnd ∷ []))
+        go : (t : Pattern) → Automaton t keys enter c → (w : List ℕ) → isRun w ≡ true → (ls : List (List ℕ)) → laterParts w ≡ ls → a ≡ reportWith t w ls → record { s = a .s; rows = a .rows; flag = 1; heads = a .heads; closed = a .closed + x; tail = v } ≡ report t (w ++ (lineEnd ∷ []))
         go t h w r [] i j = absurd (z (ap (λ (b : Report). b .flag) j))
         go t h w r (l ∷ ls) i j =
             let both = shown-more (countIn (matches t) (partsBefore l ls)) x (rw j at (sym d ∙ y)) in
-            same-report (ap (λ (b : Report). b .s) j) (ap (λ (b : Report). b .rows) j) (both .0) (ap (λ (b : Report). b .heads) j) (ap (λ (b : Report). b .closed + x) j ∙ both .1) (start-word t)
+            same-report (ap (λ (b : Report). b .s) j) (ap (λ (b : Report). b .rows) j) (both .0) (ap (λ (b : Report). b .heads) j) (ap (λ (b : Report). b .closed + x) j ∙ both .1) (s ∙ start-word t)
             ∙ sym (ended-as h w l ls r i j)
 
     -- another, beyond the largest count
-    pub ended-over : {b : Bool} → (a .flag ≡ 0 → ⊥) → b ≡ (eqb (a .flag) 1 && leb (a .closed + x) most) → b ≡ false → Ended c a (record { s = a .s; rows = a .rows; flag = 2; heads = a .heads; closed = 0; tail = 1 })
+    pub ended-over : {b : Bool} {v : ℕ} → v ≡ 2 ^ 0 % 2 ^ 64 → (a .flag ≡ 0 → ⊥) → b ≡ (eqb (a .flag) 1 && leb (a .closed + x) most) → b ≡ false → Ended c a (record { s = a .s; rows = a .rows; flag = 2; heads = a .heads; closed = 0; tail = v })
     unfolding Ended report
-    ended-over z d y keys enter = record { size = refl; extends = λ t h w r k i. go t h w r (laterParts w) refl i }
+    ended-over {v = v} s z d y keys enter = record { size = refl; extends = λ t h w r k i. go t h w r (laterParts w) refl i }
       where
-        go : (t : Pattern) → Automaton t keys enter c → (w : List ℕ) → isRun w ≡ true → (ls : List (List ℕ)) → laterParts w ≡ ls → a ≡ reportWith t w ls → record { s = a .s; rows = a .rows; flag = 2; heads = a .heads; closed = 0; tail = 1 } ≡ report t (w ++ (lineEnd ∷ []))
+        go : (t : Pattern) → Automaton t keys enter c → (w : List ℕ) → isRun w ≡ true → (ls : List (List ℕ)) → laterParts w ≡ ls → a ≡ reportWith t w ls → record { s = a .s; rows = a .rows; flag = 2; heads = a .heads; closed = 0; tail = v } ≡ report t (w ++ (lineEnd ∷ []))
         go t h w r [] i j = absurd (z (ap (λ (b : Report). b .flag) j))
         go t h w r (l ∷ ls) i j =
             let both = shown-over (countIn (matches t) (partsBefore l ls)) x (rw j at (sym d ∙ y)) in
-            same-report (ap (λ (b : Report). b .s) j) (ap (λ (b : Report). b .rows) j) (both .0) (ap (λ (b : Report). b .heads) j) (both .1) (start-word t)
+            same-report (ap (λ (b : Report). b .s) j) (ap (λ (b : Report). b .rows) j) (both .0) (ap (λ (b : Report). b .heads) j) (both .1) (s ∙ start-word t)
             ∙ sym (ended-as h w l ls r i j)
 
 -- One key more.
@@ -243,8 +228,8 @@ module _ {keys enter : List ℕ} {c : Accepting} {a : Report} {k : ℕ} where
   extended-end e f = rw e (f keys enter)
 
   -- a key of a later line
-  pub extended-tail : {y : ℕ} → (k ≡ lineEnd → ⊥) → (a .flag ≡ 0 → ⊥) → Advances keys enter c (a .tail) k y → Extended keys enter c a k (record { s = a .s; rows = a .rows; flag = a .flag; heads = a .heads; closed = a .closed; tail = y })
-  unfolding Advances report
+  pub extended-tail : {y : ℕ} → (k ≡ lineEnd → ⊥) → (a .flag ≡ 0 → ⊥) → y ≡ lookedUp keys enter c (a .tail) k → Extended keys enter c a k (record { s = a .s; rows = a .rows; flag = a .flag; heads = a .heads; closed = a .closed; tail = y })
+  unfolding report
   extended-tail {y} n z g = record { size = refl; extends = λ t h w r i e. go t h w i (laterParts w) refl e }
     where
       other : eqb lineEnd k ≡ false
@@ -254,30 +239,33 @@ module _ {keys enter : List ℕ} {c : Accepting} {a : Report} {k : ℕ} where
       go t h w i [] j e = absurd (z (ap (λ (b : Report). b .flag) e))
       go t h w i (l ∷ ls) j e =
           same-report (ap (λ (b : Report). b .s) e) (ap (λ (b : Report). b .rows) e) (ap (λ (b : Report). b .flag) e) (ap (λ (b : Report). b .heads) e) (ap (λ (b : Report). b .closed) e)
-          (g t h (key-of-line k i other) ∙ rw (ap (λ (b : Report). b .tail) e) (row-moves t (h .few) 0 (omega arith) (lastPart l ls) k))
+          (g ∙ looked-up h (a .tail) k (key-of-line k i other) ∙ rw (ap (λ (b : Report). b .tail) e) (row-moves t (h .few) 0 (omega arith) (lastPart l ls) k))
           ∙ sym (later-on t w j k other)
 
   -- a key of the first line
-  pub extended-rows : {r : List ℕ} → (k ≡ lineEnd → ⊥) → a .flag ≡ 0 → AdvancesRows keys enter c (a .rows) (a .s) k r → Extended keys enter c a k (record { s = a .s; rows = r; flag = 0; heads = 0; closed = 0; tail = 0 })
-  unfolding AdvancesRows report
-  extended-rows {r} n z g = record { size = refl; extends = λ t h w u i e. go t h w i (laterParts w) refl e }
+  pub extended-rows : {r : List ℕ} {m : ℕ} → (k ≡ lineEnd → ⊥) → a .flag ≡ 0 → m ≡ cond (ltb (a .s) 32) (a .s) 32 → r ≡ rowsAdvanced keys enter c (a .rows) m k → Extended keys enter c a k (record { s = a .s; rows = r; flag = 0; heads = 0; closed = 0; tail = 0 })
+  unfolding rowsAdvanced report
+  extended-rows {r} {m} n z u g = record { size = refl; extends = λ t h w u i e. go t h w i (laterParts w) refl e }
     where
       other : eqb lineEnd k ≡ false
       other = ne-eqb lineEnd k (λ e. n (sym e))
 
-      rows : (t : Pattern) → atomCount t ≤ 29 → (w : List ℕ) → tabled (λ q. cond (ltb q (states t)) (moved t (getD (rowsOf (states t) (λ q p. leads t q w p)) q 0) k) 0) 32 0 ≡ rowsOf (states t) (λ q p. leads t q (w ++ (k ∷ [])) p)
-      rows t few w =
-          tabled-same (λ q. cond (ltb q (states t)) (moved t (getD (rowsOf (states t) (λ q p. leads t q w p)) q 0) k) 0) (λ q. cond (ltb q (states t)) (word (states t) (λ p. leads t q (w ++ (k ∷ [])) p)) 0) 32 0
+      rows : {t : Pattern} → Automaton t keys enter c → lineKey k ≡ true → (w : List ℕ) → rowsAdvanced keys enter c (rowsOf (states t) (λ q p. leads t q w p)) (states t) k ≡ rowsOf (states t) (λ q p. leads t q (w ++ (k ∷ [])) p)
+      rows {t} d l w =
+          tabled-same (λ q. cond (ltb q (states t)) (lookedUp keys enter c (getD (rowsOf (states t) (λ q p. leads t q w p)) q 0) k) 0) (λ q. cond (ltb q (states t)) (word (states t) (λ p. leads t q (w ++ (k ∷ [])) p)) 0) 32 0
           (λ q l m. each q (ltb q (states t)) refl)
         where
-          each : (q : ℕ) (b : Bool) → ltb q (states t) ≡ b → cond b (moved t (getD (rowsOf (states t) (λ q p. leads t q w p)) q 0) k) 0 ≡ cond b (word (states t) (λ p. leads t q (w ++ (k ∷ [])) p)) 0
+          few : atomCount t ≤ 29
+          few = d .few
+
+          each : (q : ℕ) (b : Bool) → ltb q (states t) ≡ b → cond b (lookedUp keys enter c (getD (rowsOf (states t) (λ q p. leads t q w p)) q 0) k) 0 ≡ cond b (word (states t) (λ p. leads t q (w ++ (k ∷ [])) p)) 0
           each q true e =
-              let l : q < states t = ltb-true q (states t) e in
-              rw (row-of (states t) (λ q p. leads t q w p) q l (omega arith)) (row-moves t few q l w k)
+              let i : q < states t = ltb-true q (states t) e in
+              rw (row-of (states t) (λ q p. leads t q w p) q i (omega (arith, few)), looked-up d (word (states t) (leads t q w)) k l) (row-moves t few q i w k)
           each q false e = refl
 
       go : (t : Pattern) → Automaton t keys enter c → (w : List ℕ) → (leb 1 k && leb k 255) ≡ true → (ls : List (List ℕ)) → laterParts w ≡ ls → a ≡ reportWith t w ls → record { s = a .s; rows = r; flag = 0; heads = 0; closed = 0; tail = 0 } ≡ report t (w ++ (k ∷ []))
       go t h w i [] j e =
-          same-report (ap (λ (b : Report). b .s) e) (g t h (key-of-line k i other) ∙ rw e (rows t (h .few) w)) refl refl refl refl
+          same-report (ap (λ (b : Report). b .s) e) (g ∙ ap (λ (x : ℕ). rowsAdvanced keys enter c (a .rows) x k) (used-all {s = a .s} (rw e (omega (arith, h .few))) u ∙ ap (λ (b : Report). b .s) e) ∙ rw e (rows h (key-of-line k i other) w)) refl refl refl refl
           ∙ sym (first-on t w k other j)
       go t h w i (l ∷ ls) j e = absurd (flag-of (countIn (matches t) (partsBefore l ls)) (sym (ap (λ (b : Report). b .flag) e) ∙ z))

@@ -75,7 +75,7 @@ flag-set n = go (leb n most)
 
 module _ (t : Pattern) (few : atomCount t ≤ 29) where
   -- what the rows of a run lead to
-  onward-is : (x : ℕ) (X : ℕ → Bool) → ((r : ℕ) → r < states t → bit x r ≡ X r) → (v : List ℕ) (p : ℕ) → p < states t → onward (states t) x (withoutEnd (states t) (λ q p. leads t q v p)) p ≡ anyBelow (states t) (λ r. X r && leads t r v p)
+  onward-is : (x : ℕ) (X : ℕ → Bool) → ((r : ℕ) → r < states t → bit x r ≡ X r) → (v : List ℕ) (p : ℕ) → p < states t → onward (states t) x (rowsOf (states t) (λ q p. leads t q v p)) p ≡ anyBelow (states t) (λ r. X r && leads t r v p)
   onward-is x X e v p h =
       any-ext (states t) (λ r. bit x r && bit (getD (rowsOf (states t) (λ q p. leads t q v p)) r 0) p) (λ r. X r && leads t r v p)
       (λ r l. rw (e r l, row-of (states t) (λ q p. leads t q v p) r l (omega arith), bit-word (states t) (λ p. leads t r v p) p h) refl)
@@ -87,7 +87,7 @@ module _ (t : Pattern) (few : atomCount t ≤ 29) where
   row-bit u q h r l = rw (row-of (states t) (λ q p. leads t q u p) q h (omega arith)) (bit-word (states t) (λ p. leads t q u p) r l)
 
   -- no line end in either
-  rows-join : (u v : List ℕ) (q p : ℕ) → q < states t → p < states t → onward (states t) (getD (rowsOf (states t) (λ q p. leads t q u p)) q 0) (withoutEnd (states t) (λ q p. leads t q v p)) p ≡ leads t q (u ++ v) p
+  rows-join : (u v : List ℕ) (q p : ℕ) → q < states t → p < states t → onward (states t) (getD (rowsOf (states t) (λ q p. leads t q u p)) q 0) (rowsOf (states t) (λ q p. leads t q v p)) p ≡ leads t q (u ++ v) p
   rows-join u v q p h l = onward-is (getD (rowsOf (states t) (λ q p. leads t q u p)) q 0) (leads t q u) (row-bit u q h) v p l ∙ sym (leads-append t u v q p h)
 
   -- one in the second
@@ -114,7 +114,7 @@ module _ (t : Pattern) (few : atomCount t ≤ 29) where
     join-with [] [] e f =
         rw (later-into u v e, f)
         (ap (λ (rows : List ℕ). record { s = states t; rows = rows; flag = 0; heads = 0; closed = 0; tail = 0 })
-        (rows-same (states t) (λ q. onward (states t) (getD (rowsOf (states t) (λ q p. leads t q u p)) q 0) (withoutEnd (states t) (λ q p. leads t q v p))) (λ q p. leads t q (u ++ v) p) (rows-join u v)))
+        (rows-same (states t) (λ q. onward (states t) (getD (rowsOf (states t) (λ q p. leads t q u p)) q 0) (rowsOf (states t) (λ q p. leads t q v p))) (λ q p. leads t q (u ++ v) p) (rows-join u v)))
     join-with [] (m ∷ ms) e f =
         let n = countIn (matches t) (partsBefore m ms) in
         rw (later-into u v e, f, flag-set n)
@@ -136,7 +136,7 @@ module _ (t : Pattern) (few : atomCount t ≤ 29) where
         (λ q. acceptedFrom t q (firstPart (u ++ v)))
         (capped n)
         (countIn (matches t) (partsBefore (firstThen l ls v) (laterThen ls v)))
-        (onward (states t) (word (states t) (leads t 0 (lastPart l ls))) (withoutEnd (states t) (λ q p. leads t q v p)))
+        (onward (states t) (word (states t) (leads t 0 (lastPart l ls))) (rowsOf (states t) (λ q p. leads t q v p)))
         (leads t 0 (lastPart (firstThen l ls v) (laterThen ls v)))
         (λ q h. kept (λ q. acceptedFrom t q (firstPart u)) q h ∙ ap (acceptedFrom t q) (sym (first-kept u v e)))
         (rw (before-open l ls v (matches t) f) (capped-shown n))

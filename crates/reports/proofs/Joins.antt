@@ -17,13 +17,13 @@ use Rattle.stateset.proofs.Some.{any-ext, any-widen}
 use Rattle.stateset.proofs.Images.{bit-image}
 use Rattle.reports.specs.declared.joining.Closed.{Closed}
 use Rattle.reports.specs.declared.report.Report.{Report}
-use Rattle.reports.specs.Reports.{most, rowsOf, alike, joinedReports, noReport, onward, closedBy}
+use Rattle.reports.specs.Reports.{most, rowsOf, alike, joinedReports, noReport, onward, closedBy, joinedWith}
 use Rattle.reports.specs.Answers.{joinResult}
-use Rattle.reports.specs.Joins.{wholeJoin, openingJoin, endingJoin, acrossJoin}
 use Rattle.runs.proofs.Tests.{and-snd}
 use Rattle.stateset.specs.Tabled.{tabled}
 use Rattle.stateset.proofs.Tabled.{tabled-length, tabled-at, tabled-same}
 use Rattle.reports.specs.Promises.{closedOf, Adds, withLines}
+use Rattle.stateset.proofs.Gathering.{gathered-more}
 
 -- Sets of states below s.
 
@@ -66,85 +66,7 @@ module _ (s x : ℕ) (h : s ≤ 32) where
       (any-widen s 64 (λ q. bit (word s (bit x)) q && bit y q) (omega arith) (λ q k. rw (word-high s (bit x) q k))
       ∙ any-ext s (λ q. bit (word s (bit x)) q && bit y q) (λ q. bit x q && bit y q) (λ q k. rw (bit-word s (bit x) q k)))
 
--- Rows, one after the other.
-
--- the first q of 32 entries as f gives them, and zeros
-abbrev pub filled : (ℕ → ℕ) → ℕ → List ℕ
-filled f q = tabled (λ k. cond (ltb k q) (f k) 0) 32 0
-
-tabled-zeros : (n i : ℕ) → tabled (λ k. 0) n i ≡ replicate n 0
-unfolding tabled
-tabled-zeros zero i = refl
-tabled-zeros (suc n) i = rw (tabled-zeros n (suc i)) refl
-
--- no entry yet
-pub filled-none : (f : ℕ → ℕ) → replicate 32 0 ≡ filled f 0
-filled-none f =
-    sym (tabled-same (λ k. cond (ltb k 0) (f k) 0) (λ k. 0) 32 0 (λ k g h. rw (le-ltb k 0 (omega arith))) ∙ tabled-zeros 32 0)
-
--- one entry more
-pub filled-more : (f : ℕ → ℕ) (q : ℕ) → q < 32 → set (filled f q) q (f q) ≡ filled f (q + 1)
-filled-more f q h =
-    ext-getD 0 (set (filled f q) q (f q)) (filled f (q + 1))
-    (length-set (filled f q) q (f q) ∙ long q ∙ sym (long (q + 1)))
-    (λ i l. at i (omega (arith, length-set (filled f q) q (f q), long q)) (eqb i q) refl)
-  where
-    long : (q : ℕ) → length (filled f q) ≡ 32
-    long q = tabled-length (λ k. cond (ltb k q) (f k) 0) 32 0
-
-    entry : (q i : ℕ) → i < 32 → getD (filled f q) i 0 ≡ cond (ltb i q) (f i) 0
-    entry q i l = tabled-at (λ k. cond (ltb k q) (f k) 0) 32 i l
-
-    same : (i : ℕ) (b : Bool) → ltb i q ≡ b → (i ≡ q → ⊥) → ltb i (q + 1) ≡ b
-    same i true e n = let g = ltb-true i q e in lt-ltb i (q + 1) (omega arith)
-    same i false e n = let g = ltb-false i q e in le-ltb i (q + 1) (omega (arith, apart i n g))
-      where
-        apart : (i : ℕ) → (i ≡ q → ⊥) → q ≤ i → q < i
-        apart i n g = omega arith
-
-    at : (i : ℕ) → i < 32 → (b : Bool) → eqb i q ≡ b → getD (set (filled f q) q (f q)) i 0 ≡ getD (filled f (q + 1)) i 0
-    at i l true e =
-        let s : i ≡ q = eqb-true i q e in
-        rw (s, entry (q + 1) q h, lt-ltb q (q + 1) (omega arith)) (getD-set-same (filled f q) q (f q) 0 (omega (arith, long q)))
-    at i l false e =
-        let n = eqb-false i q e in
-        getD-set-other (filled f q) q i (f q) 0 n
-        ∙ entry q i l
-        ∙ ap (λ (b : Bool). cond b (f i) 0) (sym (same i (ltb i q) refl n))
-        ∙ sym (entry (q + 1) i l)
-
--- A set, one member after the other.
-
--- no member yet
-pub gathered-none : (X : ℕ → Bool) → 0 ≡ word 0 X
-unfolding word
-gathered-none X = refl
-
--- one member more, if it has X
-pub gathered-more : (X : ℕ → Bool) (q : ℕ) → bitOr (word q X) (cond (X q) (2 ^ q) 0) ≡ word (q + 1) X
-gathered-more X q =
-    word-unique (q + 1) (bitOr (word q X) (cond (X q) (2 ^ q) 0)) X
-    (or-lt (q + 1) (word q X) (cond (X q) (2 ^ q) 0) (lt-of-lt-of-le (word-lt q X) (omega (arith, up))) (one (X q)))
-    (λ p l. bit-or (word q X) (cond (X q) (2 ^ q) 0) p ∙ rw (bit-chosen (X q) q p) (at p l (ltb p q) refl))
-  where
-    up : 2 ^ q < 2 ^ (q + 1)
-    up = pow-lt (omega arith)
-
-    one : (b : Bool) → cond b (2 ^ q) 0 < 2 ^ (q + 1)
-    one true = up
-    one false = pow-pos (q + 1)
-
-    and-one : (b : Bool) → (b && true) ≡ b
-    and-one true = refl
-    and-one false = refl
-
-    at : (p : ℕ) → p < q + 1 → (b : Bool) → ltb p q ≡ b → (bit (word q X) p || (X q && eqb q p)) ≡ X p
-    at p l true e =
-        let g = ltb-true p q e in
-        rw (bit-word q X p g, ne-eqb q p (λ i. omega arith), and-false) (or-false (X p))
-    at p l false e =
-        let s : p ≡ q = omega (arith, ltb-false p q e) in
-        rw (s, word-high q X q (omega arith), eq-eqb q q refl) (and-one (X q))
+-- Sets, one member after the other.
 
 -- the next number, from what each word of the step is
 pub gathered-next : (X : ℕ → Bool) (q : ℕ) {w v r : ℕ} {b : Bool} → q < 32 → w ≡ word q X → b ≡ X q → v ≡ cond b (1 * 2 ^ q % 2 ^ 64) 0 → r ≡ bitOr w v → r ≡ word (q + 1) X
@@ -216,23 +138,23 @@ module _ (a b : Closed) where
 module _ (a b : Report) where
   -- two reports without a line end
   pub whole-made : {rows : List ℕ} → rows ≡ rowsOf (a .s) (λ q. onward (a .s) (getD (a .rows) q 0) (b .rows))
-      → record { s = a .s; rows = rows; flag = 0; heads = 0; closed = 0; tail = 0 } ≡ wholeJoin a b
+      → record { s = a .s; rows = rows; flag = 0; heads = 0; closed = 0; tail = 0 } ≡ joinedWith (a .s) true true a b
   whole-made e = rw e refl
 
   -- one without, then one with
   pub opening-made : {h t : ℕ} {c : Closed} {r : Report} → h ≡ word (a .s) (λ q. common (a .s) (getD (a .rows) q 0) (b .heads)) → c ≡ closedOf (closedBy (b .flag) (b .closed))
-      → t ≡ word (a .s) (bit (b .tail)) → r ≡ withLines (a .s) h c t → r ≡ openingJoin a b
+      → t ≡ word (a .s) (bit (b .tail)) → r ≡ withLines (a .s) h c t → r ≡ joinedWith (a .s) true false a b
   opening-made h c t r = rw (r, t, c, h) refl
 
   -- one with, then one without
   pub ending-made : {h t : ℕ} {c : Closed} {r : Report} → t ≡ word (a .s) (onward (a .s) (a .tail) (b .rows)) → h ≡ word (a .s) (bit (a .heads)) → c ≡ closedOf (closedBy (a .flag) (a .closed))
-      → r ≡ withLines (a .s) h c t → r ≡ endingJoin a b
+      → r ≡ withLines (a .s) h c t → r ≡ joinedWith (a .s) false true a b
   ending-made t h c r = rw (r, t, c, h) refl
 
   -- two with
   pub across-made : (e g : Closed) {m : Bool} {n h t : ℕ} {c d f : Closed} {r : Report} → m ≡ common (a .s) (a .tail) (b .heads) → n ≡ cond m 1 0
       → c ≡ closedOf (closedBy (a .flag) (a .closed)) → d ≡ closedOf (closedBy (b .flag) (b .closed)) → Adds c d e → f ≡ closedOf (closedBy 1 n) → Adds e f g
-      → h ≡ word (a .s) (bit (a .heads)) → t ≡ word (a .s) (bit (b .tail)) → r ≡ withLines (a .s) h g t → r ≡ acrossJoin a b
+      → h ≡ word (a .s) (bit (a .heads)) → t ≡ word (a .s) (bit (b .tail)) → r ≡ withLines (a .s) h g t → r ≡ joinedWith (a .s) false false a b
   unfolding Adds
   across-made e g {n = n} m i c d p f q h t r =
       let x = closedBy (a .flag) (a .closed) in
@@ -240,22 +162,22 @@ module _ (a b : Report) where
       rw (r, t, h, q (x + y) n (p x y c d) f, i, m) refl
 
   -- neither flag is set
-  pub joined-whole : {r : Report} → a .flag ≡ 0 → b .flag ≡ 0 → r ≡ wholeJoin a b → r ≡ joinedReports a b
+  pub joined-whole : {r : Report} → a .flag ≡ 0 → b .flag ≡ 0 → r ≡ joinedWith (a .s) true true a b → r ≡ joinedReports a b
   unfolding joinedReports
   joined-whole f g r = rw (eq-eqb (a .flag) 0 f, eq-eqb (b .flag) 0 g) r
 
   -- the right flag alone is set
-  pub joined-opening : {r : Report} → a .flag ≡ 0 → (b .flag ≡ 0 → ⊥) → r ≡ openingJoin a b → r ≡ joinedReports a b
+  pub joined-opening : {r : Report} → a .flag ≡ 0 → (b .flag ≡ 0 → ⊥) → r ≡ joinedWith (a .s) true false a b → r ≡ joinedReports a b
   unfolding joinedReports
   joined-opening f g r = rw (eq-eqb (a .flag) 0 f, ne-eqb (b .flag) 0 g) r
 
   -- the left flag alone is set
-  pub joined-ending : {r : Report} → (a .flag ≡ 0 → ⊥) → b .flag ≡ 0 → r ≡ endingJoin a b → r ≡ joinedReports a b
+  pub joined-ending : {r : Report} → (a .flag ≡ 0 → ⊥) → b .flag ≡ 0 → r ≡ joinedWith (a .s) false true a b → r ≡ joinedReports a b
   unfolding joinedReports
   joined-ending f g r = rw (ne-eqb (a .flag) 0 f, eq-eqb (b .flag) 0 g) r
 
   -- both flags are set
-  pub joined-across : {r : Report} → (a .flag ≡ 0 → ⊥) → (b .flag ≡ 0 → ⊥) → r ≡ acrossJoin a b → r ≡ joinedReports a b
+  pub joined-across : {r : Report} → (a .flag ≡ 0 → ⊥) → (b .flag ≡ 0 → ⊥) → r ≡ joinedWith (a .s) false false a b → r ≡ joinedReports a b
   unfolding joinedReports
   joined-across f g r = rw (ne-eqb (a .flag) 0 f, ne-eqb (b .flag) 0 g) r
 
@@ -267,21 +189,6 @@ module _ (a b : Report) where
   pub join-refused : {t : Bool} {n : ℕ} → t ≡ alike a b → not t ≡ true → n ≡ 13 → record { refused = n; report = noReport } ≡ joinResult a b
   join-refused {t = u} t e n = rw (← t, not-true u e, n) refl
 
--- The numbers of states.
-
-module _ (s t : ℕ) where
-  -- two sizes that differ
-  pub sizes-differ : (s ≡ t → ⊥) → false ≡ (eqb s t && (leb 3 s && leb s 32))
-  sizes-differ f = rw (ne-eqb s t f) refl
-
-  -- a size under the three fixed states
-  pub sizes-low : s ≡ t → s < 3 → false ≡ (eqb s t && (leb 3 s && leb s 32))
-  sizes-low e h = rw (eq-eqb s t e, lt-leb 3 s h) refl
-
-  -- a size that only the upper limit is left to tell
-  pub sizes-high : s ≡ t → 3 ≤ s → leb s 32 ≡ (eqb s t && (leb 3 s && leb s 32))
-  sizes-high e h = rw (eq-eqb s t e, le-leb 3 s h) refl
-
-  -- a size that is accepted is at most 32
-  pub sizes-fit : {b : Bool} → b ≡ (eqb s t && (leb 3 s && leb s 32)) → not b ≡ false → s ≤ 32
-  sizes-fit {b = u} b e = leb-true s 32 (and-snd (leb 3 s) (leb s 32) (and-snd (eqb s t) (leb 3 s && leb s 32) (sym b ∙ not-false u e)))
+-- a size that is accepted is at most 32
+pub sizes-fit : (s t : ℕ) {b : Bool} → b ≡ (eqb s t && (leb 3 s && leb s 32)) → not b ≡ false → s ≤ 32
+sizes-fit s t {b = u} b e = leb-true s 32 (and-snd (leb 3 s) (leb s 32) (and-snd (eqb s t) (leb 3 s && leb s 32) (sym b ∙ not-false u e)))

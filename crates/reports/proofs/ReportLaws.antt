@@ -1,13 +1,16 @@
 -- Laws of the report of a macro's items, one after another.
 use Prim.Native.Nat.{ℕ, zero, suc, _+_, _*_, _%_, _^_, _<_, _≤_}
 use native.Mathlib.Omega.{arith}
-use mathlib.Core.Path.{_≡_, refl, ap, _∙_}
+use mathlib.Core.Path.{_≡_, refl, sym, ap, _∙_}
 use mathlib.Core.Bool.{Bool, true, false, cond, _&&_}
 use mathlib.Core.List.{List, [], _∷_, _++_}
-use lib.Dec.{leb, eqb}
-use lib.ListN.{getD}
+use lib.Dec.{leb, ltb, eqb}
+use borrow.Author.Tests.{ltb-true, lt-ltb}
+use native.Mathlib.Nat.{zero-add}
+use Rattle.stateset.proofs.Gathering.{begun, begun-more}
+use lib.ListN.{getD, set}
 use Rattle.stateset.specs.Set.{bit, word}
-use Rattle.stateset.proofs.Sets.{word-one}
+use Rattle.stateset.proofs.Sets.{word-one, word-ext}
 use Rattle.stateset.proofs.Counts.{count-word}
 use Rattle.pattern.specs.Meaning.{matches}
 use Rattle.pattern.specs.Moves.{states, leads}
@@ -19,20 +22,43 @@ use Rattle.reports.proofs.JoinLaw.{row-of, flag-set}
 use Rattle.reports.proofs.Joins.{shifted}
 use Rattle.reports.proofs.WordLaws.{sizes-le}
 use Rattle.runs.specs.Counts.{countBelow, sumBelow}
-use Rattle.runs.proofs.CountLaws.{count-le}
+use Rattle.runs.proofs.CountLaws.{count-le, sum-ext}
 use Rattle.runs.proofs.Tests.{and-both, and-fst, and-snd}
 use Rattle.pattern.specs.Form.{Pattern, atomCount}
 use Rattle.runs.specs.Keys.{isRun}
 use Rattle.lines.specs.Parts.{laterParts, lastPart, partsBefore}
+use Rattle.lines.proofs.PartLaws.{later-none}
+use Rattle.stateset.proofs.Tabled.{tabled-same}
 
 -- the empty run
 pub empty-is : (t : Pattern) → emptyReport (states t) ≡ report t []
-unfolding report laterParts leads
-empty-is t = refl
+unfolding report
+empty-is t =
+    rw later-none
+    (ap (λ (rows : List ℕ). record { s = states t; rows = rows; flag = 0; heads = 0; closed = 0; tail = 0 })
+    (tabled-same (λ q. cond (ltb q (states t)) (word (states t) (λ p. eqb q p)) 0) (λ q. cond (ltb q (states t)) (word (states t) (leads t q [])) 0) 32 0
+    (λ q g h. ap (λ (x : ℕ). cond (ltb q (states t)) x 0) (word-ext (states t) (λ p. eqb q p) (leads t q []) (λ p l. sym (leads-none t q p))))))
 
--- its rows: each state is reached from itself
-pub own-row : (s q : ℕ) → q < s → s ≤ 32 → 1 * 2 ^ q % 2 ^ 64 ≡ word s (λ p. eqb q p)
-own-row s q h l = shifted q (omega arith) ∙ word-one s q h
+-- its rows, one after the other: each state is reached from itself
+module _ (s : ℕ) where
+  abbrev own : ℕ → ℕ
+  own q = cond (ltb q s) (word s (λ p. eqb q p)) 0
+
+  pub own-row : (q : ℕ) {x : ℕ} → q < 32 → x ≡ cond (ltb q s) (1 * 2 ^ q % 2 ^ 64) 0 → x ≡ own q
+  own-row q {x} h e = e ∙ go (ltb q s) refl
+    where
+      go : (b : Bool) → ltb q s ≡ b → cond b (1 * 2 ^ q % 2 ^ 64) 0 ≡ cond b (word s (λ p. eqb q p)) 0
+      go true i = shifted q (omega arith) ∙ word-one s q (ltb-true q s i)
+      go false i = refl
+
+  pub own-more : {rows : List ℕ} {q x : ℕ} → (q ≤ 32) × (rows ≡ begun own 32 q) → q < 32 → x ≡ cond (ltb q s) (1 * 2 ^ q % 2 ^ 64) 0 → (q + 1 ≤ 32) × (set rows q x ≡ begun own 32 (q + 1))
+  own-more {rows} {q} (l, e) h f = (omega arith, rw (e, own-row q h f) (begun-more own 32 q h))
+
+  pub own-all : {rows : List ℕ} {q : ℕ} → (q ≤ 32) × (rows ≡ begun own 32 q) → 32 ≤ q → _≡_ {A = Report} (record { s = s; rows = rows; flag = 0; heads = 0; closed = 0; tail = 0 }) (emptyReport s)
+  own-all {rows} {q} (l, e) h =
+      let all : q ≡ 32 = omega arith in
+      ap (λ (r : List ℕ). record { s = s; rows = r; flag = 0; heads = 0; closed = 0; tail = 0 })
+      (e ∙ ap (begun own 32) all ∙ tabled-same (λ k. cond (ltb k 32) (own k) 0) own 32 0 (λ k g i. rw (lt-ltb k 32 (rw zero-add at i)) refl))
 
 -- the number of states of a report
 pub report-size : (t : Pattern) (w : List ℕ) → report t w .s ≡ states t

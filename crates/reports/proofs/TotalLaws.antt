@@ -1,5 +1,5 @@
 -- The count of a run from its report.
-use Prim.Native.Nat.{ℕ, _+_, _-_, _<_, _≤_}
+use Prim.Native.Nat.{ℕ, _+_, _-_, _%_, _^_, _<_, _≤_}
 use native.Mathlib.Omega.{arith}
 use native.Mathlib.Nat.{zero-add, add-assoc}
 use mathlib.Core.Path.{_≡_, refl, sym, ap, _∙_}
@@ -11,14 +11,14 @@ use borrow.Author.Tests.{not-true, not-false, eq-eqb, le-leb, lt-leb, leb-true, 
 use Rattle.stateset.specs.Set.{bit, word}
 use Rattle.stateset.proofs.Sets.{bit-word, bit-one}
 use Rattle.stateset.proofs.Some.{any-ext, any-at}
-use Rattle.pattern.specs.Moves.{states, leads, acceptedFrom}
-use Rattle.pattern.proofs.Moving.{common}
+use Rattle.pattern.specs.Moves.{states, accepting, leads, acceptedFrom}
+use Rattle.stateset.specs.Set.{common}
 use Rattle.pattern.proofs.AcceptedLines.{states-match}
-use Rattle.pattern.proofs.Leading.{leads-start}
+use Rattle.pattern.proofs.Leading.{leads-none, leads-start}
 use Rattle.pattern.specs.Meaning.{matches}
 use Rattle.reports.specs.declared.report.Report.{Report}
 use Rattle.reports.specs.declared.total.Total.{Total}
-use Rattle.lines.specs.Lines.{onto, lines, countIn, matching, isOpen}
+use Rattle.lines.specs.Lines.{countIn, matching, isOpen}
 use Rattle.reports.specs.Reports.{most, withoutEnd, withEnd, reportWith, report}
 use Rattle.reports.specs.Promises.{LastLine, Totals, totalOf}
 use Rattle.reports.proofs.JoinLaw.{row-of, flag-set}
@@ -28,90 +28,43 @@ use Rattle.pattern.specs.Form.{Pattern, atomCount}
 use Rattle.runs.specs.Keys.{isLine, isRun, lineEnd}
 use Rattle.pattern.specs.declared.automaton.Accepting.{Accepting}
 use Rattle.lines.specs.Parts.{firstPart, laterParts, lastPart, partsBefore}
-use Rattle.pattern.specs.Automata.{accepts}
-use Rattle.lines.proofs.PartLaws.{first-whole, first-line, later-lines, last-line}
-
--- the lines of a run, by its parts: the last part is a line if it has a key
-abbrev lastOnly : List ℕ → List (List ℕ)
-lastOnly [] = []
-lastOnly (c ∷ l) = (c ∷ l) ∷ []
-
-abbrev linesOf : List ℕ → List (List ℕ) → List (List ℕ)
-linesOf l [] = lastOnly l
-linesOf l (m ∷ ms) = l ∷ linesOf m ms
-
-lines-parts : (w : List ℕ) → lines w ≡ linesOf (firstPart w) (laterParts w)
-unfolding lines firstPart laterParts
-lines-parts [] = refl
-lines-parts (c ∷ w) = go (eqb lineEnd c) (firstPart w) (laterParts w) (lines-parts w)
-  where
-    go : (b : Bool) (f : List ℕ) (ls : List (List ℕ)) → lines w ≡ linesOf f ls → cond b ([] ∷ lines w) (onto c (lines w)) ≡ linesOf (cond b [] (c ∷ f)) (cond b (f ∷ ls) ls)
-    go true f ls e = ap (λ (l : List (List ℕ)). [] ∷ l) e
-    go false [] [] e = rw e refl
-    go false (d ∷ f) [] e = rw e refl
-    go false f (m ∷ ms) e = rw e refl
-
-count-parts : (X : List ℕ → Bool) (l : List ℕ) (ls : List (List ℕ)) → countIn X (linesOf l ls) ≡ countIn X (partsBefore l ls) + cond (isOpen (lastPart l ls) && X (lastPart l ls)) 1 0
-unfolding countIn partsBefore lastPart
-count-parts X [] [] = refl
-count-parts X (c ∷ l) [] = omega arith
-count-parts X l (m ∷ ms) = ap (λ (n : ℕ). cond (X l) 1 0 + n) (count-parts X m ms) ∙ sym (add-assoc (cond (X l) 1 0) (countIn X (partsBefore m ms)) _)
-
-module _ (t : Pattern) (w : List ℕ) where
-  -- a run without a line end is one line, if it has a key
-  pub matching-whole : laterParts w ≡ [] → matching t w ≡ cond (isOpen w && matches t w) 1 0
-  unfolding matching countIn partsBefore lastPart
-  matching-whole e = ap (countIn (matches t)) (rw e at (lines-parts w) ∙ ap lastOnly (first-whole w e)) ∙ count-parts (matches t) w [] ∙ zero-add _
-
-  -- with line ends: the first line, those between, and the last part if it has a key
-  pub matching-parts : {l : List ℕ} {ls : List (List ℕ)} → laterParts w ≡ l ∷ ls → matching t w ≡ cond (matches t (firstPart w)) 1 0 + (countIn (matches t) (partsBefore l ls) + cond (isOpen (lastPart l ls) && matches t (lastPart l ls)) 1 0)
-  unfolding matching countIn
-  matching-parts {l} {ls} e = ap (countIn (matches t)) (rw e at (lines-parts w)) ∙ ap (λ (n : ℕ). cond (matches t (firstPart w)) 1 0 + n) (count-parts (matches t) l ls)
+use Rattle.lines.proofs.PartLaws.{first-whole, first-line, later-lines, last-line, matching-parts, matching-whole}
 
 -- Words.
 
 -- a set that has line-start
-common-start : (x : ℕ) → common x 1 ≡ bit x 0
+common-start : (x : ℕ) → common 64 x 1 ≡ bit x 0
 common-start x =
     any-ext 64 (λ p. bit x p && bit 1 p) (λ p. eqb 0 p && bit x p) (λ p h. ap (λ (b : Bool). bit x p && b) (bit-one 0 p) ∙ and-comm (bit x p) (eqb 0 p))
     ∙ any-at 64 0 (bit x) (omega arith)
 
 module _ (t : Pattern) (few : atomCount t ≤ 29) where
   -- the states that a line leads to accept exactly if it matches
-  pub tail-accepts : (l : List ℕ) → isLine l ≡ true → common (word (states t) (leads t 0 l)) (accepts t .accepting) ≡ matches t l
+  pub tail-accepts : (l : List ℕ) → isLine l ≡ true → common 64 (word (states t) (leads t 0 l)) (word 32 (accepting t)) ≡ matches t l
   tail-accepts l h = row-accepts t few 0 (omega arith) l ∙ states-match t l h
 
   -- and have left line-start exactly if it has a key
-  pub tail-start : (l : List ℕ) → common (word (states t) (leads t 0 l)) 1 ≡ not (isOpen l)
-  unfolding leads
+  pub tail-start : (l : List ℕ) → common 64 (word (states t) (leads t 0 l)) 1 ≡ not (isOpen l)
   tail-start l = common-start (word (states t) (leads t 0 l)) ∙ bit-word (states t) (leads t 0 l) 0 (omega arith) ∙ go l
     where
       go : (l : List ℕ) → leads t 0 l 0 ≡ not (isOpen l)
-      go [] = refl
+      go [] = leads-none t 0 0
       go (c ∷ l) = leads-start t l c 0
 
--- whether a line has a key, by the states that it leads to
-opened : {tail : ℕ} {m : Bool} → m ≡ common tail 1 → (t : Pattern) → atomCount t ≤ 29 → (l : List ℕ) → tail ≡ word (states t) (leads t 0 l) → not (isOpen l) ≡ m
-opened start t few l f = sym (start ∙ ap (λ (x : ℕ). common x 1) f ∙ tail-start t few l)
-
 -- the last part of a run
-module _ {c : Accepting} {tail : ℕ} {m : Bool} (start : m ≡ common tail 1) where
-  pub last-none : m ≡ true → LastLine c tail 0
-  last-none h =
-      record {
-        small = omega arith;
-        counts = λ t few e l i f. let shut : isOpen l ≡ false = not-true (isOpen l) (opened start t few l f ∙ h) in rw shut refl;
-      }
-
-  pub last-some : m ≡ false → {k : Bool} {x : ℕ} → k ≡ common tail (c .accepting) → x ≡ cond k 1 0 → LastLine c tail x
-  last-some h {k} {x} a f =
-      record {
-        small = at-most-one k f;
-        counts = λ t few e l i g.
-            let open' : isOpen l ≡ true = not-false (isOpen l) (opened start t few l g ∙ h) in
-            let same : k ≡ matches t l = a ∙ rw (g, e) (tail-accepts t few l i) in
-            rw (f, open', same) refl;
-      }
+pub last-told : {c : Accepting} {tail z : ℕ} {m k : Bool} {x : ℕ} → z ≡ 2 ^ 0 % 2 ^ 64 → m ≡ common 64 tail z → k ≡ common 64 tail (c .accepting) → x ≡ cond (not m && k) 1 0 → LastLine c tail x
+last-told {c} {tail} {z} {m} {k} {x} one start a f =
+    record {
+      small = at-most-one (not m && k) f;
+      counts = λ t few e l i g.
+          let shut : m ≡ not (isOpen l) = start ∙ rw (one, g) (tail-start t few l) in
+          let same : k ≡ matches t l = a ∙ rw (g, e) (tail-accepts t few l i) in
+          rw (f, shut, same, not-not (isOpen l)) refl;
+    }
+  where
+    not-not : (b : Bool) → not (not b) ≡ b
+    not-not true = refl
+    not-not false = refl
 
 -- a count within the limit, and one beyond
 lines-shown : {x n : ℕ} → x ≡ n → x ≤ most → Total.Lines x ≡ totalOf n
@@ -138,10 +91,10 @@ flag-fine n = go (leb n most) refl
 module _ (c : Accepting) (r : Report) where
   -- the report of a run without a line end, and of one with line ends
   abbrev WithoutEnd : (Pattern → List ℕ → Type 0) → Type 0
-  WithoutEnd P = (t : Pattern) → atomCount t ≤ 29 → c ≡ accepts t → (w : List ℕ) → isLine w ≡ true → isOpen w ≡ true → laterParts w ≡ [] → r ≡ withoutEnd (states t) (λ q p. leads t q w p) → P t w
+  WithoutEnd P = (t : Pattern) → atomCount t ≤ 29 → c .accepting ≡ word 32 (accepting t) → (w : List ℕ) → isLine w ≡ true → isOpen w ≡ true → laterParts w ≡ [] → r ≡ withoutEnd (states t) (λ q p. leads t q w p) → P t w
 
   abbrev WithEnd : (Pattern → List ℕ → Type 0) → Type 0
-  WithEnd P = (t : Pattern) → atomCount t ≤ 29 → c ≡ accepts t → (w : List ℕ) → isRun w ≡ true → (l : List ℕ) (ls : List (List ℕ)) → laterParts w ≡ l ∷ ls → r ≡ withEnd (states t) (λ q. acceptedFrom t q (firstPart w)) (countIn (matches t) (partsBefore l ls)) (leads t 0 (lastPart l ls)) → P t w
+  WithEnd P = (t : Pattern) → atomCount t ≤ 29 → c .accepting ≡ word 32 (accepting t) → (w : List ℕ) → isRun w ≡ true → (l : List ℕ) (ls : List (List ℕ)) → laterParts w ≡ l ∷ ls → r ≡ withEnd (states t) (λ q. acceptedFrom t q (firstPart w)) (countIn (matches t) (partsBefore l ls)) (leads t 0 (lastPart l ls)) → P t w
 
   by-parts : (x : Total) → WithoutEnd (λ t w. x ≡ totalOf (matching t w)) → WithEnd (λ t w. x ≡ totalOf (matching t w)) → Totals c r x
   unfolding Totals report
@@ -155,7 +108,7 @@ module _ (c : Accepting) (r : Report) where
   flag-of : (n : ℕ) → r .flag ≡ cond (leb n most) 1 2 → r .flag ≡ 0 → ⊥
   flag-of n j z = false≢true (sym (flag-set n) ∙ eq-eqb (cond (leb n most) 1 2) 0 (sym j ∙ z))
 
-  pub total-open : {m : Bool} {x : ℕ} → r .flag ≡ 0 → m ≡ common (getD (r .rows) 0 0) (c .accepting) → x ≡ cond m 1 0 → Totals c r (Total.Lines x)
+  pub total-open : {m : Bool} {x : ℕ} → r .flag ≡ 0 → m ≡ common 64 (getD (r .rows) 0 0) (c .accepting) → x ≡ cond m 1 0 → Totals c r (Total.Lines x)
   total-open {m} {x} z a f =
       by-parts (Total.Lines x)
       (λ t few e w h o d j.
@@ -175,13 +128,13 @@ module _ (c : Accepting) (r : Report) where
       (arith, flag-over (countIn (matches t) (partsBefore l ls)) (rw (ap (λ (a : Report). a .flag) j) at z), matching-parts t w d)))
 
   -- flag 1: the first line, those between, and the last part
-  module _ {k : Bool} {x y : ℕ} (some : r .flag ≡ 0 → ⊥) (fine : r .flag ≤ 1) (head : k ≡ common (r .heads) 1) (first : x ≡ cond k 1 0) (last : LastLine c (r .tail) y) where
+  module _ {k : Bool} {x y z : ℕ} (some : r .flag ≡ 0 → ⊥) (fine : r .flag ≤ 1) (one : z ≡ 2 ^ 0 % 2 ^ 64) (head : k ≡ common 64 (r .heads) z) (first : x ≡ cond k 1 0) (last : LastLine c (r .tail) y) where
     sum-of : WithEnd (λ t w. (r .closed + (x + y) ≡ matching t w) × (r .closed ≤ most))
     sum-of t few e w h l ls d j =
         let n = countIn (matches t) (partsBefore l ls) in
         let kept = flag-fine n (rw (ap (λ (a : Report). a .flag) j) at fine) in
         let shut : r .closed ≡ n = ap (λ (a : Report). a .closed) j ∙ rw (le-leb n most kept) refl in
-        let front : k ≡ matches t (firstPart w) = head ∙ common-start (r .heads) ∙ rw (ap (λ (a : Report). a .heads) j) (bit-word (states t) (λ q. acceptedFrom t q (firstPart w)) 0 (omega arith)) ∙ states-match t (firstPart w) (first-line w h) in
+        let front : k ≡ matches t (firstPart w) = head ∙ ap (common 64 (r .heads)) one ∙ common-start (r .heads) ∙ rw (ap (λ (a : Report). a .heads) j) (bit-word (states t) (λ q. acceptedFrom t q (firstPart w)) 0 (omega arith)) ∙ states-match t (firstPart w) (first-line w h) in
         let back = last .counts t few e (lastPart l ls) (last-line l ls (rw d at (later-lines w h))) (ap (λ (a : Report). a .tail) j) in
         let ahead : x ≡ cond (matches t (firstPart w)) 1 0 = first ∙ rw front refl in
         (omega (arith, matching-parts t w d), omega arith)

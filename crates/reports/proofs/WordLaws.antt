@@ -5,16 +5,23 @@ use native.Mathlib.Nat.{add-assoc}
 use native.Mathlib.Numerals.{add-one}
 use mathlib.Core.Path.{_≡_, refl, sym, ap, _∙_}
 use mathlib.Core.List.{List, [], _∷_, _++_, append-assoc}
-use borrow.Author.Tests.{ne-eqb}
+use lib.Dec.{leb, ltb}
+use mathlib.Core.Logic.{_⊎_, inl, inr}
+use mathlib.Core.Bool.{Bool, true, false, cond, _&&_, _||_, and-false}
+use borrow.Author.Tests.{ne-eqb, ltb-true, ltb-false, leb-true, le-leb, lt-leb}
+use Rattle.stateset.proofs.Sets.{bit-zero}
+use Rattle.reports.specs.Reports.{noReport}
+use lib.ListN.{List·getD-eq-default}
 use mir.Val.{Fits}
 use mir.Syntax.{w64}
 use lib.ListN.{length, getD, take, drop, set, replicate, length-set, length-drop}
 use lib.Seq.{length-take-le, take-suc, append-snoc, set-at, getD-drop, drop-drop, paste, paste-zero, paste-suc, length-paste, take-paste, drop-paste, sets-eq}
 use Rattle.stateset.specs.Set.{bit}
 use Rattle.reports.specs.declared.report.Report.{Report}
-use Rattle.reports.specs.Words.{reportWords, loaded, pairsIn}
+use Rattle.reports.specs.Words.{reportWords, loaded, pairsIn, roomFor, loadedAt, storedAt}
 use Rattle.runs.specs.Counts.{countBelow, sumBelow}
-use Rattle.runs.proofs.CountLaws.{count-le}
+use Rattle.runs.proofs.CountLaws.{count-le, count-none, sum-le, sum-more, sum-none, sum-widen}
+use Rattle.runs.proofs.Tests.{and-fst, and-snd, neither, or-cases, tests-ext}
 
 -- Reading rows.
 
@@ -110,9 +117,7 @@ sizesOf rows n = sumBelow n (λ q. countBelow 64 (bit (getD rows q 0)))
 
 -- a row has no more than 64 members
 pub sizes-le : (rows : List ℕ) (n : ℕ) → sizesOf rows n ≤ 64 * n
-unfolding sumBelow
-sizes-le rows zero = omega arith
-sizes-le rows (suc n) = omega (arith, sizes-le rows n, count-le 64 (bit (getD rows n 0)))
+sizes-le rows n = omega (arith, sum-le n 64 (λ q. countBelow 64 (bit (getD rows q 0))) (λ q h. count-le 64 (bit (getD rows q 0))))
 
 -- the members of the first q of s rows are counted
 pub record Summing (rows : List ℕ) (s sum q : ℕ) : Type 0 where
@@ -122,8 +127,7 @@ pub record Summing (rows : List ℕ) (s sum q : ℕ) : Type 0 where
 module _ {rows : List ℕ} {s : ℕ} where
   -- no row counted yet
   pub summing-none : Summing rows s 0 0
-  unfolding sumBelow
-  summing-none = record { inside = omega arith; counted = refl }
+  summing-none = record { inside = omega arith; counted = sym (sum-none (λ q. countBelow 64 (bit (getD rows q 0)))) }
 
   module _ {sum q : ℕ} (i : Summing rows s sum q) where
     -- the sum fits a word
@@ -140,9 +144,54 @@ module _ {rows : List ℕ} {s : ℕ} where
     summing-done h = let e : q ≡ s = omega (arith, i .inside) in rw e at (i .counted)
 
 -- a report without a line end shows the pairs of its rows
-pub pairs-rows : (r : Report) {n : ℕ} → r .flag ≡ 0 → n ≡ sizesOf (r .rows) (r .s) → n ≡ pairsIn r
-pairs-rows r e f = rw e f
+pub pairs-rows : (r : Report) {n u : ℕ} → length (r .rows) ≡ 32 → r .flag ≡ 0 → u ≡ cond (ltb (r .s) 32) (r .s) 32 → n ≡ sizesOf (r .rows) u → n ≡ pairsIn r
+pairs-rows r {n} {u} long e g f = rw e (f ∙ ap (sizesOf (r .rows)) g ∙ all (ltb (r .s) 32) refl)
+  where
+    -- there is no row from 32 on
+    beyond : (q : ℕ) → 32 ≤ q → countBelow 64 (bit (getD (r .rows) q 0)) ≡ 0
+    beyond q h = let far : length (r .rows) ≤ q = rw long h in rw (List·getD-eq-default (r .rows) 0 far) (count-none 64 (bit 0) bit-zero)
+
+    all : (b : Bool) → ltb (r .s) 32 ≡ b → sizesOf (r .rows) (cond b (r .s) 32) ≡ sizesOf (r .rows) (r .s)
+    all true i = refl
+    all false i = sym (sum-widen 32 (r .s) (λ q. countBelow 64 (bit (getD (r .rows) q 0))) (ltb-false (r .s) 32 i) beyond)
 
 -- and one with a line end those from line-start
 pub pairs-tail : (r : Report) {n : ℕ} → (r .flag ≡ 0 → ⊥) → n ≡ countBelow 64 (bit (r .tail)) → n ≡ pairsIn r
 pairs-tail r e f = rw (ne-eqb (r .flag) 0 e) f
+
+-- Whether there is room.
+
+module _ (n at s : ℕ) where
+  pub room-none : (ltb 32 s || ltb n at) ≡ true → false ≡ roomFor n at s
+  room-none h = go (or-cases (ltb 32 s) (ltb n at) h)
+    where
+      go : (ltb 32 s ≡ true) ⊎ (ltb n at ≡ true) → false ≡ roomFor n at s
+      go (inl e) = let far : 32 < s = ltb-true 32 s e in rw (lt-leb s 32 far) refl
+      go (inr e) = let far : n < at = ltb-true n at e in let over : n < at + (s + 4) = omega arith in rw (lt-leb (at + (s + 4)) n over) (sym (and-false (leb s 32)))
+
+  pub room-told : (ltb 32 s || ltb n at) ≡ false → leb (s + 4) (n - at) ≡ roomFor n at s
+  room-told h =
+      let (small, low) = neither (ltb 32 s) (ltb n at) h in
+      let there : at ≤ n = ltb-false n at low in
+      rw (le-leb s 32 (ltb-false 32 s small)) (tests-ext (leb (s + 4) (n - at)) (leb (at + (s + 4)) n) (λ e. le-leb (at + (s + 4)) n (omega (arith, leb-true (s + 4) (n - at) e))) (λ e. le-leb (s + 4) (n - at) (omega (arith, leb-true (at + (s + 4)) n e))))
+
+  -- what it says
+  module _ {b : Bool} (e : b ≡ roomFor n at s) (f : b ≡ true) where
+    pub room-small : s ≤ 32
+    room-small = leb-true s 32 (and-fst (leb s 32) (leb (at + (s + 4)) n) (sym e ∙ f))
+
+    pub room-there : at + (s + 4) ≤ n
+    room-there = leb-true (at + (s + 4)) n (and-snd (leb s 32) (leb (at + (s + 4)) n) (sym e ∙ f))
+
+module _ (work : List ℕ) (at : ℕ) {b : Bool} where
+  pub load-there : (s : ℕ) {r : Report} → b ≡ roomFor (length work) at s → b ≡ true → r ≡ loaded s (drop at work) → r ≡ loadedAt work at s
+  load-there s e f g = rw (← e, f) g
+
+  pub load-none : (s : ℕ) → b ≡ roomFor (length work) at s → b ≡ false → noReport ≡ loadedAt work at s
+  load-none s e f = rw (← e, f) refl
+
+  pub store-there : (r : Report) {after : List ℕ} → b ≡ roomFor (length work) at (r .s) → b ≡ true → after ≡ take at work ++ (reportWords r ++ drop (at + (r .s + 4)) work) → after ≡ storedAt work at r
+  store-there r e f g = rw (← e, f) g
+
+  pub store-none : (r : Report) → b ≡ roomFor (length work) at (r .s) → b ≡ false → work ≡ storedAt work at r
+  store-none r e f = rw (← e, f) refl

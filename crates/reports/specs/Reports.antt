@@ -4,7 +4,7 @@ use mathlib.Core.Bool.{Bool, true, false, cond, _&&_}
 use mathlib.Core.List.{List, [], _∷_}
 use lib.Dec.{leb, ltb, eqb}
 use lib.ListN.{getD, replicate}
-use Rattle.stateset.specs.Set.{bit, word, anyBelow}
+use Rattle.stateset.specs.Set.{bit, word, anyBelow, common}
 use Rattle.pattern.specs.Meaning.{matches}
 use Rattle.pattern.specs.Moves.{states, leads, acceptedFrom}
 use Rattle.reports.specs.declared.report.Report.{Report}
@@ -12,6 +12,7 @@ use Rattle.lines.specs.Lines.{countIn}
 use Rattle.pattern.specs.Form.{Pattern}
 use Rattle.stateset.specs.Tabled.{tabled}
 use Rattle.runs.specs.Keys.{lineEnd}
+use Rattle.lines.specs.Parts.{firstPart, laterParts, partsBefore, lastPart}
 
 -- the largest count
 abbrev pub most : ℕ

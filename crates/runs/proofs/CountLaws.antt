@@ -29,6 +29,11 @@ pub count-widen : (n m : ℕ) (X : ℕ → Bool) → n ≤ m → ((k : ℕ) → 
 unfolding countBelow
 count-widen n m X h e = le-ind (λ (m : ℕ). countBelow m X ≡ countBelow n X) refl (λ m l i. rw (i, e m l) (add-zero (countBelow n X))) m h
 
+-- none has X
+pub count-none : (n : ℕ) (X : ℕ → Bool) → ((k : ℕ) → X k ≡ false) → countBelow n X ≡ 0
+unfolding countBelow
+count-none n X e = count-widen 0 n X (omega arith) (λ k h. e k)
+
 -- nothing below 0, and one number more
 pub count-zero : (X : ℕ → Bool) → countBelow 0 X ≡ 0
 unfolding countBelow
@@ -58,6 +63,11 @@ pub sum-ext : (n : ℕ) (f g : ℕ → ℕ) → ((k : ℕ) → k < n → f k ≡
 unfolding sumBelow
 sum-ext zero f g e = refl
 sum-ext (suc n) f g e = rw (sum-ext n f g (λ k h. e k (omega arith)), e n (omega arith)) refl
+
+-- numbers from n on that add nothing
+pub sum-widen : (n m : ℕ) (f : ℕ → ℕ) → n ≤ m → ((k : ℕ) → n ≤ k → f k ≡ 0) → sumBelow m f ≡ sumBelow n f
+unfolding sumBelow
+sum-widen n m f h e = le-ind (λ (m : ℕ). sumBelow m f ≡ sumBelow n f) refl (λ m l i. rw (i, e m l) (add-zero (sumBelow n f))) m h
 
 -- of numbers that are each at most k
 pub sum-le : (n k : ℕ) (f : ℕ → ℕ) → ((i : ℕ) → i < n → f i ≤ k) → sumBelow n f ≤ n * k

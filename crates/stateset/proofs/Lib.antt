@@ -6,3 +6,4 @@ pub mod Images
 pub mod Counts
 pub mod Common
 pub mod Tabled
+pub mod Gathering

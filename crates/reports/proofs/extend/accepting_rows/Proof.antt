@@ -5,7 +5,7 @@ use mathlib.Core.Path.{_≡_, refl}
 use borrow.Author.Needs.{needs}
 use Rattle.stateset.specs.Set.{word}
 use Rattle.reports.proofs.Extending.{rowMeets, row-gathered}
-use Rattle.reports.proofs.Joins.{gathered-none}
+use Rattle.stateset.proofs.Gathering.{gathered-none}
 use Rattle.reports.proofs.extend.accepting_rows.Statement.{statement}
 use Rattle.reports.proofs.extend.accepting_rows.Tie as tie
 

@@ -3,16 +3,16 @@ use Prim.Native.Nat.{_-_, _<_, _≤_}
 use native.Mathlib.Omega.{arith}
 use mathlib.Core.Path.{_≡_}
 use borrow.Author.Needs.{needs}
-use Rattle.reports.specs.Promises.{AdvancesRows}
+use Rattle.reports.specs.Promises.{rowsAdvanced}
 use Rattle.reports.proofs.Extending.{rows-none, rows-more}
 use Rattle.reports.proofs.extend.advance_rows.Statement.{statement}
 use Rattle.reports.proofs.extend.advance_rows.Tie as tie
 
 abbrev Inv-loop : tie.InvT-loop
-Inv-loop rows n key keys enter c moved₀ q₀ moved q = (q ≤ n) × AdvancesRows keys enter c rows q key moved
+Inv-loop rows n key keys enter p moved₀ q₀ moved q = (q ≤ n) × (moved ≡ rowsAdvanced keys enter p rows q key)
 
 abbrev μ-loop : tie.MeasureT-loop
-μ-loop rows n key keys enter c moved₀ q₀ moved q = n - q
+μ-loop rows n key keys enter p moved₀ q₀ moved q = n - q
 
 loop-holds : tie.Need-loop-holds Inv-loop μ-loop
 loop-holds c = search (rows-none, needs)

@@ -1,4 +1,4 @@
--- `ended`: the first line end makes the rows heads.
+-- `extend::ended`: the first line end, or one more.
 use Rattle.reports.proofs.Extending.{ended-first}
 use borrow.Author.Needs.{needs}
 use Rattle.reports.proofs.extend.ended.Statement.{statement}
@@ -10,11 +10,25 @@ ended-again-requires c κs = search needs
 returns : tie.Need-returns
 returns c = search needs
 
+rows-used-requires : tie.Need-rows-used-requires
+rows-used-requires c κs = search needs
+
 accepting-rows-requires : tie.Need-accepting-rows-requires
 accepting-rows-requires c κs = search needs
 
+set-requires : tie.Need-set-requires
+set-requires c κs = search needs
+
 returns-2 : tie.Need-returns-2
-returns-2 c = search (ended-first, needs)
+returns-2 c = search (ended-first)
 
 pub ended-spec : {M : Type 1} → statement M
-ended-spec = tie.close (tie.spec ended-again-requires returns accepting-rows-requires returns-2)
+ended-spec =
+    tie.close
+    (tie.spec
+    ended-again-requires
+    returns
+    rows-used-requires
+    accepting-rows-requires
+    set-requires
+    returns-2)

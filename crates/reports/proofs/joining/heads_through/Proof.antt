@@ -5,7 +5,8 @@ use mathlib.Core.Path.{_≡_}
 use lib.ListN.{getD}
 use Rattle.stateset.specs.Set.{word, common}
 use borrow.Author.Needs.{needs}
-use Rattle.reports.proofs.Joins.{gathered-none, gathered-next}
+use Rattle.stateset.proofs.Gathering.{gathered-none}
+use Rattle.reports.proofs.Joins.{gathered-next}
 use Rattle.reports.proofs.joining.heads_through.Statement.{statement}
 use Rattle.reports.proofs.joining.heads_through.Tie as tie
 

@@ -4,19 +4,19 @@ use native.Mathlib.Omega.{arith}
 use mathlib.Core.Path.{_≡_}
 use lib.ListN.{getD}
 use Rattle.stateset.specs.Set.{word}
-use Rattle.reports.proofs.Joins.{filled, filled-none, filled-more}
+use Rattle.stateset.proofs.Gathering.{begun, begun-none, begun-more}
 use Rattle.reports.proofs.joining.rows_through.Statement.{statement}
 use Rattle.reports.proofs.joining.rows_through.Tie as tie
 use Rattle.reports.specs.Reports.{onward}
 
 abbrev Inv-loop : tie.InvT-loop
-Inv-loop s a b n rows₀ q₀ rows q = (q ≤ n) × (rows ≡ filled (λ k. word s (onward s (getD a k 0) b)) q)
+Inv-loop s a b n rows₀ q₀ rows q = (q ≤ n) × (rows ≡ begun (λ k. word s (onward s (getD a k 0) b)) 32 q)
 
 abbrev μ-loop : tie.MeasureT-loop
 μ-loop s a b n rows₀ q₀ rows q = n - q
 
 loop-holds : tie.Need-loop-holds Inv-loop μ-loop
-loop-holds c = let a = c .args in (omega arith, filled-none (λ k. word (a .s) (onward (a .s) (getD (a .a .now) k 0) (a .b .now))))
+loop-holds c = let a = c .args in (omega arith, begun-none (λ k. word (a .s) (onward (a .s) (getD (a .a .now) k 0) (a .b .now))) 32)
 
 mul-onward-from : tie.Need-mul-onward-from Inv-loop μ-loop
 mul-onward-from c = omega arith
@@ -44,7 +44,7 @@ loop-again c =
     let l = c .before .before .before .loop in
     let a = c .before .before .before .before .args in (
       omega arith,
-      rw (l .inv .1, c .onward-from .ensures) (filled-more (λ k. word (a .s) (onward (a .s) (getD (a .a .now) k 0) (a .b .now))) (l .q) (omega arith)),
+      rw (l .inv .1, c .onward-from .ensures) (begun-more (λ k. word (a .s) (onward (a .s) (getD (a .a .now) k 0) (a .b .now))) 32 (l .q) (omega arith)),
     )
 
 returns : tie.Need-returns Inv-loop μ-loop

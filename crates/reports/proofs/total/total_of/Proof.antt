@@ -1,7 +1,7 @@
 -- `total::total_of`: the first line, those between, and the last part.
 use native.Mathlib.Omega.{arith}
+use Rattle.reports.proofs.TotalLaws.{total-open, total-over, total-lines, total-many}
 use Rattle.lines.proofs.Tallying.{at-most-one}
-use Rattle.reports.proofs.TotalLaws.{total-open, total-over, total-many, total-lines}
 use borrow.Author.Needs.{needs}
 use Rattle.reports.proofs.total.total_of.Statement.{statement}
 use Rattle.reports.proofs.total.total_of.Tie as tie
@@ -21,6 +21,9 @@ returns c = search (total-open)
 returns-2 : tie.Need-returns-2
 returns-2 c = search (total-over)
 
+set-requires : tie.Need-set-requires
+set-requires c κs = search needs
+
 meets-requires-2 : tie.Need-meets-requires-2
 meets-requires-2 c κs = search needs
 
@@ -31,7 +34,7 @@ last-line-requires : tie.Need-last-line-requires
 last-line-requires c κs = search needs
 
 add-ends : tie.Need-add-ends
-add-ends c = omega (arith, at-most-one (c .before .before .meets2 .result) (c .before .chosen2 .ensures), c .last-line .ensures .small)
+add-ends c = search needs
 
 sub-if3 : tie.Need-sub-if3
 sub-if3 c = search needs
@@ -54,6 +57,7 @@ total-of-spec =
     chosen-requires
     returns
     returns-2
+    set-requires
     meets-requires-2
     chosen-requires-2
     last-line-requires

@@ -1,66 +1,20 @@
--- `load`: the rows, then the four words behind them.
+-- `words::load`: where there is room for all words.
+use Rattle.reports.proofs.WordLaws.{room-small, room-there, load-there, load-none}
 use borrow.Author.Needs.{needs}
-use Rattle.reports.proofs.WordLaws.{loaded-all}
 use Rattle.reports.proofs.words.load.Statement.{statement}
 use Rattle.reports.proofs.words.load.Tie as tie
 
-load-rows-requires : tie.Need-load-rows-requires
-load-rows-requires c κs = search needs
+room-for-requires : tie.Need-room-for-requires
+room-for-requires c κs = search needs
 
-add-end : tie.Need-add-end
-add-end c = search needs
-
-mul-t7 : tie.Need-mul-t7
-mul-t7 c = search needs
-
-shared-slice-read-t9 : tie.Need-shared-slice-read-t9
-shared-slice-read-t9 c = search needs
-
-add-t10 : tie.Need-add-t10
-add-t10 c = search needs
-
-mul-t11 : tie.Need-mul-t11
-mul-t11 c = search needs
-
-shared-slice-read-t13 : tie.Need-shared-slice-read-t13
-shared-slice-read-t13 c = search needs
-
-add-t14 : tie.Need-add-t14
-add-t14 c = search needs
-
-mul-t15 : tie.Need-mul-t15
-mul-t15 c = search needs
-
-shared-slice-read-t17 : tie.Need-shared-slice-read-t17
-shared-slice-read-t17 c = search needs
-
-add-t18 : tie.Need-add-t18
-add-t18 c = search needs
-
-mul-t19 : tie.Need-mul-t19
-mul-t19 c = search needs
-
-shared-slice-read-t21 : tie.Need-shared-slice-read-t21
-shared-slice-read-t21 c = search needs
+load-words-requires : tie.Need-load-words-requires
+load-words-requires c κs = (search (room-small), search (room-there))
 
 returns : tie.Need-returns
-returns c = search (loaded-all)
+returns c = search (load-there)
+
+returns-2 : tie.Need-returns-2
+returns-2 c = search (load-none)
 
 pub load-spec : {M : Type 1} → statement M
-load-spec =
-    tie.close
-    (tie.spec
-    load-rows-requires
-    add-end
-    mul-t7
-    shared-slice-read-t9
-    add-t10
-    mul-t11
-    shared-slice-read-t13
-    add-t14
-    mul-t15
-    shared-slice-read-t17
-    add-t18
-    mul-t19
-    shared-slice-read-t21
-    returns)
+load-spec = tie.close (tie.spec room-for-requires load-words-requires returns returns-2)

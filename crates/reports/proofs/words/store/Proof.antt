@@ -1,72 +1,24 @@
--- `store`: the rows, then the four words behind them.
+-- `words::store`: where there is room for all words.
+use Rattle.reports.proofs.WordLaws.{room-small, room-there, store-there, store-none}
 use borrow.Author.Needs.{needs}
-use native.Mathlib.Omega.{arith}
-use lib.ListN.{length-set}
-use Rattle.reports.proofs.WordLaws.{stored-all}
 use Rattle.reports.proofs.words.store.Statement.{statement}
 use Rattle.reports.proofs.words.store.Tie as tie
 
-store-rows-requires : tie.Need-store-rows-requires
-store-rows-requires c κs = search needs
+room-for-requires : tie.Need-room-for-requires
+room-for-requires c κs = search needs
 
-add-end : tie.Need-add-end
-add-end c = search needs
-
-mul-work : tie.Need-mul-work
-mul-work c = search needs
-
-slice-write-work : tie.Need-slice-write-work
-slice-write-work c = search needs
-
-add-work : tie.Need-add-work
-add-work c = search needs
-
-mul-work-2 : tie.Need-mul-work-2
-mul-work-2 c = search needs
-
-slice-write-work-2 : tie.Need-slice-write-work-2
-slice-write-work-2 c = simp length-set (omega arith)
-
-add-work-2 : tie.Need-add-work-2
-add-work-2 c = search needs
-
-mul-work-3 : tie.Need-mul-work-3
-mul-work-3 c = search needs
-
-slice-write-work-3 : tie.Need-slice-write-work-3
-slice-write-work-3 c = simp length-set (omega arith)
-
-add-work-3 : tie.Need-add-work-3
-add-work-3 c = search needs
-
-mul-work-4 : tie.Need-mul-work-4
-mul-work-4 c = search needs
-
-slice-write-work-4 : tie.Need-slice-write-work-4
-slice-write-work-4 c = simp length-set (omega arith)
+store-words-requires : tie.Need-store-words-requires
+store-words-requires c κs = (search (room-small), search (room-there))
 
 same-length : tie.Need-same-length
 same-length c = search needs
 
 returns : tie.Need-returns
-returns c = search (stored-all, needs)
+returns c = search (store-there)
+
+returns-2 : tie.Need-returns-2
+returns-2 c = search (store-none)
 
 pub store-spec : {M : Type 1} → statement M
 store-spec =
-    tie.close
-    (tie.spec
-    store-rows-requires
-    add-end
-    mul-work
-    slice-write-work
-    add-work
-    mul-work-2
-    slice-write-work-2
-    add-work-2
-    mul-work-3
-    slice-write-work-3
-    add-work-3
-    mul-work-4
-    slice-write-work-4
-    same-length
-    returns)
+    tie.close (tie.spec room-for-requires store-words-requires same-length returns returns-2)
