@@ -2,18 +2,20 @@
 use Prim.Native.Nat.{ℕ, _+_, _<_, _≤_}
 use native.Mathlib.Omega.{arith}
 use mathlib.Core.Path.{_≡_, refl, sym, _∙_}
-use mathlib.Core.Bool.{Bool, true, false, not, xor, Bool·beq, or-true, or-false, and-false}
+use mathlib.Core.Bool.{Bool, true, false, not, _&&_, xor, Bool·beq, or-true, or-false, and-false}
 use mathlib.Core.List.{List}
 use lib.Bits.{bitOr}
-use lib.Dec.{leb}
+use lib.Dec.{leb, eqb}
 use lib.ListN.{getD, set}
-use borrow.Author.Tests.{le-leb, lt-leb, eq-eqb, ne-eqb}
+use borrow.Author.Tests.{le-leb, lt-leb, eq-eqb, ne-eqb, eqb-true}
 use Rattle.brackets.specs.declared.element.Element as declared
 use Rattle.brackets.specs.Form.{Element, byte, range}
 use Rattle.brackets.specs.Sets.{inElement}
 use Rattle.brackets.specs.Promises.{withElement, hasKey, withKey, elementOf, Known}
 use Rattle.brackets.proofs.Entries.{partly, entry-first, entry-none, entry-set, entry-kept, entry-last}
 use Rattle.brackets.specs.Answers.{mapWith}
+use Rattle.runs.specs.Keys.{lineKey}
+use Rattle.runs.proofs.KeyLaws.{key-test}
 
 -- a key that an element has, and one that it has not
 module _ (e : Element) (k : ℕ) where
@@ -73,16 +75,8 @@ module _ (e : declared.Element) where
   pub element-added : (d : declared.Element) (before after : List Bool) → e ≡ d → after ≡ mapWith (withElement (elementOf d)) 0 before → after ≡ mapWith (withElement (elementOf e)) 0 before
   element-added d before after h g = rw h g
 
--- a key of a set
+-- whether a key is in a set
 module _ (s : List Bool) (negated : Bool) (k : ℕ) where
-  pub no-key-zero : k ≡ 0 → false ≡ hasKey s negated k
-  unfolding hasKey
-  no-key-zero h = rw h
-
-  pub no-key-line-end : k ≡ 10 → false ≡ hasKey s negated k
-  unfolding hasKey
-  no-key-line-end h = rw h
-
   unlike : (a b : Bool) → not (Bool·beq a b) ≡ xor b a
   unfolding xor
   unlike true true = refl
@@ -90,12 +84,13 @@ module _ (s : List Bool) (negated : Bool) (k : ℕ) where
   unlike false true = refl
   unlike false false = refl
 
-  pub some-key : k < 256 → (k ≡ 0 → ⊥) → (k ≡ 10 → ⊥) → not (Bool·beq (getD s k false) negated) ≡ hasKey s negated k
+  pub key-tests : k < 256 → not (eqb k 0) && (not (eqb k 10) && not (Bool·beq (getD s k false) negated)) ≡ hasKey s negated k
   unfolding hasKey
-  some-key h z n =
-      let l : 1 ≤ k = omega arith in
-      let g : k ≤ 255 = omega arith in
-      rw (le-leb 1 k l, le-leb k 255 g, ne-eqb k 10 n) (unlike (getD s k false) negated)
+  key-tests h = go (eqb k 0) refl
+    where
+      go : (t : Bool) → eqb k 0 ≡ t → not t && (not (eqb k 10) && not (Bool·beq (getD s k false) negated)) ≡ lineKey k && xor negated (getD s k false)
+      go true e = rw (eqb-true k 0 e)
+      go false e = rw (← key-test k h e, unlike)
 
 -- what a set puts into the words of its keys
 module _ (s : List Bool) (negated : Bool) (states : ℕ) where

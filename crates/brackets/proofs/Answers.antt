@@ -1,14 +1,14 @@
 -- Answers of the reader: the place and the table that belong to what was parsed.
 use Prim.Native.Nat.{ℕ, _≤_, _-_}
 use native.Mathlib.Omega.{arith}
-use mathlib.Core.Path.{_≡_, refl, ap}
+use mathlib.Core.Path.{_≡_, ap}
 use mathlib.Core.List.{List}
 use lib.ListN.{length, drop, length-drop}
 use Rattle.brackets.specs.declared.atom.AtomRead.{AtomRead}
 use Rattle.brackets.specs.declared.atom.AtomRead.the-variants.{At, Fault}
 use Rattle.brackets.specs.Form.{Atom}
 use Rattle.brackets.specs.Brackets.{Parsed, parsed, fault}
-use Rattle.brackets.specs.Answers.{placeBehind, keysWith, keysBehind}
+use Rattle.brackets.specs.Answers.{placeBehind, keysBehind}
 
 module _ (o : Parsed Atom) where
   -- a fault leaves the table

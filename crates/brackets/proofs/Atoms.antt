@@ -2,9 +2,8 @@
 use Prim.Native.Nat.{ℕ, _+_, _<_, _≤_}
 use native.Mathlib.Omega.{arith}
 use native.Mathlib.Numerals.{add-one}
-use native.Mathlib.Nat.{add-zero}
 use native.Mathlib.Decide.{decLe}
-use mathlib.Core.Path.{_≡_, refl, sym, ap, _∙_}
+use mathlib.Core.Path.{_≡_, sym, _∙_}
 use mathlib.Core.Bool.{Bool, true, false, not, _||_}
 use mathlib.Core.List.{List}
 use lib.Dec.{eqb}
@@ -17,6 +16,7 @@ use Rattle.brackets.specs.Form.{Atom, marks, dot, plain, escaped}
 use Rattle.brackets.specs.Sets.{setOf, named}
 use Rattle.brackets.specs.Brackets.{parsed, fault, at, bracketWithin, readAtomBy, readAtom, atomAt}
 use Rattle.brackets.specs.Answers.{placeBehind, keysWith, keysBehind}
+use Rattle.brackets.proofs.Bytes.{first-at}
 use Rattle.brackets.proofs.Answers.{same-place, same-table, behind-place}
 use Rattle.runs.specs.Keys.{member}
 use Rattle.runs.proofs.Tests.{torn}
@@ -52,7 +52,7 @@ module _ (s : List ℕ) (p : ℕ) where
 
   module _ (b : ℕ) (e : b ≡ getD s p 0) where
     front : at 0 (drop p s) ≡ b
-    front = getD-drop p s 0 0 ∙ rw add-zero (sym e)
+    front = first-at s p ∙ sym e
 
     module _ (h : b ≡ 46) where
       atom-dot : atomAt s p ≡ parsed dot (drop (p + 1) s)
@@ -91,7 +91,11 @@ module _ (s : List ℕ) (p : ℕ) where
 
             -- a mark is no 0, so it stands inside
             pub escaped-place : At (p + 2) ≡ placeBehind (length s) (atomAt s p)
-            escaped-place = elim (decLe (length s) (p + 1)) [ yes l ↦ torn (member x marks) (sym g ∙ not-false m k) (rw (f, List·getD-eq-default s 0 l)) | no l ↦ ends (escaped x) 2 atom-escaped (omega arith) ]
+            escaped-place =
+                elim (decLe (length s) (p + 1)) [
+                  | yes l ↦ torn (member x marks) (sym g ∙ not-false m k) (rw (f, List·getD-eq-default s 0 l))
+                  | no l ↦ ends (escaped x) 2 atom-escaped (omega arith)
+                ]
 
             -- an escaped byte has the keys of a plain one
             pub escaped-table : (states : ℕ) (before after : List ℕ) → after ≡ keysWith (plain x) states before → after ≡ keysBehind (atomAt s p) states before

@@ -2,14 +2,14 @@
 use Prim.Native.Nat.{ℕ, _≤_}
 use native.Mathlib.Omega.{arith}
 use mathlib.Core.Path.{_≡_, refl}
-use mathlib.Core.Bool.{Bool, true, false, not, _&&_}
-use mathlib.Core.List.{List, [], _∷_, _++_}
+use mathlib.Core.Bool.{true, false, not}
+use mathlib.Core.List.{List, [], _++_}
 use lib.Dec.{eqb}
 use lib.ListN.{length}
 use borrow.Author.Tests.{not-true}
 use Rattle.runs.specs.Keys.{member, lineKey, isLine}
 use Rattle.runs.proofs.Tests.{and-parts}
-use Rattle.runs.proofs.KeyLaws.{other-than, line-none, line-cons, line-member, key-is}
+use Rattle.runs.proofs.KeyLaws.{other-than, line-cons, line-member, key-is}
 use Rattle.brackets.specs.Form.{Atom, plain, dot, escaped, bracket, marks, writeAtom, formedAtom}
 use Rattle.brackets.specs.Brackets.{parsed, at, readAtomBy, readAtom}
 use Rattle.brackets.proofs.BracketsBack.{bracket-back, bracket-clean}

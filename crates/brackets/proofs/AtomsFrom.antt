@@ -2,7 +2,8 @@
 use Prim.Native.Nat.{ℕ}
 use native.Mathlib.Omega.{arith}
 use mathlib.Core.Path.{_≡_, refl, _∙_}
-use mathlib.Core.Bool.{Bool, true, false, _||_, cond}
+use mathlib.Core.Logic.{⊎-elim}
+use mathlib.Core.Bool.{true, _||_, cond}
 use mathlib.Core.List.{List, [], _∷_, _++_}
 use lib.Dec.{eqb}
 use lib.ListN.{drop}
@@ -11,8 +12,8 @@ use Rattle.runs.specs.Keys.{member, isLine}
 use Rattle.runs.proofs.Tests.{clash, neither}
 use Rattle.runs.proofs.KeyLaws.{line-drop, line-first}
 use Rattle.brackets.specs.Form.{Atom, plain, dot, escaped, marks, writeAtom, formedAtom}
-use Rattle.brackets.specs.Brackets.{parsed, fault, at, readBracket, readAtomBy, readAtom}
-use Rattle.brackets.proofs.Parses.{same-parsed, test-parsed, untest-parsed, front}
+use Rattle.brackets.specs.Brackets.{Parsed, parsed, fault, at, readBracket, readAtomBy, readAtom}
+use Rattle.brackets.proofs.Parses.{same-parsed, one-parsed, test-parsed, untest-parsed, front}
 use Rattle.brackets.proofs.BracketsFrom.{bracket-from}
 
 -- what an atom that was read is
@@ -39,16 +40,27 @@ plain-from (x ∷ l) rest a h p =
     rw (← same, ← after) (refl, rw (line-first x l h, neither (eqb x 0) (member x marks) t .1))
 
 -- an atom that was read is what the bytes begin with, and of the form
-pub atom-from : (l rest : List ℕ) (a : Atom) → isLine l ≡ true → readAtom l ≡ parsed a rest → Atom-from l a rest
-unfolding readAtom readAtomBy writeAtom formedAtom
-atom-from l rest a h p = go (eqb (at 0 l) 46) (eqb (at 0 l) 91) (eqb (at 0 l) 92) refl refl refl p
-  where
-    go : (x y z : Bool) → eqb (at 0 l) 46 ≡ x → eqb (at 0 l) 91 ≡ y → eqb (at 0 l) 92 ≡ z → cond x (parsed dot (drop 1 l)) (cond y (readBracket (drop 1 l)) (cond z (cond (member (at 1 l) marks) (parsed (escaped (at 1 l)) (drop 2 l)) fault) (cond (eqb (at 0 l) 0 || member (at 0 l) marks) fault (parsed (plain (at 0 l)) (drop 1 l))))) ≡ parsed a rest → Atom-from l a rest
-    go true y z d b e q =
-        let (same, after) = same-parsed q in
-        rw (← same, ← after) (front l 46 (omega arith) d, refl)
-    go false true z d b e q =
-        let (there, formed) = bracket-from (drop 1 l) rest a (line-drop 1 l h) q in
-        (front l 91 (omega arith) b ∙ there, formed)
-    go false false true d b e q = escaped-from l rest a e q
-    go false false false d b e q = plain-from l rest a h q
+module _ (l rest : List ℕ) (a : Atom) (h : isLine l ≡ true) where
+  dot-from : eqb (at 0 l) 46 ≡ true → _≡_ {A = Parsed Atom} (parsed dot (drop 1 l)) (parsed a rest) → Atom-from l a rest
+  unfolding writeAtom formedAtom
+  dot-from d q = let (same, after) = same-parsed q in rw (← same, ← after) (front l 46 (omega arith) d, refl)
+
+  open-from : eqb (at 0 l) 91 ≡ true → readBracket (drop 1 l) ≡ parsed a rest → Atom-from l a rest
+  open-from b q =
+      let (there, formed) = bracket-from (drop 1 l) rest a (line-drop 1 l h) q in
+      (front l 91 (omega arith) b ∙ there, formed)
+
+  pub atom-from : readAtom l ≡ parsed a rest → Atom-from l a rest
+  unfolding readAtom readAtomBy
+  atom-from p = ⊎-elim (λ (d, q). dot-from d q) (λ (d, q). no-dot q) (one-parsed (eqb (at 0 l) 46) _ _ a rest p)
+    where
+      escapedOrPlain : Parsed Atom
+      escapedOrPlain =
+          cond (eqb (at 0 l) 92) (cond (member (at 1 l) marks) (parsed (escaped (at 1 l)) (drop 2 l)) fault)
+          (cond (eqb (at 0 l) 0 || member (at 0 l) marks) fault (parsed (plain (at 0 l)) (drop 1 l)))
+
+      no-open : escapedOrPlain ≡ parsed a rest → Atom-from l a rest
+      no-open q = ⊎-elim (λ (e, r). escaped-from l rest a e r) (λ (e, r). plain-from l rest a h r) (one-parsed (eqb (at 0 l) 92) _ _ a rest q)
+
+      no-dot : cond (eqb (at 0 l) 91) (readBracket (drop 1 l)) escapedOrPlain ≡ parsed a rest → Atom-from l a rest
+      no-dot q = ⊎-elim (λ (b, r). open-from b r) (λ (b, r). no-open r) (one-parsed (eqb (at 0 l) 91) _ _ a rest q)

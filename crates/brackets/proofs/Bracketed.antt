@@ -1,30 +1,26 @@
 -- The reading of a bracket: one law for each way out of the code.
 use Prim.Native.Nat.{ℕ, zero, suc, _+_, _-_, _<_, _≤_}
 use native.Mathlib.Omega.{arith}
-use native.Mathlib.Nat.{add-zero}
 use mathlib.Core.Path.{_≡_, refl, sym, ap, _∙_}
 use mathlib.Core.Bool.{Bool, true, false, not, _&&_, cond, xor, and-false, or-false, or-assoc}
 use mathlib.Core.List.{List, [], _∷_}
 use lib.Dec.{eqb}
 use lib.ListN.{length, getD, drop, replicate, length-drop, drop-of-length-le}
-use lib.Seq.{getD-drop}
-use borrow.Author.Tests.{eq-eqb, ne-eqb}
+use mir.Val.{boolByte}
 use Rattle.brackets.specs.declared.atom.AtomRead.{AtomRead}
 use Rattle.brackets.specs.declared.atom.AtomRead.the-variants.{At, Fault}
 use Rattle.brackets.specs.declared.element.Element as declared
 use Rattle.brackets.specs.declared.element.ElementRead as element
-use Rattle.brackets.specs.Form.{Element, bracket}
+use Rattle.brackets.specs.Form.{Element, bracket, Atom}
 use Rattle.brackets.specs.Sets.{inElement, inElements, named}
-use Rattle.brackets.specs.Brackets.{Parsed, parsed, fault, next, done, readElement, readElements, readBracket}
-use Rattle.brackets.specs.Promises.{withElement, withElements, withKey, elementOf, elementShown, elementsFrom, bracketFrom, ElementsDone}
+use Rattle.brackets.specs.Brackets.{Parsed, parsed, fault, next, done, readElement, readElements, readBracket, at}
+use Rattle.brackets.specs.Promises.{withElement, withElements, withKey, elementOf, elementShown, elementsFrom, ElementsDone}
+use Rattle.brackets.proofs.Bytes.{first-at}
 use Rattle.brackets.proofs.Entries.{with-same, with-with, with-none}
 use Rattle.brackets.proofs.Stored.{set-stored, filled-set}
 use Rattle.brackets.proofs.Taken.{Shown, shown-fault, shown-found, none-read}
 use Rattle.runs.proofs.Tests.{clash}
 use Rattle.brackets.specs.Answers.{placeBehind, mapWith, keysBehind}
-
-pub closes-later : (first : Bool) (b : ℕ) → first ≡ false → eqb b 93 ≡ not first && eqb b 93
-closes-later first b h = rw h
 
 -- one element and then others
 module _ (set : List Bool) where
@@ -34,7 +30,9 @@ module _ (set : List Bool) where
 
   elements-more : (e : Element) (es : List Element) → mapWith (withElements es) 0 (mapWith (withElement e) 0 set) ≡ mapWith (withElements (e ∷ es)) 0 set
   unfolding withElements withElement inElements
-  elements-more e es = with-with (withElement e) (withElements es) 0 set ∙ with-same (λ k x. withElements es k (withElement e k x)) (withElements (e ∷ es)) (λ k x. or-assoc x (inElement k e) (inElements k es)) 0 set
+  elements-more e es =
+      with-with (withElement e) (withElements es) 0 set
+      ∙ with-same (λ k x. withElements es k (withElement e k x)) (withElements (e ∷ es)) (λ k x. or-assoc x (inElement k e) (inElements k es)) 0 set
 
 -- there are no elements where nothing is
 elements-empty : (f : ℕ) (first : Bool) → readElements f first [] ≡ fault
@@ -57,25 +55,31 @@ module _ (s : List ℕ) (start : ℕ) (before : List Bool) (p : ℕ) (first : Bo
   unfolding ElementsDone
   going-end h = g .whole now Fault (rw (drop-of-length-le s h, elements-empty (g .bound) first) refl)
 
-  module _ (low : p < length s) (b : ℕ) (q : b ≡ getD s p 0) (t : Bool) (e : t ≡ not first && eqb b 93) where
+  module _ (low : p < length s) (b : ℕ) (q : b ≡ getD s p 0) where
     less : g .bound ≡ suc (g .bound - 1)
     less = let h : length s ≤ g .bound + p = g .enough in omega arith
 
-    turn-at : (n f : ℕ) → n ≡ suc f → readElements n first (drop p s) ≡ cond t (parsed [] (drop 1 (drop p s))) (next (readElement first (drop p s)) (λ x m. next (readElements f false m) (λ es. done (x ∷ es))))
-    unfolding readElements
-    turn-at n f h = rw (h, getD-drop p s 0 0, add-zero p, ← q, ← e)
+    -- one turn, and f more at the most
+    abbrev Turn : ℕ → Parsed (List Element)
+    Turn f =
+        cond (not first && eqb b 93) (parsed [] (drop 1 (drop p s)))
+        (next (readElement first (drop p s)) (λ x m. next (readElements f false m) (λ es. done (x ∷ es))))
 
-    turn : readElements (g .bound) first (drop p s) ≡ cond t (parsed [] (drop 1 (drop p s))) (next (readElement first (drop p s)) (λ x m. next (readElements (g .bound - 1) false m) (λ es. done (x ∷ es))))
+    turn-at : (n f : ℕ) → n ≡ suc f → readElements n first (drop p s) ≡ Turn f
+    unfolding readElements
+    turn-at n f h = rw (h, first-at s p, ← q)
+
+    turn : readElements (g .bound) first (drop p s) ≡ Turn (g .bound - 1)
     turn = turn-at (g .bound) (g .bound - 1) less
 
-    pub going-closed : t ≡ true → ElementsDone (length s) (elementsFrom start s) before now (At (p + 1))
+    pub going-closed : not first && eqb b 93 ≡ true → ElementsDone (length s) (elementsFrom start s) before now (At (p + 1))
     unfolding ElementsDone
     going-closed h = g .whole now (At (p + 1)) (rw (turn, h) (ap At place, elements-none now))
       where
         place : p + 1 ≡ length s - length (drop 1 (drop p s))
         place = rw (length-drop 1 (drop p s), length-drop p s) (omega arith)
 
-    module _ (h : t ≡ false) (r : element.ElementRead) (k : r ≡ elementShown p (readElement first (drop p s))) where
+    module _ (h : not first && eqb b 93 ≡ false) (r : element.ElementRead) (k : r ≡ elementShown p (readElement first (drop p s))) where
       pub going-fault : r ≡ element.ElementRead.Fault → ElementsDone (length s) (elementsFrom start s) before now Fault
       unfolding ElementsDone
       going-fault f = g .whole now Fault (rw (turn, h, shown-fault first s p r k f) refl)
@@ -98,9 +102,10 @@ module _ (s : List ℕ) (start : ℕ) (before : List Bool) (p : ℕ) (first : Bo
           more fault last b x = x
 
 -- a set that has the bytes of some elements
-bracket-set : (es : List Element) (s : List Bool) (negated : Bool) → s ≡ mapWith (withElements es) 0 (replicate 256 false) → (k : ℕ) → k < 256 → xor negated (getD s k false) ≡ named (bracket negated es) k
-unfolding withElements named
-bracket-set es s negated e k h = rw (e, filled-set (withElements es) k h)
+module _ (es : List Element) (s : List Bool) (negated : Bool) (e : s ≡ mapWith (withElements es) 0 (replicate 256 false)) where
+  bracket-set : (k : ℕ) → k < 256 → xor negated (getD s k false) ≡ named (bracket negated es) k
+  unfolding withElements named
+  bracket-set k h = rw (e, filled-set (withElements es) k h)
 
 -- a set that was filled, or not
 module _ (l : List ℕ) (start : ℕ) (s : List Bool) (r : AtomRead) (d : ElementsDone (length l) (elementsFrom start l) (replicate 256 false) s r) where
@@ -127,43 +132,37 @@ module _ (l : List ℕ) (start : ℕ) (s : List Bool) (r : AtomRead) (d : Elemen
       go (parsed es rest) (f, g) = clash (cc)
       go fault f = refl
 
-  -- and what it puts into the table
-  module _ (negated : Bool) where
-    pub set-fault : r ≡ Fault → bracketFrom negated start l ≡ fault
+-- a bracket by whether it is negated
+unfoldable pub bracketFrom : Bool → List ℕ → Parsed Atom
+bracketFrom negated l = next (elementsFrom (boolByte negated) l) (λ es. done (bracket negated es))
+
+pub bracket-by-start : (l : List ℕ) → readBracket l ≡ bracketFrom (eqb (at 0 l) 94) l
+unfolding readBracket bracketFrom elementsFrom
+bracket-by-start l = go (eqb (at 0 l) 94)
+  where
+    go : (t : Bool) → cond t (next (elementsFrom 1 l) (λ es. done (bracket true es))) (next (elementsFrom 0 l) (λ es. done (bracket false es))) ≡ bracketFrom t l
+    go true = refl
+    go false = refl
+
+-- the bytes after `[`: whether they are negated, the set that the elements fill, and what it puts into the table
+module _ (l : List ℕ) (b : ℕ) (e : b ≡ getD l 0 0) where
+  text-read : readBracket l ≡ bracketFrom (eqb b 94) l
+  text-read = bracket-by-start l ∙ rw (← e)
+
+  module _ (s : List Bool) (r : AtomRead) (d : ElementsDone (length l) (elementsFrom (boolByte (eqb b 94)) l) (replicate 256 false) s r) where
+    pub text-fault : r ≡ Fault → readBracket l ≡ fault
     unfolding bracketFrom
-    set-fault h = rw (not-filled h)
+    text-fault h = rw (text-read, not-filled l (boolByte (eqb b 94)) s r d h)
 
     module _ (end : ℕ) (h : r ≡ At end) where
-      pub set-place : At end ≡ placeBehind (length l) (bracketFrom negated start l)
+      fill : Filled l (boolByte (eqb b 94)) s r d end
+      fill = filled l (boolByte (eqb b 94)) s r d end h
+
+      pub text-place : At end ≡ placeBehind (length l) (readBracket l)
       unfolding bracketFrom
-      set-place = let f = filled end h in rw (f .parse) (f .place)
+      text-place = rw (text-read, fill .parse) (fill .place)
 
-      pub set-table : (states : ℕ) (before after : List ℕ) → after ≡ mapWith (withKey s negated states) 0 before → after ≡ keysBehind (bracketFrom negated start l) states before
+      pub text-table : (states : ℕ) (before after : List ℕ) → after ≡ mapWith (withKey s (eqb b 94) states) 0 before → after ≡ keysBehind (readBracket l) states before
       unfolding bracketFrom
-      set-table states before after e =
-          let f = filled end h in
-          rw (f .parse) (e ∙ set-stored (bracket negated (f .elements)) s negated (bracket-set (f .elements) s negated (f .full)) states before)
-
--- the bytes after `[`
-module _ (l : List ℕ) (b : ℕ) (e : b ≡ getD l 0 0) where
-  module _ (h : b ≡ 94) where
-    negated : bracketFrom true 1 l ≡ readBracket l
-    unfolding readBracket bracketFrom elementsFrom
-    negated = rw (← e, eq-eqb b 94 h)
-
-    pub negated-place : (r : AtomRead) → r ≡ placeBehind (length l) (bracketFrom true 1 l) → r ≡ placeBehind (length l) (readBracket l)
-    negated-place r d = rw (← negated) d
-
-    pub negated-table : (states : ℕ) (before after : List ℕ) → after ≡ keysBehind (bracketFrom true 1 l) states before → after ≡ keysBehind (readBracket l) states before
-    negated-table states before after d = rw (← negated) d
-
-  module _ (h : b ≡ 94 → ⊥) where
-    not-negated : bracketFrom false 0 l ≡ readBracket l
-    unfolding readBracket bracketFrom elementsFrom
-    not-negated = rw (← e, ne-eqb b 94 h)
-
-    pub plain-place : (r : AtomRead) → r ≡ placeBehind (length l) (bracketFrom false 0 l) → r ≡ placeBehind (length l) (readBracket l)
-    plain-place r d = rw (← not-negated) d
-
-    pub plain-table : (states : ℕ) (before after : List ℕ) → after ≡ keysBehind (bracketFrom false 0 l) states before → after ≡ keysBehind (readBracket l) states before
-    plain-table states before after d = rw (← not-negated) d
+      text-table states before after f =
+          rw (text-read, fill .parse) (f ∙ set-stored (bracket (eqb b 94) (fill .elements)) s (eqb b 94) (bracket-set (fill .elements) s (eqb b 94) (fill .full)) states before)

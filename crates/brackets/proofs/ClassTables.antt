@@ -1,77 +1,73 @@
--- Tables: a test that all entries pass, and the table of the classes. That is a list that a rule gives, and one computation
--- compares it with the code's.
-use Prim.Native.Nat.{ℕ, zero, suc, _+_, _*_, _/_, _%_, _<_}
+-- The table of the twelve classes, and the tests that all of them pass: each is one computation over the table.
+use Prim.Native.Nat.{ℕ, zero, suc, _+_, _<_}
 use native.Mathlib.Omega.{arith}
 use native.Mathlib.Nat.{not-suc-le-zero, add-zero, zero-add}
-use mathlib.Core.Path.{_≡_, ap, _∙_}
-use mathlib.Core.Bool.{Bool, true, _&&_, cond}
-use mathlib.Core.List.{List, [], _∷_}
-use lib.Dec.{eqb}
+use mathlib.Core.Path.{_≡_, refl, sym, ap, _∙_}
+use mathlib.Core.Bool.{true}
+use mathlib.Core.List.{List, [], _∷_, _++_}
+use mathlib.Core.Option.{some}
+use lib.Dec.{leb}
 use lib.ListN.{length, getD}
+use borrow.Author.Tests.{leb-true}
 use Rattle.brackets.specs.declared.class.Class.{Class}
-use Rattle.brackets.specs.Promises.{classText, classRange}
-use Rattle.stateset.specs.Tabled.{tabled}
-use Rattle.runs.proofs.Tests.{and-parts}
-use Rattle.stateset.proofs.Tabled.{tabled-at}
+use Rattle.brackets.specs.Form.{classNames, className}
+use Rattle.brackets.specs.Sets.{classRanges}
+use Rattle.brackets.specs.Brackets.{sameBytes, findClass}
+use Rattle.brackets.specs.Promises.{rangesOf, classRow, RowOf}
+use Rattle.runs.specs.Keys.{isLine}
 
--- a test that every entry of a list passes
-unfoldable pub every : {A : Type 0} → (A → Bool) → List A → Bool
-every f [] = true
-every f (x ∷ xs) = f x && every f xs
+-- what a function gives at k numbers from i on
+unfoldable pub each : {A : Type 0} → ℕ → ℕ → (ℕ → A) → List A
+each zero i f = []
+each (suc k) i f = f i ∷ each k (suc i) f
 
-pub every-at : {A : Type 0} (f : A → Bool) (d : A) (xs : List A) → every f xs ≡ true → (k : ℕ) → k < length xs → f (getD xs k d) ≡ true
-unfolding every
-every-at f d [] e k h = absurd (not-suc-le-zero h)
-every-at f d (x ∷ xs) e zero h = and-parts (f x) (every f xs) e .0
-every-at f d (x ∷ xs) e (suc k) h = every-at f d xs (and-parts (f x) (every f xs) e .1) k (omega arith)
+module _ {A : Type 0} where
+  each-from : (k i n : ℕ) (f : ℕ → A) (d : A) → n < k → getD (each k i f) n d ≡ f (i + n)
+  unfolding each
+  each-from zero i n f d h = absurd (not-suc-le-zero h)
+  each-from (suc k) i zero f d h = rw add-zero
+  each-from (suc k) i (suc n) f d h =
+      let e : i + suc n ≡ suc i + n = omega arith in
+      rw e (each-from k (suc i) n f d (omega arith))
 
--- byte j of a class's name and `:]`
-unfoldable pub nameByte : ℕ → ℕ → ℕ
-nameByte c j = getD (classText c) j 0
+  each-at : (k n : ℕ) (f : ℕ → A) (d : A) → n < k → getD (each k 0 f) n d ≡ f n
+  each-at k n f d h = each-from k 0 n f d h ∙ rw zero-add
 
--- byte n of its ranges, first and last byte in turn
-unfoldable pub rangeByte : ℕ → ℕ → ℕ
-rangeByte c n = let r = classRange c (n / 2) in cond (eqb (n % 2) 0) (r .first) (r .last)
+  -- two functions that give the same at these numbers are the same at one of them
+  each-same : (k n : ℕ) (f g : ℕ → A) → each k 0 f ≡ each k 0 g → n < k → f n ≡ g n
+  each-same k n f g e h = sym (each-at k n f (f n) h) ∙ ap (λ (l : List A). getD l n (f n)) e ∙ each-at k n g (f n) h
 
--- a class as a row of the table
-unfoldable pub classRow : ℕ → Class
-classRow c = record { name = tabled (nameByte c) 8 0; ranges = tabled (rangeByte c) 8 0 }
+-- the arrays of a row hold a class's name and its ranges
+names-short : each 12 0 (λ c. leb (length (className c)) 6) ≡ each 12 0 (λ c. true)
+unfolding each classNames
+names-short = refl
 
--- n rows, from class i on
-unfoldable pub classRows : ℕ → ℕ → List Class
-classRows zero i = []
-classRows (suc n) i = classRow i ∷ classRows n (suc i)
+ranges-few : each 12 0 (λ c. leb (length (rangesOf c)) 4) ≡ each 12 0 (λ c. true)
+unfolding each classRanges
+ranges-few = refl
 
-row-from : (n i k : ℕ) (d : Class) → k < n → getD (classRows n i) k d ≡ classRow (i + k)
-unfolding classRows
-row-from zero i k d h = absurd (not-suc-le-zero h)
-row-from (suc n) i zero d h = rw add-zero
-row-from (suc n) i (suc k) d h =
-    let e : i + suc k ≡ suc i + k = omega arith in
-    rw e (row-from n (suc i) k d (omega arith))
+-- the row of a class in the table
+pub row-of : (c : ℕ) (d : Class) → c < 12 → RowOf c (getD (each 12 0 classRow) c d)
+unfolding classRow
+row-of c d h =
+    rw (each-at 12 c classRow d h) (record {
+      same = refl;
+      short = leb-true _ _ (each-same 12 c (λ c. leb (length (className c)) 6) (λ c. true) names-short h);
+      few = leb-true _ _ (each-same 12 c (λ c. leb (length (rangesOf c)) 4) (λ c. true) ranges-few h);
+    })
 
-module _ (c j : ℕ) (d : Class) (low : c < 12) where
-  row-at : getD (classRows 12 0) c d ≡ classRow c
-  row-at = rw zero-add at (row-from 12 0 c d low)
+-- a class's name is found again, whatever follows
+classes-back : (m : List ℕ) → each 12 0 (λ c. findClass 12 0 (className c ++ (58 ∷ 93 ∷ m))) ≡ each 12 0 (λ c. some c)
+unfolding each findClass sameBytes classNames
+classes-back m = refl
 
-  pub name-entry : j < 8 → getD ((getD (classRows 12 0) c d) .name) j 0 ≡ getD (classText c) j 0
-  unfolding classRow nameByte
-  name-entry h = ap (λ (r : Class). getD (r .name) j 0) row-at ∙ tabled-at (nameByte c) 8 j h
+pub class-back : (c : ℕ) (m : List ℕ) → c < 12 → findClass 12 0 (className c ++ (58 ∷ 93 ∷ m)) ≡ some c
+class-back c m h = each-same 12 c (λ c. findClass 12 0 (className c ++ (58 ∷ 93 ∷ m))) (λ c. some c) (classes-back m) h
 
-  range-entry : (n : ℕ) → n < 8 → getD ((getD (classRows 12 0) c d) .ranges) n 0 ≡ rangeByte c n
-  unfolding classRow
-  range-entry n h = ap (λ (r : Class). getD (r .ranges) n 0) row-at ∙ tabled-at (rangeByte c) 8 n h
+-- a class's name holds bytes of a pattern
+names-clean : each 12 0 (λ c. isLine (className c)) ≡ each 12 0 (λ c. true)
+unfolding each classNames
+names-clean = refl
 
-  pub first-entry : j < 4 → getD ((getD (classRows 12 0) c d) .ranges) (j * 2) 0 ≡ classRange c j .first
-  unfolding rangeByte
-  first-entry h =
-      let range : j * 2 / 2 ≡ j = omega arith in
-      let side : j * 2 % 2 ≡ 0 = omega arith in
-      range-entry (j * 2) (omega arith) ∙ rw (range, side)
-
-  pub last-entry : j < 4 → getD ((getD (classRows 12 0) c d) .ranges) (j * 2 + 1) 0 ≡ classRange c j .last
-  unfolding rangeByte
-  last-entry h =
-      let range : (j * 2 + 1) / 2 ≡ j = omega arith in
-      let side : (j * 2 + 1) % 2 ≡ 1 = omega arith in
-      range-entry (j * 2 + 1) (omega arith) ∙ rw (range, side)
+pub name-clean : (c : ℕ) → c < 12 → isLine (className c) ≡ true
+name-clean c h = each-same 12 c (λ c. isLine (className c)) (λ c. true) names-clean h

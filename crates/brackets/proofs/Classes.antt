@@ -4,64 +4,35 @@ use native.Mathlib.Omega.{arith}
 use native.Mathlib.Numerals.{add-one}
 use native.Mathlib.Nat.{add-zero}
 use mathlib.Core.Path.{_≡_, refl, sym, ap, _∙_}
-use mathlib.Core.Bool.{Bool, true, false, not, _&&_, _||_, cond, false≢true}
+use mathlib.Core.Bool.{Bool, true, false, _&&_, cond, and-true}
 use mathlib.Core.List.{List, [], _∷_, _++_}
 use mathlib.Core.Option.{some}
 use lib.Dec.{ltb, eqb}
-use lib.ListN.{length, getD, take, drop, length-append, drop-of-length-le, List·getD-eq-default}
+use lib.ListN.{length, getD, take, drop, replicate, length-append, drop-of-length-le, List·getD-eq-default}
 use lib.Seq.{drop-cons}
-use borrow.Author.Tests.{ltb-true, ltb-false, eqb-true, eq-eqb, ne-eqb}
+use borrow.Author.Tests.{ltb-true, ltb-false, eq-eqb, ne-eqb}
+use Rattle.brackets.specs.declared.class.Class.{Class}
 use Rattle.brackets.specs.declared.class.ClassRead.the-variants.{Found, Unknown}
-use Rattle.brackets.specs.Form.{classNames, className}
+use Rattle.brackets.specs.Form.{className}
 use Rattle.brackets.specs.Brackets.{sameBytes, isClass, findClass}
-use Rattle.brackets.specs.Promises.{classText, classShown}
-use Rattle.brackets.proofs.ClassTables.{every, every-at}
-use Rattle.runs.specs.Keys.{member}
-use Rattle.runs.proofs.Tests.{clash, and-parts}
+use Rattle.brackets.specs.Promises.{filledUp, classRow, RowOf, classShown}
+use Rattle.brackets.proofs.ClassTables.{name-clean}
+use Rattle.runs.proofs.Tests.{clash}
+use Rattle.runs.proofs.KeyLaws.{key-is, line-member, member-at}
 
--- a name with its `:]` has seven bytes, or eight if there is an eighth, and none is 0
-fitting : List ℕ → Bool
-fitting n = let t = n ++ (58 ∷ 93 ∷ []) in eqb (length n + 2) (cond (eqb (getD t 7 0) 0) 7 8) && not (member 0 t)
+-- what stands behind a list that is filled up is 0, as behind its end
+zeros-at : (n i : ℕ) → _≡_ {A = ℕ} (getD (replicate n 0) i 0) 0
+zeros-at zero i = refl
+zeros-at (suc n) zero = refl
+zeros-at (suc n) (suc i) = zeros-at n i
 
-all-fitting : every fitting classNames ≡ true
-unfolding every fitting classNames
-all-fitting = refl
+append-zeros : (l : List ℕ) (n i : ℕ) → getD (l ++ replicate n 0) i 0 ≡ getD l i 0
+append-zeros [] n i = zeros-at n i
+append-zeros (x ∷ l) n zero = refl
+append-zeros (x ∷ l) n (suc i) = append-zeros l n i
 
-twelve : length classNames ≡ 12
-unfolding classNames
-twelve = refl
-
-module _ (c : ℕ) (low : c < 12) where
-  class-fitting : (eqb (length (className c) + 2) (cond (eqb (getD (classText c) 7 0) 0) 7 8) ≡ true) × (not (member 0 (classText c)) ≡ true)
-  unfolding fitting
-  class-fitting = and-parts _ _ (every-at fitting [] classNames all-fitting c (rw twelve low))
-
-  size : length (className c) + 2 ≡ cond (eqb (getD (classText c) 7 0) 0) 7 8
-  size = eqb-true _ _ (class-fitting .0)
-
-  module _ (b : ℕ) (e : b ≡ getD (classText c) 7 0) where
-    pub size-short : b ≡ 0 → 7 ≡ length (className c) + 2
-    size-short z = sym (size ∙ rw (eq-eqb _ _ (sym e ∙ z)))
-
-    pub size-long : (b ≡ 0 → ⊥) → 8 ≡ length (className c) + 2
-    size-long z = sym (size ∙ rw (← e, ne-eqb b 0 z))
-
-  text-size : length (classText c) ≤ 8
-  text-size = rw length-append (go (eqb (getD (classText c) 7 0) 0) size)
-    where
-      go : (t : Bool) → length (className c) + 2 ≡ cond t 7 8 → length (className c) + 2 ≤ 8
-      go true e = omega arith
-      go false e = omega arith
-
--- no byte of a list is 0
-no-zero : (l : List ℕ) (j : ℕ) → not (member 0 l) ≡ true → j < length l → getD l j 0 ≡ 0 → ⊥
-no-zero [] j e h z = omega arith
-no-zero (x ∷ xs) zero e h z = false≢true (rw (eq-eqb 0 x (sym z)) at e)
-no-zero (x ∷ xs) (suc j) e h z = no-zero xs j (tail (eqb 0 x) e) (omega arith) z
-  where
-    tail : (t : Bool) → not (t || member 0 xs) ≡ true → not (member 0 xs) ≡ true
-    tail true e = absurd (false≢true e)
-    tail false e = e
+pub filled-at : (n i : ℕ) (l : List ℕ) → getD (filledUp n l) i 0 ≡ getD l i 0
+filled-at n i l = append-zeros l (n - length l) i
 
 -- whether bytes begin with some others
 unfoldable pub begins : List ℕ → List ℕ → Bool
@@ -78,45 +49,64 @@ begins-cons b t s p z = go (ltb p (length s)) refl
         let g : length s ≤ p = ltb-false p (length s) h in
         rw (drop-of-length-le s g, List·getD-eq-default s 0 g, ne-eqb 0 b (λ e. z (sym e)))
 
+pub row-size : (c : ℕ) (row : Class) → RowOf c row → row .length ≡ length (className c)
+unfolding classRow
+row-size c row is = rw (is .same)
+
+-- a class's name from byte j on, and the `:]` behind it
+abbrev pub nameFrom : ℕ → ℕ → List ℕ
+nameFrom c j = drop j (className c) ++ (58 ∷ 93 ∷ [])
+
 module _ (s : List ℕ) (at c : ℕ) where
-  pub class-first : begins (drop 0 (classText c)) (drop (at + 0) s) ≡ isClass c (drop at s)
+  pub name-first : begins (nameFrom c 0) (drop (at + 0) s) ≡ isClass c (drop at s)
   unfolding begins
-  class-first = rw (add-zero, length-append)
+  name-first = rw (add-zero, length-append)
 
-  module _ (low : c < 12) (j : ℕ) (inv : begins (drop j (classText c)) (drop (at + j) s) ≡ isClass c (drop at s)) where
-    whole : length (classText c) ≤ j → true ≡ isClass c (drop at s)
-    unfolding begins sameBytes
-    whole h = rw (drop-of-length-le (classText c) h) at inv
+  module _ (row : Class) (is : RowOf c row) where
+    size : row .length ≡ length (className c)
+    size = row-size c row is
 
-    pub class-end : 8 ≤ j → true ≡ isClass c (drop at s)
-    class-end h = let g = text-size c low in whole (omega arith)
+    byte : (j : ℕ) → getD (row .name) j 0 ≡ getD (className c) j 0
+    unfolding classRow
+    byte j = rw (is .same) (filled-at 6 j (className c))
 
-    module _ (b : ℕ) (e : b ≡ getD (classText c) j 0) where
-      pub class-whole : b ≡ 0 → true ≡ isClass c (drop at s)
-      class-whole z = go (ltb j (length (classText c))) refl
-        where
-          go : (v : Bool) → ltb j (length (classText c)) ≡ v → true ≡ isClass c (drop at s)
-          go true h = absurd (no-zero (classText c) j (class-fitting c low .1) (ltb-true _ _ h) (sym e ∙ z))
-          go false h = whole (ltb-false _ _ h)
+    module _ (j : ℕ) (inv : begins (nameFrom c j) (drop (at + j) s) ≡ isClass c (drop at s)) where
+      -- a byte of the name
+      module _ (low : c < 12) (less : j < row .length) (q : ℕ) (f : q ≡ getD s (at + j) 0) where
+        inside : j < length (className c)
+        inside = rw size at less
 
-      module _ (z : b ≡ 0 → ⊥) (q : ℕ) (f : q ≡ getD s (at + j) 0) where
-        step : eqb q b && begins (drop (j + 1) (classText c)) (drop (at + j + 1) s) ≡ isClass c (drop at s)
+        no-zero : getD (className c) j 0 ≡ 0 → ⊥
+        no-zero e =
+            let b : ℕ = getD (className c) j 0 in
+            let h : 1 ≤ b = key-is b (line-member b (className c) (member-at b (className c) j inside refl) (name-clean c low)) .0 in
+            omega arith
+
+        step : eqb q (getD (row .name) j 0) && begins (nameFrom c (j + 1)) (drop (at + j + 1) s) ≡ isClass c (drop at s)
         step = sym head ∙ inv
           where
-            go : (v : Bool) → ltb j (length (classText c)) ≡ v → j < length (classText c)
-            go true h = ltb-true _ _ h
-            go false h = absurd (z (e ∙ List·getD-eq-default (classText c) 0 (ltb-false _ _ h)))
+            head : begins (nameFrom c j) (drop (at + j) s) ≡ eqb q (getD (row .name) j 0) && begins (nameFrom c (j + 1)) (drop (at + j + 1) s)
+            head = rw (byte j, f, add-one j, drop-cons (className c) j 0 inside) (begins-cons (getD (className c) j 0) _ s (at + j) no-zero)
 
-            head : begins (drop j (classText c)) (drop (at + j) s) ≡ eqb q b && begins (drop (j + 1) (classText c)) (drop (at + j + 1) s)
-            head =
-                let h = go (ltb j (length (classText c))) refl in
-                rw (drop-cons (classText c) j 0 h, ← e, begins-cons b (drop (suc j) (classText c)) s (at + j) z, ← f, add-one j)
+        pub name-other : (q ≡ getD (row .name) j 0 → ⊥) → false ≡ isClass c (drop at s)
+        name-other n = rw (ne-eqb q _ n) at step
 
-        pub class-other : (q ≡ b → ⊥) → false ≡ isClass c (drop at s)
-        class-other n = rw (ne-eqb q b n) at step
+        pub name-on : q ≡ getD (row .name) j 0 → begins (nameFrom c (j + 1)) (drop (at + (j + 1)) s) ≡ isClass c (drop at s)
+        name-on n = let g : at + (j + 1) ≡ at + j + 1 = omega arith in rw g (rw (eq-eqb q _ n) at step)
 
-        pub class-on : q ≡ b → begins (drop (j + 1) (classText c)) (drop (at + (j + 1)) s) ≡ isClass c (drop at s)
-        class-on n = let g : at + (j + 1) ≡ at + j + 1 = omega arith in rw g (rw (eq-eqb q b n) at step)
+      -- the `:]` behind it
+      pub name-end : j ≤ row .length → row .length ≤ j → (x y : ℕ) → x ≡ getD s (at + row .length) 0 → y ≡ getD s (at + row .length + 1) 0 → eqb x 58 && eqb y 93 ≡ isClass c (drop at s)
+      unfolding begins sameBytes
+      name-end l m x y f g = rw (f, g, all) (sym marks ∙ inv)
+        where
+          all : row .length ≡ j
+          all = omega arith
+
+          none-left : drop j (className c) ≡ []
+          none-left = let h : length (className c) ≤ j = omega (arith, size) in drop-of-length-le (className c) h
+
+          marks : begins (nameFrom c j) (drop (at + j) s) ≡ eqb (getD s (at + j) 0) 58 && eqb (getD s (at + j + 1) 0) 93
+          marks = rw (none-left, begins-cons 58 (93 ∷ []) s (at + j) (omega arith), begins-cons 93 [] s (at + j + 1) (omega arith), and-true)
 
 -- the search
 module _ (l : List ℕ) (c : ℕ) (inv : findClass (12 - c) c l ≡ findClass 12 0 l) where
@@ -136,12 +126,16 @@ module _ (l : List ℕ) (c : ℕ) (inv : findClass (12 - c) c l ≡ findClass 12
     unfolding findClass
     find-on h = rw (← inv, less, sym e ∙ h, add-one c)
 
--- a class that was found is one of the twelve
-pub found-below : (k c : ℕ) (l : List ℕ) (d : ℕ) → findClass k c l ≡ some d → d < c + k
-unfolding findClass
-found-below zero c l d e = clash (cc)
-found-below (suc k) c l d e = go (isClass c l) (λ f. found-below k (suc c) l d f) e
-  where
-    go : (t : Bool) → (findClass k (suc c) l ≡ some d → d < suc c + k) → cond t (some c) (findClass k (suc c) l) ≡ some d → d < c + suc k
-    go true later g = let f : c ≡ d = cc in omega arith
-    go false later g = let f : d < suc c + k = later g in omega arith
+-- a class that was found is one of those looked for, and its name begins the bytes
+module _ (l : List ℕ) (d : ℕ) where
+  abbrev Is-below : ℕ → Type 0
+  Is-below n = (d < n) × (isClass d l ≡ true)
+
+  pub found-class : (k c : ℕ) → findClass k c l ≡ some d → Is-below (c + k)
+  unfolding findClass
+  found-class zero c h = clash (cc)
+  found-class (suc k) c h = go (isClass c l) refl (λ f. found-class k (suc c) f) h
+    where
+      go : (t : Bool) → isClass c l ≡ t → (findClass k (suc c) l ≡ some d → Is-below (suc c + k)) → cond t (some c) (findClass k (suc c) l) ≡ some d → Is-below (c + suc k)
+      go true e rest f = let same : c ≡ d = cc in (omega arith, rw (← same) e)
+      go false e rest f = let (less, there) = rest f in (omega arith, there)

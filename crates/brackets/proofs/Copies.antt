@@ -1,4 +1,4 @@
--- The copy that a bracket is read from.
+-- The copy that a bracket is read from: its bytes, and that reading it is reading the text.
 use Prim.Native.Nat.{ℕ, _+_, _-_, _<_, _≤_}
 use native.Mathlib.Omega.{arith}
 use mathlib.Core.Path.{_≡_, refl, sym, ap, _∙_}
@@ -67,14 +67,17 @@ module _ (s : List ℕ) (p : ℕ) where
 
   -- what was read from the copy
   module _ (copy : List ℕ) (e : take (length s - p) copy ≡ drop p s) where
-    pub copy-size : length s - p ≡ length (take (length s - p) copy)
+    abbrev part : List ℕ
+    part = take (length s - p) copy
+
+    pub copy-size : length s - p ≡ length part
     copy-size = sym (ap length e ∙ length-drop p s)
 
     module _ (most : length s ≤ 128) where
-      pub copy-table : (states : ℕ) (before after : List ℕ) → after ≡ keysBehind (readBracket (take (length s - p) copy)) states before → after ≡ keysBehind (bracketWithin (length s) (drop p s)) states before
+      pub copy-table : (states : ℕ) (before after : List ℕ) → after ≡ keysBehind (readBracket part) states before → after ≡ keysBehind (bracketWithin (length s) (drop p s)) states before
       copy-table states before after h = rw (within s (drop p s) most, ← e) h
 
-      module _ (r : AtomRead) (d : r ≡ placeBehind (length (take (length s - p) copy)) (readBracket (take (length s - p) copy))) where
+      module _ (r : AtomRead) (d : r ≡ placeBehind (length part) (readBracket part)) where
         read : r ≡ placeBehind (length s - p) (readBracket (drop p s))
         read = rw (e, length-drop p s) at d
 

@@ -1,19 +1,17 @@
--- Laws of parsing: what a parse that went well says of its parts, and the bytes that a pattern can hold.
-use Prim.Native.Nat.{ℕ, zero, suc, _<_, _≤_}
+-- Laws of parsing: what a parse that went well says of its parts, and the front of the bytes.
+use Prim.Native.Nat.{ℕ, _≤_}
 use native.Mathlib.Omega.{arith}
 use mathlib.Core.Path.{_≡_, refl}
 use mathlib.Core.Logic.{_⊎_, inl, inr}
-use mathlib.Core.Bool.{Bool, true, false, not, _&&_, _||_, cond, and-eq-true-iff}
-use mathlib.Core.List.{List, [], _∷_, _++_}
-use lib.Dec.{leb, eqb}
-use lib.ListN.{getD, drop}
-use borrow.Author.Tests.{eqb-true, eqb-false, leb-true, le-leb, ne-eqb, not-true}
+use mathlib.Core.Bool.{Bool, true, false, cond}
+use mathlib.Core.List.{List, [], _∷_}
+use lib.Dec.{eqb}
+use lib.ListN.{drop}
+use borrow.Author.Tests.{eqb-true}
 use Rattle.brackets.specs.Brackets.{Parsed, Parser, parsed, fault, next, done, at}
-use Rattle.runs.specs.Keys.{member, lineKey, isLine}
+use Rattle.runs.specs.Keys.{isLine}
 use Rattle.runs.proofs.KeyLaws.{key-is, line-first}
-pub use Rattle.runs.proofs.Tests.{clash, torn}
-
--- Answers.
+use Rattle.runs.proofs.Tests.{clash, torn}
 
 -- two answers that are equal have equal parts
 pub same-parsed : {A : Type 0} {a b : A} {r s : List ℕ} → _≡_ {A = Parsed A} (parsed a r) (parsed b s) → (a ≡ b) × (r ≡ s)
@@ -45,22 +43,27 @@ made-parsed (parsed a mid) f b rest e = (a, cc, cc)
 made-parsed fault f b rest e = clash (cc)
 
 -- an element was parsed and then others
-pub more-parsed : {A : Type 0} (g : Parsed A) (h : Parser (List A)) (l : List A) (rest : List ℕ) → next g (λ a b. next (h b) (λ xs. done (a ∷ xs))) ≡ parsed l rest → (a : A) × (xs : List A) × (mid : List ℕ) × (l ≡ a ∷ xs) × (g ≡ parsed a mid) × (h mid ≡ parsed xs rest)
-more-parsed g h l rest e =
-    let (a, mid, one, f) = next-parsed g (λ a b. next (h b) (λ xs. done (a ∷ xs))) l rest e in
-    let (xs, same, others) = made-parsed (h mid) (λ xs. a ∷ xs) l rest f in
-    (a, xs, mid, same, one, others)
+module _ {A : Type 0} (g : Parsed A) (h : Parser (List A)) (l : List A) (rest : List ℕ) where
+  pub record Several : Type 0 where
+    pub first : A
+    pub others : List A
+    pub mid : List ℕ
+    pub same : l ≡ first ∷ others
+    pub one : g ≡ parsed first mid
+    pub more : h mid ≡ parsed others rest
 
--- Tests.
+  pub more-parsed : next g (λ a b. next (h b) (λ xs. done (a ∷ xs))) ≡ parsed l rest → Several
+  more-parsed e =
+      let (a, mid, one, f) = next-parsed g (λ a b. next (h b) (λ xs. done (a ∷ xs))) l rest e in
+      let (xs, same, others) = made-parsed (h mid) (λ xs. a ∷ xs) l rest f in
+      record { first = a; others = xs; mid = mid; same = same; one = one; more = others }
 
 -- a byte that is there begins the bytes
 pub front : (l : List ℕ) (c : ℕ) → 1 ≤ c → eqb (at 0 l) c ≡ true → l ≡ c ∷ drop 1 l
 front [] c h e = absurd (omega (arith, eqb-true 0 c e))
 front (x ∷ l) c h e = rw (eqb-true x c e)
 
--- The bytes of a pattern.
-
--- among such bytes a 0 at the front is the end
+-- among the bytes of a pattern a 0 at the front is the end
 pub clean-end : (l : List ℕ) → isLine l ≡ true → eqb (at 0 l) 0 ≡ true → l ≡ []
 clean-end [] h e = refl
 clean-end (b ∷ l) h e = torn (eqb b 0) e (key-is b (line-first b l h) .2)

@@ -35,10 +35,11 @@ empty-set k h = getD-replicate 256 k false false h
 pub filled-set : (f : ℕ → Bool → Bool) (k : ℕ) → k < 256 → getD (mapWith f 0 (replicate 256 false)) k false ≡ f k false
 filled-set f k h = with-getD f false (replicate 256 false) k (rw (length-replicate 256 false) h) ∙ rw (empty-set k h)
 
-pub key-stored : (b states : ℕ) (s : List Bool) (keys after : List ℕ) → s ≡ mapWith (withElement (byte b)) 0 (replicate 256 false) → after ≡ mapWith (withKey s false states) 0 keys → after ≡ keysWith (plain b) states keys
-unfolding named xor withElement inElement
-key-stored b states s keys after e f =
-    f ∙ set-stored (plain b) s false (λ k h. rw (e, filled-set (withElement (byte b)) k h) (Bool·not-not (eqb k b))) states keys
+module _ (b : ℕ) (s : List Bool) (e : s ≡ mapWith (withElement (byte b)) 0 (replicate 256 false)) where
+  pub key-stored : (states : ℕ) (keys after : List ℕ) → after ≡ mapWith (withKey s false states) 0 keys → after ≡ keysWith (plain b) states keys
+  unfolding named xor withElement inElement
+  key-stored states keys after f =
+      f ∙ set-stored (plain b) s false (λ k h. rw (e, filled-set (withElement (byte b)) k h) (Bool·not-not (eqb k b))) states keys
 
 pub dot-stored : (states : ℕ) (keys after : List ℕ) → after ≡ mapWith (withKey (replicate 256 false) true states) 0 keys → after ≡ keysWith dot states keys
 unfolding named xor

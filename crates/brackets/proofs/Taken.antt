@@ -1,4 +1,4 @@
--- What the reading of a bracket takes from the bytes.
+-- What the reading of an element takes from the bytes, and what its answer shows.
 use Prim.Native.Nat.{ℕ, _+_, _-_, _<_}
 use native.Mathlib.Omega.{arith}
 use mathlib.Core.Path.{_≡_, refl, sym, ap, _∙_}
@@ -14,7 +14,8 @@ use Rattle.brackets.specs.declared.element.Element as declared
 use Rattle.brackets.specs.Form.{Element, byte, range, class, className, writeElement}
 use Rattle.brackets.specs.Brackets.{Parsed, parsed, fault, at, findClass, classFound, startsRange, readElement}
 use Rattle.brackets.specs.Promises.{shownElement, elementOf, elementShown, Known}
-use Rattle.brackets.proofs.Classes.{found-below}
+use Rattle.brackets.proofs.Parses.{same-parsed}
+use Rattle.brackets.proofs.Classes.{found-class}
 use Rattle.runs.specs.Keys.{member}
 use Rattle.runs.proofs.Tests.{clash}
 
@@ -50,7 +51,7 @@ module _ (l : List ℕ) where
   class-sound none e = refused
   class-sound (some c) e =
       either (startsRange (drop (length (className c) + 2) (drop 2 l))) refused
-      (read (record { left = rw (class-size c, drop-drop); some-bytes = rw (class-size c) (omega arith); known = found-below 12 0 (drop 2 l) c e }))
+      (read (record { left = rw (class-size c, drop-drop); some-bytes = rw (class-size c) (omega arith); known = found-class (drop 2 l) c 12 0 e .0 }))
 
   element-sound : (first : Bool) → Sound l (readElement first l)
   unfolding readElement
@@ -65,10 +66,7 @@ module _ (l : List ℕ) where
   element-taken first e rest h = go (readElement first l) (element-sound first) h
     where
       go : (r : Parsed Element) → Sound l r → r ≡ parsed e rest → Taken l e rest
-      go (parsed d q) (read t) h = let (f, g) = same h in rw (← f, ← g) t
-        where
-          same : {d : Element} {q : List ℕ} → _≡_ {A = Parsed Element} (parsed d q) (parsed e rest) → (d ≡ e) × (q ≡ rest)
-          same h = (cc, cc)
+      go (parsed d q) (read t) h = let (f, g) = same-parsed h in rw (← f, ← g) t
       go fault refused h = clash (cc)
 
 -- an element as the code has it

@@ -85,13 +85,13 @@ formedElement first last (range a b) =
 formedElement first last (class c) = ltb c 12
 
 -- "Past the bracket's own opening `[`, a `[.` and a `[=` are refused .. as are a `[:` that begins none of the twelve classes"
-abbrev pub meets : Element → Element → Bool
-meets d e = not (endsOpen d && member (opening e) (46 ∷ 61 ∷ 58 ∷ []))
+abbrev pub adjacent : Element → Element → Bool
+adjacent d e = not (endsOpen d && member (opening e) (46 ∷ 61 ∷ 58 ∷ []))
 
 unfoldable pub formedElements : Bool → List Element → Bool
 formedElements first [] = false
 formedElements first (e ∷ []) = formedElement first true e
-formedElements first (e ∷ f ∷ es) = formedElement first false e && (meets e f && formedElements false (f ∷ es))
+formedElements first (e ∷ f ∷ es) = formedElement first false e && (adjacent e f && formedElements false (f ∷ es))
 
 -- "optional `^`": without it the first element does not begin with that byte
 abbrev pub plainStart : List Element → Bool

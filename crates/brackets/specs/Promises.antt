@@ -1,18 +1,19 @@
 -- What private functions promise each other; no public contract cites these.
-use Prim.Native.Nat.{ℕ, suc, _+_, _-_, _<_}
+use Prim.Native.Nat.{ℕ, _+_, _-_, _<_, _≤_}
 use mathlib.Core.Path.{_≡_}
 use mathlib.Core.Bool.{Bool, true, false, _&&_, _||_, cond, xor}
-use mathlib.Core.List.{List, [], _∷_, _++_}
+use mathlib.Core.List.{List, [], _++_, map}
 use mathlib.Core.Option.{Option, none, some}
 use lib.Bits.{bitOr}
-use lib.ListN.{length, getD, drop}
+use lib.ListN.{length, getD, drop, replicate}
 use Rattle.brackets.specs.declared.atom.AtomRead.{AtomRead}
+use Rattle.brackets.specs.declared.class.Class.{Class}
 use Rattle.brackets.specs.declared.class.ClassRead.{ClassRead}
 use Rattle.brackets.specs.declared.element.Element as declared
 use Rattle.brackets.specs.declared.element.ElementRead.{ElementRead}
-use Rattle.brackets.specs.Form.{Element, byte, range, class, Atom, bracket, className, writeElement}
-use Rattle.brackets.specs.Brackets.{Parsed, parsed, fault, next, done, readElements}
-use Rattle.brackets.specs.Sets.{Range, to, classRanges, inElement, inElements, setOf}
+use Rattle.brackets.specs.Form.{Element, byte, range, class, className, writeElement}
+use Rattle.brackets.specs.Brackets.{Parsed, parsed, fault, readElements}
+use Rattle.brackets.specs.Sets.{Range, classRanges, inElement, inElements}
 use Rattle.brackets.specs.Answers.{mapWith}
 use Rattle.runs.specs.Keys.{lineKey}
 
@@ -31,13 +32,28 @@ hasKey set negated k = lineKey k && xor negated (getD set k false)
 unfoldable pub withKey : List Bool → Bool → ℕ → ℕ → ℕ → ℕ
 withKey set negated states k x = cond (hasKey set negated k) (bitOr x states) x
 
--- a class's name and the `:]` behind it
-abbrev pub classText : ℕ → List ℕ
-classText c = className c ++ (58 ∷ 93 ∷ [])
+-- a list with 0 behind it, n numbers in all
+abbrev pub filledUp : ℕ → List ℕ → List ℕ
+filledUp n l = l ++ replicate (n - length l) 0
 
--- range j of a class, or an empty one, from `1` to `0`, if the class has no more
-abbrev pub classRange : ℕ → ℕ → Range
-classRange c j = getD (getD classRanges c []) j (to 49 48)
+abbrev pub rangesOf : ℕ → List Range
+rangesOf c = getD classRanges c []
+
+-- a class as a row of the code's table
+unfoldable pub classRow : ℕ → Class
+classRow c = record {
+  name = filledUp 6 (className c);
+  length = length (className c);
+  first = filledUp 4 (map (λ r. r .first) (rangesOf c));
+  last = filledUp 4 (map (λ r. r .last) (rangesOf c));
+  count = length (rangesOf c);
+}
+
+-- what the table hands out for a class: its row, whose name and ranges the arrays hold
+pub record RowOf (c : ℕ) (row : Class) : Type 0 where
+  pub same : row ≡ classRow c
+  pub short : row .length ≤ 6
+  pub few : row .count ≤ 4
 
 -- the answer of the search for a class
 abbrev pub classShown : Option ℕ → ClassRead
@@ -70,10 +86,6 @@ Known (class c) = c < 12
 -- the elements from a place on, up to the `]` that closes the bracket
 unfoldable pub elementsFrom : ℕ → List ℕ → Parsed (List Element)
 elementsFrom start l = readElements (length l) true (drop start l)
-
--- and the bracket that they make
-unfoldable pub bracketFrom : Bool → ℕ → List ℕ → Parsed Atom
-bracketFrom negated start l = next (elementsFrom start l) (λ es. done (bracket negated es))
 
 -- the reading of a bracket's elements from n bytes: the set before and after, and the answer
 unfoldable pub ElementsDone : ℕ → Parsed (List Element) → List Bool → List Bool → AtomRead → Type 0

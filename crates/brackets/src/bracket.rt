@@ -1,5 +1,5 @@
 // A bracket (document 01, "Patterns"): "In the first release a bracket is copied to a buffer of 128 bytes and read
-// there." Nothing outside this file knows of the copy.
+// there." Outside this file only the limit on a text's length tells of the copy.
 use crate::atom::AtomRead;
 use crate::element::ElementRead;
 use crate::element::read_element;
@@ -7,32 +7,20 @@ use crate::look::peek;
 use crate::set::add_element;
 use crate::set::store;
 ghost use mathlib.Core.Path.{_≡_};
-ghost use mathlib.Core.Bool.{_&&_, not};
 ghost use Prim.Native.Nat.{_-_, _≤_};
-ghost use lib.Dec.{eqb};
 ghost use lib.ListN.{drop, length, take};
 ghost use Rattle.brackets.specs.Brackets.{bracketWithin, readBracket};
 ghost use Rattle.brackets.specs.Answers.{keysBehind, placeBehind};
-ghost use Rattle.brackets.specs.Promises.{ElementsDone, bracketFrom, elementsFrom};
+ghost use Rattle.brackets.specs.Promises.{ElementsDone, elementsFrom};
 
-// Whether a `]` closes the bracket. "A `]` as first element is itself".
-fn closes(first: bool, b: u8) -> bool
-    ensures { λ r. ⌜ r ≡ not first && eqb b 93 ⌝ }
-{
-    if first {
-        return false;
-    }
-    b == b']'
-}
-
-// Adds the elements from a place on to a set, up to the `]` that closes the bracket.
+// Adds the elements from a place on to a set, up to the `]` that closes the bracket. "A `]` as first element is itself".
 fn read_elements(text: &[u8], start: usize, set: &mut [bool; 256]) -> AtomRead
     ensures { λ r. ⌜ ElementsDone (length (now (text .entry))) (elementsFrom start (now (text .entry))) (now (set .entry)) (now (set .exit)) r ⌝ }
 {
     let mut at = start;
     let mut first = true;
     while at < text.len() {
-        if closes(first, peek(text, at)) {
+        if !first & (peek(text, at) == b']') {
             return AtomRead::At(at + 1);
         }
         match read_element(text, at, first) {
@@ -49,37 +37,21 @@ fn read_elements(text: &[u8], start: usize, set: &mut [bool; 256]) -> AtomRead
     AtomRead::Fault
 }
 
-// Reads the elements from a place on, and puts these states into the words of their keys, or of all others if
-// they are negated.
-fn read_set(
-    text: &[u8],
-    start: usize,
-    negated: bool,
-    states: u64,
-    keys: &mut [u64; 256],
-) -> AtomRead
-    ensures place { λ r. ⌜ r ≡ placeBehind (length (now (text .entry))) (bracketFrom negated start (now (text .entry))) ⌝ }
-    ensures table { λ _. ⌜ now (keys .exit) ≡ keysBehind (bracketFrom negated start (now (text .entry))) states (now (keys .entry)) ⌝ }
+// The bytes after `[`: "optional `^` for all keys but these, elements, `]`". The elements start behind the `^`. The keys
+// get these states into their words.
+fn read_text(text: &[u8], states: u64, keys: &mut [u64; 256]) -> AtomRead
+    ensures place { λ r. ⌜ r ≡ placeBehind (length (now (text .entry))) (readBracket (now (text .entry))) ⌝ }
+    ensures table { λ _. ⌜ now (keys .exit) ≡ keysBehind (readBracket (now (text .entry))) states (now (keys .entry)) ⌝ }
 {
+    let negated = peek(text, 0) == b'^';
     let mut set = [false; 256];
-    match read_elements(text, start, &mut set) {
+    match read_elements(text, negated as usize, &mut set) {
         AtomRead::At(end) => {
             store(&set, negated, states, keys);
             AtomRead::At(end)
         }
         AtomRead::Fault => AtomRead::Fault,
     }
-}
-
-// The bytes after `[`: "optional `^` for all keys but these, elements, `]`".
-fn read_text(text: &[u8], states: u64, keys: &mut [u64; 256]) -> AtomRead
-    ensures place { λ r. ⌜ r ≡ placeBehind (length (now (text .entry))) (readBracket (now (text .entry))) ⌝ }
-    ensures table { λ _. ⌜ now (keys .exit) ≡ keysBehind (readBracket (now (text .entry))) states (now (keys .entry)) ⌝ }
-{
-    if peek(text, 0) == b'^' {
-        return read_set(text, 1, true, states, keys);
-    }
-    read_set(text, 0, false, states, keys)
 }
 
 // A copy of the bytes from a place on.

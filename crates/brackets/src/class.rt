@@ -2,67 +2,105 @@
 use crate::look::peek;
 ghost use mathlib.Core.Path.{_≡_};
 ghost use Prim.Native.Nat.{_+_, _<_, _≤_};
-ghost use lib.ListN.{drop, getD, length};
-ghost use Rattle.brackets.specs.Form.{className};
+ghost use lib.ListN.{drop, length};
 ghost use Rattle.brackets.specs.Brackets.{findClass, isClass};
-ghost use Rattle.brackets.specs.Promises.{classRange, classShown, classText};
+ghost use Rattle.brackets.specs.Promises.{RowOf, classShown};
 
-// A class: its name and `:]`, filled up to eight bytes with 0, and the ranges that it stands for, four at the most, each as its first
-// and last byte. Those from `1` to `0` are empty.
-struct Class {
-    name: [u8; 8],
-    ranges: [u8; 8],
+// A class: its name, and how many bytes that has; the first and the last bytes of its ranges, and how many there are.
+// 0 fills the arrays.
+pub(crate) struct Class {
+    name: [u8; 6],
+    pub(crate) length: usize,
+    pub(crate) first: [u8; 4],
+    pub(crate) last: [u8; 4],
+    pub(crate) count: usize,
 }
 
 // "The twelve class names stand for these ranges."
 const CLASSES: [Class; 12] = [
     Class {
-        name: *b"upper:]\0",
-        ranges: *b"AZ101010",
+        name: *b"upper\0",
+        length: 5,
+        first: *b"A\0\0\0",
+        last: *b"Z\0\0\0",
+        count: 1,
     },
     Class {
-        name: *b"lower:]\0",
-        ranges: *b"az101010",
+        name: *b"lower\0",
+        length: 5,
+        first: *b"a\0\0\0",
+        last: *b"z\0\0\0",
+        count: 1,
     },
     Class {
-        name: *b"alpha:]\0",
-        ranges: *b"AZaz1010",
+        name: *b"alpha\0",
+        length: 5,
+        first: *b"Aa\0\0",
+        last: *b"Zz\0\0",
+        count: 2,
     },
     Class {
-        name: *b"digit:]\0",
-        ranges: *b"09101010",
+        name: *b"digit\0",
+        length: 5,
+        first: *b"0\0\0\0",
+        last: *b"9\0\0\0",
+        count: 1,
     },
     Class {
-        name: *b"alnum:]\0",
-        ranges: *b"AZaz0910",
+        name: *b"alnum\0",
+        length: 5,
+        first: *b"Aa0\0",
+        last: *b"Zz9\0",
+        count: 3,
     },
     Class {
-        name: *b"xdigit:]",
-        ranges: *b"09AFaf10",
+        name: *b"xdigit",
+        length: 6,
+        first: *b"0Aa\0",
+        last: *b"9Ff\0",
+        count: 3,
     },
     Class {
-        name: *b"punct:]\0",
-        ranges: *b"!/:@[`{~",
+        name: *b"punct\0",
+        length: 5,
+        first: *b"!:[{",
+        last: *b"/@`~",
+        count: 4,
     },
     Class {
-        name: *b"graph:]\0",
-        ranges: *b"!~101010",
+        name: *b"graph\0",
+        length: 5,
+        first: *b"!\0\0\0",
+        last: *b"~\0\0\0",
+        count: 1,
     },
     Class {
-        name: *b"print:]\0",
-        ranges: *b"\x20~101010",
+        name: *b"print\0",
+        length: 5,
+        first: *b"\x20\0\0\0",
+        last: *b"~\0\0\0",
+        count: 1,
     },
     Class {
-        name: *b"cntrl:]\0",
-        ranges: *b"\0\x1f\x7f\x7f1010",
+        name: *b"cntrl\0",
+        length: 5,
+        first: *b"\0\x7f\0\0",
+        last: *b"\x1f\x7f\0\0",
+        count: 2,
     },
     Class {
-        name: *b"space:]\0",
-        ranges: *b"\t\r\x20\x201010",
+        name: *b"space\0",
+        length: 5,
+        first: *b"\t\x20\0\0",
+        last: *b"\r\x20\0\0",
+        count: 2,
     },
     Class {
-        name: *b"blank:]\0",
-        ranges: *b"\t\t\x20\x201010",
+        name: *b"blank\0",
+        length: 5,
+        first: *b"\t\x20\0\0",
+        last: *b"\t\x20\0\0",
+        count: 2,
     },
 ];
 
@@ -72,61 +110,29 @@ pub(crate) enum ClassRead {
     Unknown,
 }
 
-// Byte j of a class's name and its `:]`.
-fn name_byte(c: u8, j: usize) -> u8
-    requires { ⌜ (c < 12) × (j < 8) ⌝ }
-    ensures { λ r. ⌜ r ≡ getD (classText c) j 0 ⌝ }
-{
-    let class = CLASSES[c as usize];
-    class.name[j]
-}
-
-// The first byte of a class's range j.
-pub(crate) fn range_first(c: u8, j: usize) -> u8
-    requires { ⌜ (c < 12) × (j < 4) ⌝ }
-    ensures { λ r. ⌜ r ≡ classRange c j .first ⌝ }
-{
-    let class = CLASSES[c as usize];
-    class.ranges[j * 2]
-}
-
-// And the last one.
-pub(crate) fn range_last(c: u8, j: usize) -> u8
-    requires { ⌜ (c < 12) × (j < 4) ⌝ }
-    ensures { λ r. ⌜ r ≡ classRange c j .last ⌝ }
-{
-    let class = CLASSES[c as usize];
-    class.ranges[j * 2 + 1]
-}
-
-// How many bytes a class's name and its `:]` have.
-pub(crate) fn class_size(c: u8) -> usize
+// The row of a class.
+pub(crate) fn class_at(c: u8) -> Class
     requires { ⌜ c < 12 ⌝ }
-    ensures { λ r. ⌜ (r ≡ length (className c) + 2) × (r ≤ 8) ⌝ }
+    ensures { λ r. ⌜ RowOf c r ⌝ }
 {
-    if name_byte(c, 7) == 0 {
-        return 7;
-    }
-    8
+    CLASSES[c as usize]
 }
 
-// Whether a class's name and its `:]` stand at a place.
+// Whether a class's name and `:]` stand at a place.
 fn is_class(s: &[u8], at: usize, c: u8) -> bool
     requires { ⌜ (at ≤ length (now s) + 2) × (c < 12) ⌝ }
     ensures { λ r. ⌜ r ≡ isClass c (drop at (now (s .entry))) ⌝ }
 {
+    let class = class_at(c);
+    let n = class.length;
     let mut j = 0;
-    while j < 8 {
-        let b = name_byte(c, j);
-        if b == 0 {
-            return true;
-        }
-        if peek(s, at + j) != b {
+    while j < n {
+        if peek(s, at + j) != class.name[j] {
             return false;
         }
         j += 1;
     }
-    true
+    (peek(s, at + n) == b':') & (peek(s, at + n + 1) == b']')
 }
 
 // The class whose name and `:]` stand at a place.

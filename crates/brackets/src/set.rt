@@ -1,6 +1,5 @@
 // The set of an atom's keys: it "says yes or no for every byte value from 0 to 255" (document 01, "Patterns").
-use crate::class::range_first;
-use crate::class::range_last;
+use crate::class::class_at;
 use crate::element::Element;
 ghost use mathlib.Core.Path.{_≡_};
 ghost use Prim.Native.Nat.{_<_};
@@ -9,14 +8,14 @@ ghost use Rattle.brackets.specs.Promises.{Known, elementOf, hasKey, with
 ghost use Rattle.brackets.specs.Answers.{keysWith, mapWith};
 
 // Adds one byte.
-pub(crate) fn add_byte(set: &mut [bool; 256], b: u8)
+fn add_byte(set: &mut [bool; 256], b: u8)
     ensures { λ _. ⌜ now (set .exit) ≡ mapWith (withElement (byte b)) 0 (now (set .entry)) ⌝ }
 {
     set[b as usize] = true;
 }
 
 // Adds the bytes from `first` to `last`, both included.
-pub(crate) fn add_range(set: &mut [bool; 256], first: u8, last: u8)
+fn add_range(set: &mut [bool; 256], first: u8, last: u8)
     ensures { λ _. ⌜ now (set .exit) ≡ mapWith (withElement (range first last)) 0 (now (set .entry)) ⌝ }
 {
     let end = last as usize;
@@ -28,13 +27,15 @@ pub(crate) fn add_range(set: &mut [bool; 256], first: u8, last: u8)
 }
 
 // Adds the bytes of a class.
-pub(crate) fn add_class(set: &mut [bool; 256], c: u8)
+fn add_class(set: &mut [bool; 256], c: u8)
     requires { ⌜ c < 12 ⌝ }
     ensures { λ _. ⌜ now (set .exit) ≡ mapWith (withElement (class c)) 0 (now (set .entry)) ⌝ }
 {
+    let class = class_at(c);
+    let n = class.count;
     let mut j = 0;
-    while j < 4 {
-        add_range(set, range_first(c, j), range_last(c, j));
+    while j < n {
+        add_range(set, class.first[j], class.last[j]);
         j += 1;
     }
 }
@@ -56,13 +57,7 @@ fn has_key(set: &[bool; 256], negated: bool, k: usize) -> bool
     requires { ⌜ k < 256 ⌝ }
     ensures { λ r. ⌜ r ≡ hasKey (now (set .entry)) negated k ⌝ }
 {
-    if k == 0 {
-        return false;
-    }
-    if k == 10 {
-        return false;
-    }
-    set[k] != negated
+    (k != 0) & ((k != 10) & (set[k] != negated))
 }
 
 // Puts these states into the words of the set's keys.

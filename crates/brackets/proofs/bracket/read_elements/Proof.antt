@@ -19,11 +19,8 @@ loop-holds c = search going-first
 peek-requires : tie.Need-peek-requires Inv-loop μ-loop
 peek-requires c κs = search needs
 
-closes-requires : tie.Need-closes-requires Inv-loop μ-loop
-closes-requires c κs = search needs
-
-add-t12 : tie.Need-add-t12 Inv-loop μ-loop
-add-t12 c = search needs
+add-t13 : tie.Need-add-t13 Inv-loop μ-loop
+add-t13 c = search needs
 
 returns : tie.Need-returns Inv-loop μ-loop
 returns c = search going-closed
@@ -60,8 +57,7 @@ read-elements-spec =
     μ-loop
     loop-holds
     peek-requires
-    closes-requires
-    add-t12
+    add-t13
     returns
     read-element-requires
     enum-known-e

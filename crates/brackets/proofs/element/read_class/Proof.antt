@@ -13,11 +13,11 @@ find-class-requires c κs = search needs
 enum-known-c : tie.Need-enum-known-c
 enum-known-c c = search needs
 
+class-at-requires : tie.Need-class-at-requires
+class-at-requires c κs = search class-low
+
 add-next : tie.Need-add-next
 add-next c = search needs
-
-class-size-requires : tie.Need-class-size-requires
-class-size-requires c κs = search class-low
 
 add-next-2 : tie.Need-add-next-2
 add-next-2 c = search needs
@@ -44,8 +44,8 @@ read-class-spec =
     add-find-class
     find-class-requires
     enum-known-c
+    class-at-requires
     add-next
-    class-size-requires
     add-next-2
     starts-range-requires
     returns

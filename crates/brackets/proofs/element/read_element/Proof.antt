@@ -4,17 +4,14 @@ use Rattle.brackets.proofs.Elements.{element-class, element-opens, elem
 use Rattle.brackets.proofs.element.read_element.Statement.{statement}
 use Rattle.brackets.proofs.element.read_element.Tie as tie
 
-add-peek : tie.Need-add-peek
-add-peek c = search needs
-
 peek-requires : tie.Need-peek-requires
 peek-requires c κs = search needs
 
+add-peek : tie.Need-add-peek
+add-peek c = search needs
+
 peek-requires-2 : tie.Need-peek-requires-2
 peek-requires-2 c κs = search needs
-
-opens-requires : tie.Need-opens-requires
-opens-requires c κs = search needs
 
 read-class-requires : tie.Need-read-class-requires
 read-class-requires c κs = search needs
@@ -47,10 +44,9 @@ pub read-element-spec : {M : Type 1} → statement M
 read-element-spec =
     tie.close
     (tie.spec
-    add-peek
     peek-requires
+    add-peek
     peek-requires-2
-    opens-requires
     read-class-requires
     returns
     returns-2

@@ -1,14 +1,11 @@
 -- `starts_range`: both bytes.
 use borrow.Author.Needs.{needs}
-use Rattle.brackets.proofs.Elements.{no-range, dash-range}
+use Rattle.brackets.proofs.Elements.{range-starts}
 use Rattle.brackets.proofs.element.starts_range.Statement.{statement}
 use Rattle.brackets.proofs.element.starts_range.Tie as tie
 
 peek-requires : tie.Need-peek-requires
 peek-requires c κs = search needs
-
-returns : tie.Need-returns
-returns c = search no-range
 
 add-peek : tie.Need-add-peek
 add-peek c = search needs
@@ -16,8 +13,8 @@ add-peek c = search needs
 peek-requires-2 : tie.Need-peek-requires-2
 peek-requires-2 c κs = search needs
 
-returns-2 : tie.Need-returns-2
-returns-2 c = search dash-range
+returns : tie.Need-returns
+returns c = search range-starts
 
 pub starts-range-spec : {M : Type 1} → statement M
-starts-range-spec = tie.close (tie.spec peek-requires returns add-peek peek-requires-2 returns-2)
+starts-range-spec = tie.close (tie.spec peek-requires add-peek peek-requires-2 returns)
