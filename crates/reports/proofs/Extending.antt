@@ -9,7 +9,7 @@ use lib.Dec.{leb, ltb, eqb}
 use lib.Bits.{bitOr}
 use lib.Pow.{pow-lt}
 use lib.ListN.{getD, set, replicate}
-use borrow.Author.Tests.{ltb-true, ltb-false, leb-true, leb-false, le-leb, lt-leb, eq-eqb, ne-eqb}
+use borrow.Author.Tests.{ltb-true, ltb-false, lt-ltb, le-ltb, leb-true, leb-false, le-leb, lt-leb, eq-eqb, ne-eqb}
 use Rattle.stateset.specs.Set.{bit, word, common}
 use Rattle.stateset.proofs.Sets.{word-ext, word-one, bit-word, word-high, bits-ext}
 use Rattle.pattern.specs.Meaning.{matches}
@@ -100,6 +100,13 @@ module _ (t : Pattern) (few : atomCount t ≤ 29) (q : ℕ) (inside : q < states
 -- line-start alone
 start-word : (t : Pattern) → 1 ≡ word (states t) (leads t 0 [])
 start-word t = word-one (states t) 0 (omega arith) ∙ word-ext (states t) (λ p. eqb 0 p) (leads t 0 []) (λ p h. sym (leads-none t 0 p))
+
+-- how many rows are used
+pub used-some : (s : ℕ) → s < 32 → s ≡ cond (ltb s 32) s 32
+used-some s h = rw (lt-ltb s 32 h) refl
+
+pub used-most : (s : ℕ) → 32 ≤ s → 32 ≡ cond (ltb s 32) s 32
+used-most s h = rw (le-ltb s 32 h) refl
 
 -- where there are at most 32 states, all rows are used
 pub used-all : {s n : ℕ} → s ≤ 32 → n ≡ cond (ltb s 32) s 32 → n ≡ s

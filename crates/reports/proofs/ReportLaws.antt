@@ -7,6 +7,7 @@ use mathlib.Core.List.{List, [], _∷_, _++_}
 use lib.Dec.{leb, ltb, eqb}
 use borrow.Author.Tests.{ltb-true, lt-ltb}
 use native.Mathlib.Nat.{zero-add}
+use Rattle.pattern.proofs.Leading.{leads-none}
 use Rattle.stateset.proofs.Gathering.{begun, begun-more}
 use lib.ListN.{getD, set}
 use Rattle.stateset.specs.Set.{bit, word}
@@ -41,7 +42,7 @@ empty-is t =
 
 -- its rows, one after the other: each state is reached from itself
 module _ (s : ℕ) where
-  abbrev own : ℕ → ℕ
+  abbrev pub own : ℕ → ℕ
   own q = cond (ltb q s) (word s (λ p. eqb q p)) 0
 
   pub own-row : (q : ℕ) {x : ℕ} → q < 32 → x ≡ cond (ltb q s) (1 * 2 ^ q % 2 ^ 64) 0 → x ≡ own q
@@ -51,8 +52,8 @@ module _ (s : ℕ) where
       go true i = shifted q (omega arith) ∙ word-one s q (ltb-true q s i)
       go false i = refl
 
-  pub own-more : {rows : List ℕ} {q x : ℕ} → (q ≤ 32) × (rows ≡ begun own 32 q) → q < 32 → x ≡ cond (ltb q s) (1 * 2 ^ q % 2 ^ 64) 0 → (q + 1 ≤ 32) × (set rows q x ≡ begun own 32 (q + 1))
-  own-more {rows} {q} (l, e) h f = (omega arith, rw (e, own-row q h f) (begun-more own 32 q h))
+  pub own-more : {rows : List ℕ} {q x : ℕ} → rows ≡ begun own 32 q → q < 32 → x ≡ cond (ltb q s) (1 * 2 ^ q % 2 ^ 64) 0 → set rows q x ≡ begun own 32 (q + 1)
+  own-more {rows} {q} e h f = rw (e, own-row q h f) (begun-more own 32 q h)
 
   pub own-all : {rows : List ℕ} {q : ℕ} → (q ≤ 32) × (rows ≡ begun own 32 q) → 32 ≤ q → _≡_ {A = Report} (record { s = s; rows = rows; flag = 0; heads = 0; closed = 0; tail = 0 }) (emptyReport s)
   own-all {rows} {q} (l, e) h =

@@ -169,6 +169,13 @@ module _ (n at s : ℕ) where
       go (inl e) = let far : 32 < s = ltb-true 32 s e in rw (lt-leb s 32 far) refl
       go (inr e) = let far : n < at = ltb-true n at e in let over : n < at + (s + 4) = omega arith in rw (lt-leb (at + (s + 4)) n over) (sym (and-false (leb s 32)))
 
+  module _ (h : (ltb 32 s || ltb n at) ≡ false) where
+    pub room-sum : Fits w64 (s + 4)
+    room-sum = omega (arith, ltb-false 32 s (neither (ltb 32 s) (ltb n at) h .0))
+
+    pub room-left : at ≤ n
+    room-left = ltb-false n at (neither (ltb 32 s) (ltb n at) h .1)
+
   pub room-told : (ltb 32 s || ltb n at) ≡ false → leb (s + 4) (n - at) ≡ roomFor n at s
   room-told h =
       let (small, low) = neither (ltb 32 s) (ltb n at) h in

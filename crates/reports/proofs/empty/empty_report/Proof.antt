@@ -36,7 +36,9 @@ loop-less : tie.Need-loop-less Inv-loop μ-loop
 loop-less c = omega arith
 
 loop-again : tie.Need-loop-again Inv-loop μ-loop
-loop-again c = search (own-more)
+loop-again c =
+    let l = c .before .before .loop in
+    (omega arith, own-more (c .before .before .before .args .s) (l .inv .1) (omega arith) (c .chosen .ensures))
 
 returns : tie.Need-returns Inv-loop μ-loop
 returns c = search (own-all)

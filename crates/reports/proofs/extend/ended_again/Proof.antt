@@ -18,7 +18,9 @@ fits-requires : tie.Need-fits-requires
 fits-requires c κs = search needs
 
 add-t9 : tie.Need-add-t9
-add-t9 c = search needs
+add-t9 c =
+    let a = c .before .before .before .before .before .before .before .args .a in
+    omega (arith, fits-sum (a .flag) (a .closed) (c .before .before .before .chosen .result) (c .before .before .fits2 .ensures) (c .before .if1 .taken))
 
 returns : tie.Need-returns
 returns c = search (ended-more)

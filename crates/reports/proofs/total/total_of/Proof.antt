@@ -34,7 +34,7 @@ last-line-requires : tie.Need-last-line-requires
 last-line-requires c κs = search needs
 
 add-ends : tie.Need-add-ends
-add-ends c = search needs
+add-ends c = omega (arith, at-most-one (c .before .before .meets2 .result) (c .before .chosen2 .ensures), c .last-line .ensures .small)
 
 sub-if3 : tie.Need-sub-if3
 sub-if3 c = search needs

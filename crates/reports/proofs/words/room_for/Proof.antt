@@ -1,5 +1,5 @@
 -- `words::room_for`: by a difference.
-use Rattle.reports.proofs.WordLaws.{room-none, room-told}
+use Rattle.reports.proofs.WordLaws.{room-none, room-sum, room-left, room-told}
 use borrow.Author.Needs.{needs}
 use Rattle.reports.proofs.words.room_for.Statement.{statement}
 use Rattle.reports.proofs.words.room_for.Tie as tie
@@ -8,10 +8,10 @@ returns : tie.Need-returns
 returns c = search (room-none)
 
 add-result : tie.Need-add-result
-add-result c = search needs
+add-result c = search (room-sum)
 
 sub-result : tie.Need-sub-result
-sub-result c = search needs
+sub-result c = search (room-left)
 
 returns-2 : tie.Need-returns-2
 returns-2 c = search (room-told)
