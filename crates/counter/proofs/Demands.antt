@@ -29,14 +29,14 @@ use Rattle.pattern.specs.Form.{Pattern}
 use Rattle.lines.specs.Parts.{laterParts, lastPart}
 
 -- a sound book, an accepted pattern, a macro of the book, and work space enough
-pub record Asked (b p work : List ℕ) (ms : List Macro) (t : Pattern) (m : ℕ) : Type 0 where
+pub record Countable (b p work : List ℕ) (ms : List Macro) (t : Pattern) (m : ℕ) : Type 0 where
   pub well : wellFormed ms ≡ true
   pub book : b ≡ encode ms
   pub pattern : reader.readPattern p ≡ reader.accepted t
   pub inside : m < length ms
   pub enough : needed t m ≤ length work
 
-module _ {b p work : List ℕ} {ms : List Macro} {t : Pattern} {m : ℕ} (a : Asked b p work ms t m) where
+module _ {b p work : List ℕ} {ms : List Macro} {t : Pattern} {m : ℕ} (a : Countable b p work ms t m) where
   -- what is answered then
   answer : countResult (readBook b) (reader.readPattern p) m work ≡ countOf t ms m work
   unfolding countResult
@@ -60,7 +60,7 @@ module _ {b p work : List ℕ} {ms : List Macro} {t : Pattern} {m : ℕ} (a : As
 
 -- "Two sound books alike in every macro that the one named reaches, whatever their other macros hold, give the same count for it
 -- under the same pattern, each with such work space, or are both refused."
-module _ {b c p work space : List ℕ} {ms ns : List Macro} {t : Pattern} {m : ℕ} (x : Asked b p work ms t m) (y : Asked c p space ns t m) (alike : (j : ℕ) → Reaches ms m j → Alike ms ns j) where
+module _ {b c p work space : List ℕ} {ms ns : List Macro} {t : Pattern} {m : ℕ} (x : Countable b p work ms t m) (y : Countable c p space ns t m) (alike : (j : ℕ) → Reaches ms m j → Alike ms ns j) where
   pub alike-counts : (countResult (readBook b) (reader.readPattern p) m work .refusal ≡ countResult (readBook c) (reader.readPattern p) m space .refusal) × (countResult (readBook b) (reader.readPattern p) m work .lines ≡ countResult (readBook c) (reader.readPattern p) m space .lines)
   alike-counts = rw (answer x, answer y, expansion-alike ms ns m alike) (go (leb (matching t (expansion ns m)) most) (matching t (expansion ns m)) (steps t ms m) (steps t ns m) (filled t ms m work) (filled t ns m space))
     where

@@ -1,5 +1,4 @@
--- Laws.
-pub mod Summaries
+-- Laws of the count over a book, and demand 3 (`Demands`).
 pub mod ItemLaws
 pub mod FillLaws
 pub mod BookLaws

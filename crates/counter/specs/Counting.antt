@@ -1,5 +1,5 @@
 -- Document 01, "States and steps", "Reports" and "Refused": the count over a book, its steps and its work words.
-use Prim.Native.Nat.{ℕ, zero, suc, _+_, _*_}
+use Prim.Native.Nat.{ℕ, suc, _+_, _*_}
 use mathlib.Core.Bool.{cond}
 use mathlib.Core.List.{List, [], _++_}
 use lib.Dec.{leb, ltb}
@@ -15,6 +15,7 @@ use Rattle.pattern.specs.Reader as reader
 use Rattle.lines.specs.Lines.{matching}
 use Rattle.reports.specs.Reports.{most, report}
 use Rattle.reports.specs.Words.{pairs, reportWords}
+use Rattle.runs.specs.Kept.{firstWords}
 use Rattle.pattern.specs.Form.{Pattern}
 use Rattle.runs.specs.Counts.{sumBelow}
 
@@ -42,14 +43,13 @@ itemsTo ms m = sumBelow (suc m) (λ i. length (getD ms i []))
 abbrev pub needed : Pattern → ℕ → ℕ
 needed t m = suc m * (states t + 4)
 
--- the words of the reports of the first n macros
-unfoldable pub firstReports : Pattern → List Macro → ℕ → List ℕ
-firstReports t ms zero = []
-firstReports t ms (suc n) = firstReports t ms n ++ reportWords (report t (expansion ms n))
+-- the words of macro i's report
+abbrev pub macroWords : Pattern → List Macro → ℕ → List ℕ
+macroWords t ms i = reportWords (report t (expansion ms i))
 
 -- "After it these first words hold the reports of macros 0 to m .. Later words are not touched."
 abbrev pub filled : Pattern → List Macro → ℕ → List ℕ → List ℕ
-filled t ms m work = firstReports t ms (suc m) ++ drop (needed t m) work
+filled t ms m work = firstWords (macroWords t ms) (suc m) ++ drop (needed t m) work
 
 -- The answer: the refusal's number, or 0 with the lines and the steps; and the work words.
 pub record Outcome : Type 0 where

@@ -1,4 +1,4 @@
--- The count over a book.
+-- The count over a book: steps, work words, refusals, what it answers, and what private functions promise each other.
 pub mod Counting
 pub mod Answers
-pub mod Items
+pub mod Promises

@@ -1,27 +1,23 @@
 // The count over a book.
-use crate::items::MacroCount;
 use crate::items::items_report;
 use book::Checked;
+use book::items_of;
 use book::layout_of;
-use lines::Closing;
-use lines::closing_of;
 use pattern::Accepting;
 use pattern::Verdict;
 use pattern::read_pattern;
 use refusal::Refusal;
+use reports::BEHIND_ROWS;
 use reports::Total;
 use reports::load;
 use reports::store;
 use reports::total_of;
-ghost use Prim.Native.Nat.{_≤_, _*_, _+_, suc};
-ghost use mathlib.Core.List.{[]};
-ghost use lib.ListN.{length, getD};
 ghost use mathlib.Core.Path.{_≡_};
 ghost use Rattle.book.specs.Reading.{macrosIn, readBook};
 ghost use Rattle.pattern.specs.Reader.{readPattern};
 ghost use Rattle.counter.specs.Answers.{outcome};
 ghost use Rattle.counter.specs.Counting.{countResult};
-ghost use Rattle.counter.specs.Items.{BookCounted, Filled, InBook, ItemsCounted, MacroFits, PatternCounted};
+ghost use Rattle.counter.specs.Promises.{BookCounted, Filled, InBook, MacroFits, PatternCounted, PatternFits};
 
 // How many lines match, and the steps; or why it is refused.
 pub enum BookCount {
@@ -29,45 +25,25 @@ pub enum BookCount {
     Refused(Refusal),
 }
 
-// Macro i: its report and its steps.
-fn macro_count(
-    book: &[u8],
-    offsets: &[usize; 1025],
-    i: usize,
-    s: u64,
-    work: &[u64],
-    keys: &[u64; 256],
-    enter: &[u64; 32],
-    c: Closing,
-) -> MacroCount
-    requires { ⌜ MacroFits (now book) (now offsets) i s (now work) ⌝ }
-    ensures { λ r. ⌜ ItemsCounted (now (keys .entry)) (now (enter .entry)) c (now (work .entry)) s (getD (macrosIn (now (book .entry))) i []) r ⌝ }
-{
-    let start = offsets[i] + 2;
-    let end = offsets[i + 1];
-    items_report(&book[start..end], s, work, keys, enter, c)
-}
-
 // Macros 0 to m in turn: each calls only those whose reports stand already. Answers the steps.
 fn fill(
     book: &[u8],
     offsets: &[usize; 1025],
     m: usize,
-    s: u64,
     work: &mut [u64],
     keys: &[u64; 256],
     enter: &[u64; 32],
-    c: Closing,
+    p: Accepting,
 ) -> u64
-    requires { ⌜ MacroFits (now book) (now offsets) m s (now work) ⌝ }
-    requires { ⌜ suc m * (s + 4) ≤ length (now work) ⌝ }
-    ensures { λ r. ⌜ Filled (now (keys .entry)) (now (enter .entry)) c (macrosIn (now (book .entry))) m s (now (work .entry)) (now (work .exit)) r ⌝ }
+    requires { ⌜ MacroFits (now book) (now offsets) m p (now work) ⌝ }
+    ensures { λ r. ⌜ Filled (now (keys .entry)) (now (enter .entry)) p (macrosIn (now (book .entry))) m (now (work .entry)) (now (work .exit)) r ⌝ }
 {
-    let width = s as usize + 4;
+    let width = p.states + BEHIND_ROWS;
     let mut steps = 0;
     let mut i = 0;
     while i <= m {
-        let r = macro_count(book, offsets, i, s, work, keys, enter, c);
+        let items = items_of(book, offsets, i);
+        let r = items_report(items, work, keys, enter, p);
         steps += r.steps;
         store(work, i * width, r.report);
         i += 1;
@@ -80,20 +56,18 @@ fn counted_macro(
     book: &[u8],
     offsets: &[usize; 1025],
     m: usize,
-    s: u64,
     work: &mut [u64],
     keys: &[u64; 256],
     enter: &[u64; 32],
-    c: Closing,
+    p: Accepting,
 ) -> BookCount
-    requires { ⌜ MacroFits (now book) (now offsets) m s (now work) ⌝ }
-    requires { ⌜ suc m * (s + 4) ≤ length (now work) ⌝ }
-    ensures { λ r. ⌜ BookCounted (now (keys .entry)) (now (enter .entry)) c (macrosIn (now (book .entry))) m s (now (work .entry)) (now (work .exit)) r ⌝ }
+    requires { ⌜ MacroFits (now book) (now offsets) m p (now work) ⌝ }
+    ensures { λ r. ⌜ BookCounted (now (keys .entry)) (now (enter .entry)) p (macrosIn (now (book .entry))) m (now (work .entry)) (now (work .exit)) r ⌝ }
 {
-    let steps = fill(book, offsets, m, s, work, keys, enter, c);
-    let n = s as usize;
-    let report = load(work, m * (n + 4), n);
-    match total_of(report, c) {
+    let steps = fill(book, offsets, m, work, keys, enter, p);
+    let at = m * (p.states + BEHIND_ROWS);
+    let report = load(work, at, p.states as u64);
+    match total_of(report, p) {
         Total::Lines(lines) => BookCount::Lines(lines, steps),
         Total::TooMany => BookCount::Refused(Refusal::CountOverflow),
     }
@@ -108,20 +82,19 @@ fn counted_pattern(
     work: &mut [u64],
     keys: &[u64; 256],
     enter: &[u64; 32],
-    a: Accepting,
+    p: Accepting,
 ) -> BookCount
     requires { ⌜ InBook (now book) (now offsets) macros ⌝ }
-    requires { ⌜ a .atoms ≤ 29 ⌝ }
-    ensures { λ r. ⌜ PatternCounted (now (keys .entry)) (now (enter .entry)) a (macrosIn (now (book .entry))) m (now (work .entry)) (now (work .exit)) r ⌝ }
+    requires { ⌜ PatternFits p ⌝ }
+    ensures { λ r. ⌜ PatternCounted (now (keys .entry)) (now (enter .entry)) p (macrosIn (now (book .entry))) m (now (work .entry)) (now (work .exit)) r ⌝ }
 {
     if macros <= m {
         return BookCount::Refused(Refusal::NoSuchMacro);
     }
-    let s = a.atoms + 3;
-    if work.len() < (m + 1) * (s + 4) {
+    if work.len() < (m + 1) * (p.states + BEHIND_ROWS) {
         return BookCount::Refused(Refusal::InsufficientSpace);
     }
-    counted_macro(book, offsets, m, s as u64, work, keys, enter, closing_of(a))
+    counted_macro(book, offsets, m, work, keys, enter, p)
 }
 
 // A sound book: 7, 8 and 9 of the table come before the rest.
@@ -140,7 +113,7 @@ fn counted_sound(
     let mut enter = [0; 32];
     match read_pattern(pattern, &mut keys, &mut enter) {
         Verdict::Refused(r) => BookCount::Refused(r),
-        Verdict::Accepted(a) => counted_pattern(book, offsets, macros, m, work, &keys, &enter, a),
+        Verdict::Accepted(p) => counted_pattern(book, offsets, macros, m, work, &keys, &enter, p),
     }
 }
 

@@ -1,20 +1,18 @@
 // The report of a macro's items, one after another.
 use book::Item;
-use book::ItemRead;
-use book::read_item;
-use lines::Closing;
+use book::Items;
+use book::item_of;
+use pattern::Accepting;
+use reports::BEHIND_ROWS;
 use reports::Report;
 use reports::empty_report;
 use reports::extended;
-use reports::joined;
+use reports::join;
 use reports::load;
 use reports::pairs_in;
 ghost use Prim.Native.Nat.{_≤_};
-ghost use mathlib.Core.Path.{_≡_};
-ghost use lib.ListN.{length};
-ghost use Rattle.book.specs.Reading.{itemsOf};
-ghost use Rattle.counter.specs.Items.{AfterItem, CallFits, CallsFit, ItemsCounted};
-ghost use Rattle.reports.specs.Reports.{emptyReport};
+ghost use Rattle.book.specs.MacroItems.{decoded};
+ghost use Rattle.counter.specs.Promises.{AfterItem, ItemsCounted, ItemsFit};
 
 // What a macro's items come to.
 pub(crate) struct MacroCount {
@@ -29,44 +27,43 @@ fn after_item(
     work: &[u64],
     keys: &[u64; 256],
     enter: &[u64; 32],
-    c: Closing,
+    p: Accepting,
 ) -> Report
-    requires { ⌜ CallFits (a .s) item (now work) ⌝ }
-    ensures { λ r. ⌜ AfterItem (now (keys .entry)) (now (enter .entry)) c (now (work .entry)) a item r ⌝ }
+    requires { ⌜ a .s ≤ 32 ⌝ }
+    ensures { λ r. ⌜ AfterItem (now (keys .entry)) (now (enter .entry)) p (now (work .entry)) a item r ⌝ }
 {
     match item {
-        Item::Key(k) => extended(a, k, keys, enter, c),
+        Item::Key(k) => extended(a, k, keys, enter, p),
         Item::Call(j) => {
-            let s = a.s as usize;
-            let called = load(work, j as usize * (s + 4), s);
-            joined(a, called)
+            let at = j as usize * (a.s as usize + BEHIND_ROWS);
+            let called = load(work, at, a.s);
+            let joined = join(a, called);
+            joined.report
         }
     }
 }
 
-// All items of a body.
+// All items of a macro.
 pub(crate) fn items_report(
-    body: &[u8],
-    s: u64,
+    items: Items,
     work: &[u64],
     keys: &[u64; 256],
     enter: &[u64; 32],
-    c: Closing,
+    p: Accepting,
 ) -> MacroCount
-    requires { ⌜ CallsFit s (now body) (now work) ⌝ }
-    ensures { λ r. ⌜ ItemsCounted (now (keys .entry)) (now (enter .entry)) c (now (work .entry)) s (itemsOf (now (body .entry))) r ⌝ }
+    requires { ⌜ ItemsFit items p ⌝ }
+    ensures { λ r. ⌜ ItemsCounted (now (keys .entry)) (now (enter .entry)) p (now (work .entry)) (decoded items) r ⌝ }
 {
-    let mut report = empty_report(s);
+    let codes = items.codes;
+    let count = items.count;
+    let mut report = empty_report(p.states as u64);
     let mut steps = 0;
-    let mut at = 0;
-    while at < body.len() {
-        let read = read_item(body, at);
-        let ItemRead::Found(item) = read else {
-            return MacroCount { report, steps };
-        };
+    let mut k = 0;
+    while k < count {
         steps += pairs_in(report);
-        report = after_item(report, item, work, keys, enter, c);
-        at += 2;
+        let item = item_of(codes[k]);
+        report = after_item(report, item, work, keys, enter, p);
+        k += 1;
     }
     MacroCount { report, steps }
 }

@@ -1,11 +1,16 @@
--- Laws of the report of a macro's items, one after another.
+-- Laws of reports: of the empty run, their sizes, joined, the pairs of states that they show.
 use Prim.Native.Nat.{ℕ, zero, suc, _+_, _*_, _%_, _^_, _<_, _≤_}
 use native.Mathlib.Omega.{arith}
 use mathlib.Core.Path.{_≡_, refl, sym, ap, _∙_}
 use mathlib.Core.Bool.{Bool, true, false, cond, _&&_}
 use mathlib.Core.List.{List, [], _∷_, _++_}
 use lib.Dec.{leb, ltb, eqb}
-use borrow.Author.Tests.{ltb-true, lt-ltb}
+use borrow.Author.Tests.{ltb-true, lt-ltb, eq-eqb, le-leb}
+use Rattle.refusal.specs.declared.Refusal.the-variants.{ReportMismatch}
+use Rattle.refusal.specs.Number.{number}
+use Rattle.reports.specs.Answers.{joinResult}
+use Rattle.runs.specs.Keys.{isRun}
+use Rattle.reports.specs.Reports.{alike, noReport}
 use native.Mathlib.Nat.{zero-add}
 use Rattle.pattern.proofs.Leading.{leads-none}
 use Rattle.stateset.proofs.Gathering.{begun, begun-more}
@@ -15,16 +20,17 @@ use Rattle.stateset.proofs.Sets.{word-one, word-ext}
 use Rattle.stateset.proofs.Counts.{count-word}
 use Rattle.pattern.specs.Meaning.{matches}
 use Rattle.pattern.specs.Moves.{states, leads}
+use Rattle.reports.specs.declared.report.Joined.{Joined}
 use Rattle.reports.specs.declared.report.Report.{Report}
 use Rattle.lines.specs.Lines.{countIn}
 use Rattle.reports.specs.Reports.{rowsOf, reportWith, report, joinedWith, joinedReports, emptyReport}
 use Rattle.reports.specs.Words.{pairsWith, pairs, pairsIn}
-use Rattle.reports.proofs.JoinLaw.{row-of, flag-set}
+use Rattle.reports.proofs.JoinLaw.{row-of, flag-set, join-reports}
 use Rattle.reports.proofs.Joins.{shifted}
 use Rattle.reports.proofs.WordLaws.{sizes-le}
 use Rattle.runs.specs.Counts.{countBelow, sumBelow}
 use Rattle.runs.proofs.CountLaws.{count-le, sum-ext}
-use Rattle.runs.proofs.Tests.{and-both, and-fst, and-snd}
+use Rattle.runs.proofs.Tests.{and-both, and-fst, and-snd, torn}
 use Rattle.pattern.specs.Form.{Pattern, atomCount}
 use Rattle.runs.specs.Keys.{isRun}
 use Rattle.lines.specs.Parts.{laterParts, lastPart, partsBefore}
@@ -70,7 +76,7 @@ report-size t w = go (laterParts w)
     go [] = refl
     go (l ∷ ls) = refl
 
-pub joined-size : (a b : Report) → joinedReports a b .s ≡ a .s
+joined-size : (a b : Report) → joinedReports a b .s ≡ a .s
 unfolding joinedReports
 joined-size a b = go (eqb (a .flag) 0) (eqb (b .flag) 0)
   where
@@ -79,6 +85,28 @@ joined-size a b = go (eqb (a .flag) 0) (eqb (b .flag) 0)
     go true false = refl
     go false true = refl
     go false false = refl
+
+-- joining leaves a size that is no larger
+pub join-small : (a b : Report) → a .s ≤ 32 → joinResult a b .report .s ≤ 32
+join-small a b h = go (alike a b)
+  where
+    go : (x : Bool) → cond {A = Joined} x (record { refused = 0; report = joinedReports a b }) (record { refused = number ReportMismatch; report = noReport }) .report .s ≤ 32
+    go true = rw (joined-size a b) h
+    go false = omega arith
+
+-- and joins the reports of two runs
+pub join-runs : (t : Pattern) → atomCount t ≤ 29 → (u v : List ℕ) → isRun u ≡ true → isRun v ≡ true → joinResult (report t u) (report t v) .report ≡ report t (u ++ v)
+join-runs t few u v g h = go (alike (report t u) (report t v)) fits
+  where
+    fits : alike (report t u) (report t v) ≡ true
+    fits =
+        let small : states t ≤ 32 = omega arith in
+        let big : 3 ≤ states t = omega arith in
+        rw (report-size t u, report-size t v, eq-eqb (states t) (states t) refl, le-leb 3 (states t) big, le-leb (states t) 32 small) refl
+
+    go : (x : Bool) → x ≡ true → cond {A = Joined} x (record { refused = 0; report = joinedReports (report t u) (report t v) }) (record { refused = number ReportMismatch; report = noReport }) .report ≡ report t (u ++ v)
+    go true e = join-reports t few u v g h
+    go false e = torn false e refl
 
 -- a report shows the pairs of its run
 pub pairs-of : (t : Pattern) → atomCount t ≤ 29 → (w : List ℕ) → pairsIn (report t w) ≡ pairs t w

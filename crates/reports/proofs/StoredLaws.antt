@@ -1,18 +1,18 @@
--- Laws of the work words of a book's macros.
+-- Laws of the words of a report: read back, they are the report.
 use Prim.Native.Nat.{ℕ, zero, suc, _+_, _-_, _<_, _≤_}
 use native.Mathlib.Omega.{arith}
 use mathlib.Core.Path.{_≡_, refl, sym, ap, _∙_}
 use mathlib.Core.Bool.{Bool, cond}
 use mathlib.Core.List.{List, [], _∷_, _++_, append-assoc}
 use lib.Dec.{ltb}
-use borrow.Author.Tests.{le-ltb}
+use borrow.Author.Tests.{le-ltb, le-leb}
 use Rattle.stateset.specs.Set.{word}
-use lib.ListN.{length, getD, take, replicate, length-append, length-take}
+use lib.ListN.{length, getD, take, drop, replicate, length-append, length-take, length-drop}
 use lib.Seq.{take-at, getD-at, getD-append-add}
 use Rattle.pattern.specs.Moves.{states, leads}
 use Rattle.reports.specs.declared.report.Report.{Report}
 use Rattle.reports.specs.Reports.{rowsOf, noRows, reportWith, report}
-use Rattle.reports.specs.Words.{reportWords, loaded}
+use Rattle.reports.specs.Words.{reportWords, loaded, loadedAt, storedAt}
 use Rattle.pattern.specs.Form.{Pattern, atomCount}
 use Rattle.stateset.proofs.Tabled.{tabled-length, tabled-at}
 use Rattle.lines.specs.Parts.{laterParts}
@@ -85,3 +85,15 @@ module _ (t : Pattern) (few : atomCount t ≤ 29) (w : List ℕ) where
       go : (ls : List (List ℕ)) → loaded (states t) (reportWords (reportWith t w ls) ++ rest) ≡ reportWith t w ls
       go [] = made-loaded (states t) (rowsOf (states t) (λ q p. leads t q w p)) 0 0 0 0 (omega arith) (rows-long (states t) (λ q p. leads t q w p)) rest (rows-padded (states t) (λ q p. leads t q w p) (omega arith))
       go (l ∷ ls) = made-loaded (states t) noRows _ _ _ _ (omega arith) refl rest (zeros-padded (states t) (omega arith))
+
+  -- the report that stands at a place
+  pub loaded-from : (work behind : List ℕ) (at : ℕ) → drop at work ≡ reportWords (report t w) ++ behind → loadedAt work at (states t) ≡ report t w
+  loaded-from work behind at e =
+      let left : length work - at ≡ states t + 4 + length behind = sym (length-drop at work) ∙ ap length e ∙ length-append (reportWords (report t w)) behind ∙ ap (λ (n : ℕ). n + length behind) words-length in
+      let small : states t ≤ 32 = omega arith in
+      let room : at + (states t + 4) ≤ length work = omega arith in
+      rw (le-leb (states t) 32 small, le-leb (at + (states t + 4)) (length work) room) (ap (loaded (states t)) e ∙ loaded-words behind)
+
+-- a report that there is room for is stored
+pub stored-there : (work : List ℕ) (at : ℕ) (r : Report) → r .s ≤ 32 → at + (r .s + 4) ≤ length work → storedAt work at r ≡ take at work ++ (reportWords r ++ drop (at + (r .s + 4)) work)
+stored-there work at r h l = rw (le-leb (r .s) 32 h, le-leb (at + (r .s + 4)) (length work) l) refl

@@ -14,6 +14,8 @@ use Rattle.stateset.proofs.Some.{any-ext, any-at}
 use Rattle.pattern.specs.Moves.{states, accepting, leads, acceptedFrom}
 use Rattle.stateset.specs.Set.{common}
 use Rattle.pattern.proofs.AcceptedLines.{states-match}
+use Rattle.pattern.specs.Automata.{Automaton}
+use Rattle.pattern.proofs.Readings.{accepting-of}
 use Rattle.pattern.proofs.Leading.{leads-none, leads-start}
 use Rattle.pattern.specs.Meaning.{matches}
 use Rattle.reports.specs.declared.report.Report.{Report}
@@ -150,3 +152,8 @@ module _ (c : Accepting) (r : Report) where
         by-parts Total.TooMany
         (λ t few e w h o d j. absurd (some (ap (λ (a : Report). a .flag) j)))
         (λ t few e w h l ls d j. let a = sum-of t few e w h l ls d j in many-shown (matching t w) (omega arith))
+
+-- the count of a run from its report, where the tables are those of a pattern
+pub totals-are : {t : Pattern} {keys enter : List ℕ} {p : Accepting} → Automaton t keys enter p → {r : Report} {x : Total} → Totals p r x → (w : List ℕ) → isRun w ≡ true → isOpen w ≡ true → r ≡ report t w → x ≡ totalOf (matching t w)
+unfolding Totals
+totals-are {t} d z w h o e = z t (d .few) (accepting-of d) w h o e

@@ -9,6 +9,7 @@ mod words;
 pub use empty::empty_report;
 pub use extend::extended;
 pub use joining::join;
+pub use report::BEHIND_ROWS;
 pub use report::Joined;
 pub use report::Report;
 pub use total::Total;

@@ -7,6 +7,9 @@ ghost use lib.Dec.{ltb};
 // The largest count.
 pub(crate) const MOST: u64 = 0xffff_ffff_ffff_ffff;
 
+// The work words of a report behind its rows: flag, heads, closed, tail.
+pub const BEHIND_ROWS: usize = 4;
+
 // What a run does to the states of a pattern (document 01, "Reports").
 pub struct Report {
     // How many states there are.

@@ -1,4 +1,5 @@
 // The work words of reports (document 01, "Reports"): rows, flag, heads, closed, tail.
+use crate::report::BEHIND_ROWS;
 use crate::report::Report;
 use crate::report::rows_used;
 use stateset::size;
@@ -18,7 +19,7 @@ fn room_for(n: usize, at: usize, s: u64) -> bool
     if (s > 32) | (at > n) {
         return false;
     }
-    s as usize + 4 <= n - at
+    s as usize + BEHIND_ROWS <= n - at
 }
 
 // The rows whose words start at `at`, and zeros for the states that there are not.

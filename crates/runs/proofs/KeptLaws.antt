@@ -11,6 +11,10 @@ use lib.ListN.{length, take, drop, length-append}
 use lib.Seq.{take-at, drop-at, drop-drop}
 use Rattle.runs.specs.Kept.{firstWords, times}
 
+pub words-none : (W : ℕ → List ℕ) → firstWords W 0 ≡ []
+unfolding firstWords
+words-none W = refl
+
 module _ (W : ℕ → List ℕ) (k : ℕ) (wide : (i : ℕ) → length (W i) ≡ k) where
   pub words-length : (n : ℕ) → length (firstWords W n) ≡ n * k
   unfolding firstWords

@@ -1,6 +1,6 @@
 -- `items::after_item`: a key extends the report, a call joins the called macro's.
 use native.Mathlib.Omega.{arith}
-use Rattle.counter.proofs.ItemLaws.{item-key, item-call, call-room}
+use Rattle.counter.proofs.ItemLaws.{call-small, item-key, item-call}
 use borrow.Author.Needs.{needs}
 use Rattle.counter.proofs.items.after_item.Statement.{statement}
 use Rattle.counter.proofs.items.after_item.Tie as tie
@@ -14,20 +14,20 @@ extended-requires c κs = search needs
 enum-known-item-2 : tie.Need-enum-known-item-2
 enum-known-item-2 c = search needs
 
-cast-load : tie.Need-cast-load
-cast-load c = search needs
+cast-at : tie.Need-cast-at
+cast-at c = search needs
 
-add-load : tie.Need-add-load
-add-load c = search needs
+add-at : tie.Need-add-at
+add-at c = search needs
 
-mul-load : tie.Need-mul-load
-mul-load c = omega (arith, call-room (c .before .item2 .given .1) (c .before .before .before .before .pre))
+mul-at : tie.Need-mul-at
+mul-at c = search (call-small)
 
 load-requires : tie.Need-load-requires
-load-requires c κs = omega (arith, c .before .before .before .before .pre .small, call-room (c .before .item2 .given .1) (c .before .before .before .before .pre))
+load-requires c κs = search needs
 
-joined-requires : tie.Need-joined-requires
-joined-requires c κs = search needs
+join-requires : tie.Need-join-requires
+join-requires c κs = search needs
 
 returns : tie.Need-returns
 returns c = search (item-key)
@@ -42,10 +42,10 @@ after-item-spec =
     enum-known-item
     extended-requires
     enum-known-item-2
-    cast-load
-    add-load
-    mul-load
+    cast-at
+    add-at
+    mul-at
     load-requires
-    joined-requires
+    join-requires
     returns
     returns-2)

@@ -1,51 +1,46 @@
 -- `items::items_report`: the report is that of the items so far, and the steps are theirs.
-use borrow.Author.Needs.{needs}
-use Prim.Native.Nat.{_-_, _≤_}
+use Prim.Native.Nat.{_-_}
 use native.Mathlib.Omega.{arith}
-use lib.ListN.{length}
-use Rattle.counter.proofs.ItemLaws.{ItemsSoFar, items-start, items-short, item-fits, items-on, items-stop}
 use Rattle.reports.proofs.ReportLaws.{pairs-le}
+use Rattle.counter.proofs.ItemLaws.{ItemsSoFar, items-start, items-on, items-done}
+use borrow.Author.Needs.{needs}
 use Rattle.counter.proofs.items.items_report.Statement.{statement}
 use Rattle.counter.proofs.items.items_report.Tie as tie
 
 abbrev Inv-loop : tie.InvT-loop
-Inv-loop body s work keys enter c report₀ steps₀ at₀ report steps at = ItemsSoFar keys enter c work s body report steps at
+Inv-loop work keys enter p codes count report₀ steps₀ k₀ report steps k = ItemsSoFar keys enter p work (record { codes = codes; count = count }) report steps k
 
 abbrev μ-loop : tie.MeasureT-loop
-μ-loop body s work keys enter c report₀ steps₀ at₀ report steps at = length body - at
+μ-loop work keys enter p codes count report₀ steps₀ k₀ report steps k = count - k
 
 empty-report-requires : tie.Need-empty-report-requires Inv-loop μ-loop
-empty-report-requires c κs = omega arith
+empty-report-requires c κs = search needs
 
 loop-holds : tie.Need-loop-holds Inv-loop μ-loop
 loop-holds c = search (items-start)
 
-read-item-requires : tie.Need-read-item-requires Inv-loop μ-loop
-read-item-requires c κs = search needs
-
-enum-known-read : tie.Need-enum-known-read Inv-loop μ-loop
-enum-known-read c = search needs
-
-enum-told : tie.Need-enum-told Inv-loop μ-loop
-enum-told c = search needs
-
-returns : tie.Need-returns Inv-loop μ-loop
-returns c = search (items-short)
-
 pairs-in-requires : tie.Need-pairs-in-requires Inv-loop μ-loop
-pairs-in-requires c κs = omega arith
+pairs-in-requires c κs = search needs
 
 add-steps : tie.Need-add-steps Inv-loop μ-loop
 add-steps c =
-    let l = c .before .before .before .before .before .before .loop in
-    let small : l .report .s ≤ 32 = omega arith in
-    omega (arith, c .pairs-in .ensures, pairs-le (l .report) small)
+    let l = c .before .before .loop in
+    omega (arith, c .before .before .before .before .before .before .pre .few, l .inv .few, c .pairs-in .ensures, pairs-le (l .report) (l .inv .small))
+
+mul-item-of : tie.Need-mul-item-of Inv-loop μ-loop
+mul-item-of c = search needs
+
+array-read-item-of : tie.Need-array-read-item-of Inv-loop μ-loop
+array-read-item-of c = omega (arith, c .before .before .before .before .before .before .pre .few)
+
+item-of-requires : tie.Need-item-of-requires Inv-loop μ-loop
+item-of-requires c κs = search needs
 
 after-item-requires : tie.Need-after-item-requires Inv-loop μ-loop
-after-item-requires c κs = search (item-fits)
+after-item-requires c κs = c .before .before .before .loop .inv .small
 
-add-at : tie.Need-add-at Inv-loop μ-loop
-add-at c = omega arith
+add-k : tie.Need-add-k Inv-loop μ-loop
+add-k c = omega arith
 
 loop-less : tie.Need-loop-less Inv-loop μ-loop
 loop-less c = omega arith
@@ -53,8 +48,8 @@ loop-less c = omega arith
 loop-again : tie.Need-loop-again Inv-loop μ-loop
 loop-again c = search (items-on)
 
-returns-2 : tie.Need-returns-2 Inv-loop μ-loop
-returns-2 c = search (items-stop)
+returns : tie.Need-returns Inv-loop μ-loop
+returns c = search (items-done)
 
 pub items-report-spec : {M : Type 1} → statement M
 items-report-spec =
@@ -64,14 +59,13 @@ items-report-spec =
     μ-loop
     empty-report-requires
     loop-holds
-    read-item-requires
-    enum-known-read
-    enum-told
-    returns
     pairs-in-requires
     add-steps
+    mul-item-of
+    array-read-item-of
+    item-of-requires
     after-item-requires
-    add-at
+    add-k
     loop-less
     loop-again
-    returns-2)
+    returns)

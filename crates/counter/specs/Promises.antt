@@ -1,0 +1,80 @@
+-- What the private functions of the count over a book promise each other; no public contract cites these.
+use Prim.Native.Nat.{ℕ, suc, _+_, _*_, _<_, _≤_}
+use mathlib.Core.Path.{_≡_}
+use mathlib.Core.Bool.{true}
+use mathlib.Core.List.{List, [], _++_, List·Memᴰ}
+use lib.ListN.{length}
+use Rattle.runs.specs.Keys.{isKey, isRun}
+use Rattle.book.specs.declared.item.Item.{Item}
+use Rattle.book.specs.declared.item.Item.the-variants.{Key, Call}
+use Rattle.book.specs.declared.macro_items.Items.{Items}
+use Rattle.book.specs.Format.{Macro}
+use Rattle.book.specs.Expansion.{keysOf, expand}
+use Rattle.book.specs.Reading.{got, readBook, macrosIn}
+use Rattle.book.specs.Answer.{layout}
+use Rattle.pattern.specs.Form.{Pattern}
+use Rattle.pattern.specs.Moves.{states}
+use Rattle.pattern.specs.Automata.{Automaton}
+use Rattle.pattern.specs.declared.automaton.Accepting.{Accepting}
+use Rattle.reports.specs.declared.report.Report.{Report}
+use Rattle.reports.specs.Reports.{report}
+use Rattle.reports.specs.Words.{loadedAt}
+use Rattle.counter.specs.declared.counting.BookCount.{BookCount}
+use Rattle.counter.specs.declared.items.MacroCount.{MacroCount}
+use Rattle.counter.specs.Counting.{itemSteps, steps, filled, countOf, countWith}
+use Rattle.counter.specs.Answers.{outcome}
+
+-- an item is a key, or a call whose run's report stands in the work words
+abbrev pub Served : Pattern → (ℕ → List ℕ) → List ℕ → Item → Type 0
+Served t called work (Key k) = isKey k ≡ true
+Served t called work (Call j) = (loadedAt work (j * (states t + 4)) (states t) ≡ report t (called j)) × (isRun (called j) ≡ true)
+
+-- and so is each of some
+abbrev pub AllServed : Pattern → (ℕ → List ℕ) → List ℕ → List Item → Type 0
+AllServed t called work items = (item : Item) → List·Memᴰ item items → Served t called work item
+
+-- the report of a run with the run of one item more
+pub record AfterItem (keys enter : List ℕ) (p : Accepting) (work : List ℕ) (a : Report) (item : Item) (b : Report) : Type 0 where
+  pub small : b .s ≤ 32
+  pub extends : (t : Pattern) → Automaton t keys enter p → (called : ℕ → List ℕ) (w : List ℕ) → isRun w ≡ true → Served t called work item → a ≡ report t w → b ≡ report t (w ++ keysOf called item)
+
+-- items and states within the limits of the code
+pub record ItemsFit (items : Items) (p : Accepting) : Type 0 where
+  pub few : items .count ≤ 64
+  pub there : items .count ≤ length (items .codes)
+  pub small : p .states ≤ 32
+
+-- the report of the run of some items, and their steps; each item has at most 32 × 64 pairs
+pub record ItemsCounted (keys enter : List ℕ) (p : Accepting) (work : List ℕ) (items : List Item) (r : MacroCount) : Type 0 where
+  pub few : r .steps ≤ 131072
+  pub counts : (t : Pattern) → Automaton t keys enter p → (called : ℕ → List ℕ) → AllServed t called work items → (r .report ≡ report t (expand called items)) × (r .steps ≡ itemSteps t called items)
+
+-- macro m of a sound book whose layout has these offsets, with room for the reports of macros 0 to m
+pub record MacroFits (book offsets : List ℕ) (m : ℕ) (p : Accepting) (work : List ℕ) : Type 0 where
+  pub table : offsets ≡ layout book .offsets
+  pub inside : m < length (macrosIn book)
+  pub small : p .states ≤ 32
+  pub room : suc m * (p .states + 4) ≤ length work
+
+-- the reports of macros 0 to m stand in the work words, and their steps were counted
+pub record Filled (keys enter : List ℕ) (p : Accepting) (ms : List Macro) (m : ℕ) (before after : List ℕ) (n : ℕ) : Type 0 where
+  pub long : length after ≡ length before
+  pub counts : (t : Pattern) → Automaton t keys enter p → (after ≡ filled t ms m before) × (n ≡ steps t ms m)
+
+-- the count of macro m, where the work words suffice
+unfoldable pub BookCounted : List ℕ → List ℕ → Accepting → List Macro → ℕ → List ℕ → List ℕ → BookCount → Type 0
+BookCounted keys enter p ms m before after r = (t : Pattern) → Automaton t keys enter p → outcome r after ≡ countOf t ms m before
+
+-- a sound book, by its layout
+pub record InBook (book offsets : List ℕ) (macros : ℕ) : Type 0 where
+  pub table : offsets ≡ layout book .offsets
+  pub many : macros ≡ length (macrosIn book)
+  pub sound : readBook book ≡ got (macrosIn book) []
+
+-- states within the limit of the code
+pub record PatternFits (p : Accepting) : Type 0 where
+  pub small : p .states ≤ 32
+
+-- the count of macro m of a sound book under an accepted pattern
+unfoldable pub PatternCounted : List ℕ → List ℕ → Accepting → List Macro → ℕ → List ℕ → List ℕ → BookCount → Type 0
+PatternCounted keys enter p ms m before after r = (t : Pattern) → Automaton t keys enter p → outcome r after ≡ countWith ms t m before
