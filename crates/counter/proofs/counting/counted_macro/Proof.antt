@@ -1,0 +1,54 @@
+-- `counting::counted_macro`: the count is that of macro m's run.
+use Rattle.counter.proofs.BookLaws.{macro-lines, macro-over}
+use borrow.Author.Needs.{needs}
+use Rattle.counter.proofs.counting.counted_macro.Statement.{statement}
+use Rattle.counter.proofs.counting.counted_macro.Tie as tie
+
+fill-requires : tie.Need-fill-requires
+fill-requires c κs = search needs
+
+add-at : tie.Need-add-at
+add-at c = search needs
+
+mul-at : tie.Need-mul-at
+mul-at c = search needs
+
+load-requires : tie.Need-load-requires
+load-requires c κs = search needs
+
+total-of-requires : tie.Need-total-of-requires
+total-of-requires c κs = search needs
+
+enum-known-lines : tie.Need-enum-known-lines
+enum-known-lines c = search needs
+
+enum-told : tie.Need-enum-told
+enum-told c = search needs
+
+same-length : tie.Need-same-length
+same-length c = search needs
+
+returns : tie.Need-returns
+returns c = search (macro-lines)
+
+same-length-2 : tie.Need-same-length-2
+same-length-2 c = search needs
+
+returns-2 : tie.Need-returns-2
+returns-2 c = search (macro-over)
+
+pub counted-macro-spec : {M : Type 1} → statement M
+counted-macro-spec =
+    tie.close
+    (tie.spec
+    fill-requires
+    add-at
+    mul-at
+    load-requires
+    total-of-requires
+    enum-known-lines
+    enum-told
+    same-length
+    returns
+    same-length-2
+    returns-2)
