@@ -24,9 +24,11 @@ use Rattle.reports.specs.Reports.{most}
 use Rattle.reports.specs.Words.{pairsWith, pairs}
 use Rattle.counter.specs.Counting.{itemSteps, stepsWithin, steps, itemsTo, Outcome, finished, stopped, filled, needed, countOf, countResult}
 use Rattle.runs.specs.Counts.{countBelow, sumBelow}
-use Rattle.runs.proofs.CountLaws.{count-le}
+use Rattle.runs.proofs.CountLaws.{count-le, sum-le, sum-scale}
 use Rattle.pattern.specs.Form.{Pattern}
 use Rattle.lines.specs.Parts.{laterParts, lastPart}
+use Rattle.book.proofs.LayoutLaws.{macros-few}
+use Rattle.reports.proofs.ReportLaws.{pairs-square}
 
 -- a sound book, an accepted pattern, a macro of the book, and work space enough
 pub record Countable (b p work : List ℕ) (ms : List Macro) (t : Pattern) (m : ℕ) : Type 0 where
@@ -70,31 +72,24 @@ module _ {b c p work space : List ℕ} {ms ns : List Macro} {t : Pattern} {m : �
 
 -- "are never more than the number of items in the macros up to the one named, times the square of the number of states"
 module _ (t : Pattern) where
-  sum-le : (n k : ℕ) (f : ℕ → ℕ) → ((i : ℕ) → i < n → f i ≤ k) → sumBelow n f ≤ n * k
-  unfolding sumBelow
-  sum-le zero k f h = omega arith
-  sum-le (suc n) k f h = omega (arith, sum-le n k f (λ i l. h i (omega arith)), h n (omega arith))
-
-  pairs-le : (w : List ℕ) → pairs t w ≤ states t * states t
-  unfolding pairs
-  pairs-le w = go (laterParts w)
-    where
-      go : (ls : List (List ℕ)) → pairsWith t w ls ≤ states t * states t
-      go [] = sum-le (states t) (states t) (λ q. countBelow (states t) (leads t q w)) (λ q l. count-le (states t) (leads t q w))
-      go (l ∷ ls) = let one : 1 ≤ states t = omega arith in omega (arith, count-le (states t) (leads t 0 (lastPart l ls)), mul-le-mul-left (states t) one)
-
-  -- a sum of numbers that are each at most k times another
-  sum-scale : (n k : ℕ) (f g : ℕ → ℕ) → ((i : ℕ) → f i ≤ g i * k) → sumBelow n f ≤ sumBelow n g * k
-  unfolding sumBelow
-  sum-scale zero k f g h = omega arith
-  sum-scale (suc n) k f g h = omega (arith, sum-scale n k f g h, h n)
-
   pub steps-bound : (ms : List Macro) (m : ℕ) → steps t ms m ≤ itemsTo ms m * (states t * states t)
   unfolding steps itemsTo itemSteps
   steps-bound ms m = sum-scale (suc m) (states t * states t) (stepsWithin t ms) (λ i. length (getD ms i [])) (λ i. within (getD ms i []))
     where
       within : (items : Macro) → itemSteps t (λ j. expansion ms j) items ≤ length items * (states t * states t)
-      within items = sum-le (length items) (states t * states t) (λ k. pairs t (expand (λ j. expansion ms j) (take k items))) (λ k l. pairs-le (expand (λ j. expansion ms j) (take k items)))
+      within items = sum-le (length items) (states t * states t) (λ k. pairs t (expand (λ j. expansion ms j) (take k items))) (λ k l. pairs-square t (expand (λ j. expansion ms j) (take k items)))
+
+-- No book has a macro from 1,024 on: all such numbers are refused alike.
+pub beyond-alike : (b : List ℕ) (p : reader.Read) (m n : ℕ) (work : List ℕ) → 1024 ≤ m → 1024 ≤ n → countResult (readBook b) p m work ≡ countResult (readBook b) p n work
+unfolding countResult
+beyond-alike b p m n work g h = go (readBook b) refl p
+  where
+    go : (r : Reading (List Macro)) → readBook b ≡ r → (q : reader.Read) → countResult r q m work ≡ countResult r q n work
+    go (refused r) d q = refl
+    go (got ms rest) d (reader.refused r) = refl
+    go (got ms rest) d (reader.accepted t) =
+        let few : length ms ≤ 1024 = rw d at (macros-few b) in
+        rw (le-ltb m (length ms) (omega arith), le-ltb n (length ms) (omega arith)) refl
 
 -- Demand 1: "it refuses with the one number that the table in document 01 sets, zeros in the answer and the work space left as
 -- stated under it".

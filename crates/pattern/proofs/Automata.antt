@@ -8,7 +8,8 @@ use mathlib.Core.List.{List, [], _∷_}
 use mathlib.Core.Option.{Option, none, some}
 use lib.Bits.{bitOr, or-zero-r, or-zero-l}
 use lib.Dec.{leb, ltb}
-use lib.ListN.{length, set, replicate}
+use lib.ListN.{length, getD, set, replicate, length-replicate}
+use lib.Seq.{ext-getD}
 use borrow.Author.Tests.{le-leb, lt-ltb, lt-leb}
 use Rattle.refusal.specs.declared.Refusal.the-variants.{PatternSyntax, TooManyAtoms}
 use Rattle.pattern.specs.declared.automaton.Accepting.{Accepting}
@@ -25,12 +26,12 @@ use Rattle.pattern.specs.Moves.{enters}
 use Rattle.pattern.specs.Cycle.{Ready}
 use Rattle.refusal.specs.Figures.{answered}
 use Rattle.pattern.specs.Automata.{keyTable, enterTable, accepts, acceptingOf, refusedPattern, readFigures, keysRead, enterRead}
-use Rattle.brackets.proofs.Entries.{with-same, with-with, with-none}
+use Rattle.brackets.proofs.Entries.{with-same, with-with, with-none, with-length, with-getD}
 use Rattle.pattern.proofs.Moving.{always-word, accepting-word}
 use Rattle.pattern.proofs.Tables.{atoms-none, atoms-same, both-added, added-if}
 use Rattle.pattern.specs.Form.{Expr, Branch, Pattern, atomsIn, atomCount}
 use Rattle.stateset.specs.Tabled.{tabled}
-use Rattle.stateset.proofs.Tabled.{tabled-same}
+use Rattle.stateset.proofs.Tabled.{tabled-same, tabled-length, tabled-at, tabled-next}
 use Rattle.runs.proofs.Tests.{clash}
 use Rattle.brackets.specs.Answers.{mapWith}
 
@@ -127,15 +128,23 @@ module _ (table : ℕ → Option Expr → List ℕ → List ℕ) (G : ℕ → Ex
       l
 
 -- tables that begin with 0 everywhere
-from-zero : (F : ℕ → ℕ) (n i : ℕ) → mapWith (λ q x. bitOr x (F q)) i (replicate n 0) ≡ tabled F n i
-unfolding mapWith tabled
-from-zero F zero i = refl
-from-zero F (suc n) i = ap (λ l. F i ∷ l) (from-zero F n (suc i))
+from-zero : (F : ℕ → ℕ) (n : ℕ) → mapWith (λ q x. bitOr x (F q)) 0 (replicate n 0) ≡ tabled F n 0
+from-zero F n =
+    ext-getD 0 (mapWith (λ q x. bitOr x (F q)) 0 (replicate n 0)) (tabled F n 0) (long ∙ sym (tabled-length F n 0))
+    (λ k h. let low : k < n = rw long at h in with-getD (λ q x. bitOr x (F q)) 0 (replicate n 0) k (rw length-replicate low) ∙ rw (zeros n k) (or-zero-l (F k)) ∙ sym (tabled-at F n k low))
+  where
+    long : length (mapWith (λ q x. bitOr x (F q)) 0 (replicate n 0)) ≡ n
+    long = with-length (λ q x. bitOr x (F q)) 0 (replicate n 0) ∙ length-replicate n 0
+
+    zeros : (n k : ℕ) → _≡_ {A = ℕ} (getD (replicate n 0) k 0) 0
+    zeros zero k = refl
+    zeros (suc n) zero = refl
+    zeros (suc n) (suc k) = zeros n k
 
 module _ (t : Pattern) where
   pub keys-all : through keysIn 0 t (replicate 256 0) ≡ keyTable t
   unfolding keyTable
-  keys-all = entries keysIn (λ b e c k. holds b e k c) (λ b e l. refl) (λ b l. refl) t 0 (replicate 256 0) ∙ from-zero (λ c. atomWord (λ k. holdsKey t k c)) 256 0
+  keys-all = entries keysIn (λ b e c k. holds b e k c) (λ b e l. refl) (λ b l. refl) t 0 (replicate 256 0) ∙ from-zero (λ c. atomWord (λ k. holdsKey t k c)) 256
 
   -- a state that is found enters nothing, and one of an atom what follows it
   enters-later : (q : ℕ) → 2 ≤ q → q < 32 → atomWord (λ k. someBranch (λ c r. inPieces (λ e. isAtom q && follow c e (q - 3) k) (r .pieces)) 0 t) ≡ atomWord (enters t q)
@@ -164,13 +173,17 @@ module _ (t : Pattern) where
       rw (low, high, back) refl
 
   pub enter-all : set (set (through enterIn 0 t (replicate 32 0)) 0 (summaryOf 0 t blank .first)) 1 (summaryOf 0 t blank .free) ≡ enterTable t
-  unfolding enterTable tabled enters
+  unfolding enterTable enters
   enter-all =
       let F : ℕ → ℕ = λ q. atomWord (λ k. someBranch (λ c r. inPieces (λ e. isAtom q && follow c e (q - 3) k) (r .pieces)) 0 t) in
-      let whole : through enterIn 0 t (replicate 32 0) ≡ tabled F 32 0 = entries enterIn (λ b e q k. isAtom q && follow b e (q - 3) k) (λ b e l. refl) (λ b l. refl) t 0 (replicate 32 0) ∙ from-zero F 32 0 in
-      ap (λ (l : List ℕ). set (set l 0 (summaryOf 0 t blank .first)) 1 (summaryOf 0 t blank .free)) whole
+      let whole : through enterIn 0 t (replicate 32 0) ≡ tabled F 32 0 = entries enterIn (λ b e q k. isAtom q && follow b e (q - 3) k) (λ b e l. refl) (λ b l. refl) t 0 (replicate 32 0) ∙ from-zero F 32 in
+      ap (λ (l : List ℕ). set (set l 0 (summaryOf 0 t blank .first)) 1 (summaryOf 0 t blank .free)) (whole ∙ parted F)
       ∙ two (summaryOf 0 t blank .first) (atomWord (enters t 0)) (summaryOf 0 t blank .free) (atomWord (enters t 1)) all-first' all-free' (tabled-same F (λ q. atomWord (enters t q)) 30 2 (λ q g h. enters-later q g h))
+      ∙ sym (parted (λ q. atomWord (enters t q)))
     where
+      parted : (H : ℕ → ℕ) → tabled H 32 0 ≡ H 0 ∷ H 1 ∷ tabled H 30 2
+      parted H = tabled-next H 31 0 ∙ ap (λ (l : List ℕ). H 0 ∷ l) (tabled-next H 30 1)
+
       two : (a b c d : ℕ) {l m : List ℕ} → a ≡ b → c ≡ d → l ≡ m → a ∷ c ∷ l ≡ b ∷ d ∷ m
       two a b c d e f g = rw (e, f, g)
 

@@ -27,6 +27,7 @@ use Rattle.runs.proofs.Tests.{clash}
 use Rattle.runs.proofs.KeyLaws.{line-drop}
 use Rattle.brackets.proofs.AtomsFrom.{atom-from}
 use Rattle.runs.specs.Keys.{isLine}
+use Rattle.brackets.proofs.AtomsBack.{atom-long}
 
 -- an expression has an atom, and each atom has a byte
 pub atoms-some : (e : Expr) → 1 ≤ atoms e
@@ -39,16 +40,9 @@ atoms-some (opt e) = atoms-some e
 atoms-some (seq p q) = let h : 1 ≤ atoms p = atoms-some p in omega arith
 atoms-some (alt p q) = let h : 1 ≤ atoms p = atoms-some p in omega arith
 
-atom-written : (a : Atom) → 1 ≤ length (writeAtom a)
-unfolding writeAtom
-atom-written (plain b) = omega arith
-atom-written dot = omega arith
-atom-written (escaped b) = omega arith
-atom-written (bracket n es) = omega arith
-
 pub atoms-written : (e : Expr) → atoms e ≤ length (write e)
 unfolding atoms write
-atoms-written (atom a) = atom-written a
+atoms-written (atom a) = atom-long a
 atoms-written (group e) = let h : atoms e ≤ length (write e) = atoms-written e in rw length-append (omega arith)
 atoms-written (star e) = let h : atoms e ≤ length (write e) = atoms-written e in rw length-append (omega arith)
 atoms-written (plus e) = let h : atoms e ≤ length (write e) = atoms-written e in rw length-append (omega arith)
@@ -371,7 +365,7 @@ module _ (s : List ℕ) (c : Cursor) (r : Ready s c) (keys enter : List ℕ) (b 
         go : (z : Parsed Atom) → readAtom (drop (c .at) s) ≡ z → AtomDone (length s) c keys x keys' z → Done (length s) c keys enter y keys' after (next (next z (λ a. done (atom a))) readRepeat)
         go (parsed a rest) q (i, j) =
             let there : d ≡ record { at = length s - length rest; atoms = c .atoms + 1 } = cc in
-            let v = behind s c r d (atom a) (writeAtom a) rest (atom-from (drop (c .at) s) rest a (line-drop (c .at) s (r .clean)) q .0) (atom-written a) there in
+            let v = behind s c r d (atom a) (writeAtom a) rest (atom-from (drop (c .at) s) rest a (line-drop (c .at) s (r .clean)) q .0) (atom-long a) there in
             done-repeat s c d keys keys' enter enter (atom a) rest p m em (v .ready .inside) (v .here) there (cc) j (enter-atom (c .atoms) a enter) y after ey ea
         go fault q i = clash (cc)
 
@@ -443,7 +437,7 @@ module _ (s : List ℕ) (c : Cursor) (r : Ready s c) (keys keys' : List ℕ) (x 
       go (parsed a rest) q (i, j) =
           let there : d ≡ record { at = length s - length rest; atoms = c .atoms + 1 } = cc in
           let shape : p ≡ shapeOf (c .atoms) (atom a) = cc in
-          let v = behind s c r d (atom a) (writeAtom a) rest (atom-from (drop (c .at) s) rest a (line-drop (c .at) s (r .clean)) q .0) (atom-written a) there in
+          let v = behind s c r d (atom a) (writeAtom a) rest (atom-from (drop (c .at) s) rest a (line-drop (c .at) s (r .clean)) q .0) (atom-long a) there in
           (v .ready, rw shape (word-lt 32 (λ q. atomState (last (c .atoms) (atom a)) q)))
       go fault q i = clash (cc)
 

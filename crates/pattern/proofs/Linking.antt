@@ -9,7 +9,7 @@ use lib.Dec.{eqb}
 use lib.ListN.{getD, set}
 use lib.Bits.{bitOr}
 use Rattle.stateset.specs.Set.{bit}
-use Rattle.stateset.proofs.Sets.{bit-high}
+use Rattle.stateset.proofs.Sets.{bit-high, bit-half, bit-first}
 use Rattle.pattern.specs.Tables.{linked}
 use Rattle.brackets.proofs.Entries.{partly, entry-first, entry-set, entry-last}
 
@@ -32,11 +32,10 @@ module _ (from to : ℕ) where
 
   module _ (before enter : List ℕ) (rest q : ℕ) (l : Linked before enter rest q) where
     pub linked-more : (v : ℕ) → q < 32 → v ≡ cond (eqb (rest % 2) 1) (bitOr (getD enter q 0) to) (getD enter q 0) → Linked before (set enter q v) (rest / 2) (q + 1)
-    unfolding bit
     linked-more v h e = record {
       inside = omega arith;
-      digits = λ p. l .digits (suc p) ∙ ap (bit from) (shift p);
-      entries = entry-set 0 linkedEntry q enter before (l .entries) v (e ∙ ap (λ (t : Bool). cond t (bitOr (getD enter q 0) to) (getD enter q 0)) (l .digits 0 ∙ ap (bit from) (add-zero q)));
+      digits = λ p. bit-half rest p ∙ l .digits (suc p) ∙ ap (bit from) (shift p);
+      entries = entry-set 0 linkedEntry q enter before (l .entries) v (e ∙ ap (λ (t : Bool). cond t (bitOr (getD enter q 0) to) (getD enter q 0)) (sym (bit-first rest) ∙ l .digits 0 ∙ ap (bit from) (add-zero q)));
     }
       where
         shift : (p : ℕ) → q + suc p ≡ q + 1 + p

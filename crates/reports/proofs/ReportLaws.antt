@@ -11,7 +11,7 @@ use Rattle.refusal.specs.Number.{number}
 use Rattle.reports.specs.Answers.{joinResult}
 use Rattle.runs.specs.Keys.{isRun}
 use Rattle.reports.specs.Reports.{alike, noReport}
-use native.Mathlib.Nat.{zero-add}
+use native.Mathlib.Nat.{zero-add, mul-le-mul-left}
 use Rattle.pattern.proofs.Leading.{leads-none}
 use Rattle.stateset.proofs.Gathering.{begun, begun-more}
 use lib.ListN.{getD, set}
@@ -29,7 +29,7 @@ use Rattle.reports.proofs.JoinLaw.{row-of, flag-set, join-reports}
 use Rattle.reports.proofs.Joins.{shifted}
 use Rattle.reports.proofs.WordLaws.{sizes-le}
 use Rattle.runs.specs.Counts.{countBelow, sumBelow}
-use Rattle.runs.proofs.CountLaws.{count-le, sum-ext}
+use Rattle.runs.proofs.CountLaws.{count-le, sum-ext, sum-le}
 use Rattle.runs.proofs.Tests.{and-both, and-fst, and-snd, torn}
 use Rattle.pattern.specs.Form.{Pattern, atomCount}
 use Rattle.runs.specs.Keys.{isRun}
@@ -126,3 +126,12 @@ pairs-le r h = go (eqb (r .flag) 0)
     go : (b : Bool) → cond b (sumBelow (r .s) (λ q. countBelow 64 (bit (getD (r .rows) q 0)))) (countBelow 64 (bit (r .tail))) ≤ 2048
     go true = omega (arith, sizes-le (r .rows) (r .s))
     go false = omega (arith, count-le 64 (bit (r .tail)))
+
+-- a run has no more pairs than the square of the number of states
+pub pairs-square : (t : Pattern) (w : List ℕ) → pairs t w ≤ states t * states t
+unfolding pairs
+pairs-square t w = go (laterParts w)
+  where
+    go : (ls : List (List ℕ)) → pairsWith t w ls ≤ states t * states t
+    go [] = sum-le (states t) (states t) (λ q. countBelow (states t) (leads t q w)) (λ q l. count-le (states t) (leads t q w))
+    go (l ∷ ls) = let one : 1 ≤ states t = omega arith in omega (arith, count-le (states t) (leads t 0 (lastPart l ls)), mul-le-mul-left (states t) one)

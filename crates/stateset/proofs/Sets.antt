@@ -21,6 +21,15 @@ odd a true = let e : (a * 2 + 1) % 2 ≡ 1 = omega arith in rw e
 odd a false = let e : (a * 2 + 0) % 2 ≡ 0 = omega arith in rw e
 
 -- nothing
+-- the lowest digit, and the others
+pub bit-first : (w : ℕ) → bit w 0 ≡ eqb (w % 2) 1
+unfolding bit
+bit-first w = refl
+
+pub bit-half : (w p : ℕ) → bit (w / 2) p ≡ bit w (suc p)
+unfolding bit
+bit-half w p = refl
+
 pub bit-zero : (p : ℕ) → bit 0 p ≡ false
 unfolding bit
 bit-zero zero = refl

@@ -3,8 +3,14 @@ use Prim.Native.Nat.{ℕ, zero, suc, _+_, _<_, _≤_}
 use native.Mathlib.Omega.{arith}
 use native.Mathlib.Nat.{not-suc-le-zero, add-zero, zero-add}
 use mathlib.Core.Path.{_≡_, refl, ap}
+use mathlib.Core.List.{_∷_}
 use lib.ListN.{length, getD}
 use Rattle.stateset.specs.Tabled.{tabled}
+
+-- the first entry and the others
+pub tabled-next : (f : ℕ → ℕ) (n i : ℕ) → tabled f (suc n) i ≡ f i ∷ tabled f n (suc i)
+unfolding tabled
+tabled-next f n i = refl
 
 pub tabled-length : (f : ℕ → ℕ) (n i : ℕ) → length (tabled f n i) ≡ n
 unfolding tabled
