@@ -1,8 +1,8 @@
 // Cases of a book's check, and of bodies.
 use crate::numbers::small;
 use crate::show;
-use book::body;
-use book::check;
+use counter::body;
+use counter::check;
 ghost use Prim.Native.Nat.{_≤_};
 ghost use lib.ListN.{length};
 

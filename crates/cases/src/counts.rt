@@ -4,23 +4,22 @@ use crate::numbers::prepare;
 use crate::numbers::report;
 use crate::numbers::small;
 use crate::show;
+use counter::MOST_WORDS;
 use counter::count_book;
 use counter::join;
 ghost use Prim.Native.Nat.{_≤_};
 ghost use lib.ListN.{length};
+ghost use Rattle.counter.specs.Counting.{mostWords};
 
 // The bytes in front of a count's pattern.
 const HEAD: usize = 13;
-
-// The most work words of a case: as many as any count needs.
-const WORDS: usize = 36864;
 
 // The bytes of a joining: its kind and two reports of 37 numbers.
 const JOINING: usize = 593;
 
 // Counts with these work words. Their hash is printed after a refusal too: it shows what the count left there.
 fn count_in(pattern: &[u8], book: &[u8], m: usize, work: &mut [u64])
-    requires { ⌜ length (now work) ≤ 36864 ⌝ }
+    requires { ⌜ length (now work) ≤ mostWords ⌝ }
 {
     prepare(work);
     let answer = count_book(book, pattern, m, work);
@@ -29,9 +28,9 @@ fn count_in(pattern: &[u8], book: &[u8], m: usize, work: &mut [u64])
 
 // Counts with the first w of the work words: the others are there because an array's length is fixed.
 fn count(pattern: &[u8], book: &[u8], m: usize, w: usize)
-    requires { ⌜ w ≤ 36864 ⌝ }
+    requires { ⌜ w ≤ mostWords ⌝ }
 {
-    let mut work = [0; WORDS];
+    let mut work = [0; MOST_WORDS];
     count_in(pattern, book, m, &mut work[..w]);
 }
 
@@ -46,7 +45,7 @@ pub(crate) fn counting(bytes: &[u8]) -> usize
     let w = small(bytes, 4);
     let book = HEAD + small(bytes, 7);
     let end = book + small(bytes, 10);
-    if w > WORDS {
+    if w > MOST_WORDS {
         return 0;
     }
     if end > bytes.len() {

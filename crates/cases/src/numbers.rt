@@ -2,6 +2,7 @@
 use counter::Report;
 ghost use Prim.Native.Nat.{_+_, _<_, _≤_};
 ghost use lib.ListN.{length};
+ghost use Rattle.counter.specs.Counting.{mostWords};
 
 fn byte(b: u8) -> usize
     ensures { λ r. ⌜ r < 256 ⌝ }
@@ -63,7 +64,7 @@ pub(crate) fn report(bytes: &[u8], at: usize) -> Report
 
 // What the work words hold before a call: no two alike and none of them zero, so that a word that changes shows.
 pub(crate) fn prepare(work: &mut [u64])
-    requires { ⌜ length (now work) ≤ 36864 ⌝ }
+    requires { ⌜ length (now work) ≤ mostWords ⌝ }
 {
     let mut i = 0;
     while i < work.len() {

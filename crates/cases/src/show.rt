@@ -1,7 +1,7 @@
 // What is printed of an answer.
 use crate::numbers::hash;
 use crate::numbers::hash_bytes;
-use book::Checked;
+use counter::Checked;
 use counter::BookCount;
 use counter::Joined;
 use counter::LineTest;

@@ -6,20 +6,20 @@ use native.Mathlib.Numerals.{add-one}
 use mathlib.Core.Path.{_≡_, refl, sym, ap, _∙_}
 use mathlib.Core.Bool.{Bool, true, false, not, cond, _&&_}
 use mathlib.Core.List.{List, [], _∷_}
-use mathlib.Core.Option.{Option, none, some}
-use lib.Dec.{leb, ltb}
+use mathlib.Core.Option.{none, some}
+use lib.Dec.{leb}
 use lib.ListN.{length, getD, drop, replicate, drop-of-length-le}
 use lib.Seq.{drop-cons}
-use borrow.Author.Tests.{leb-true, leb-false, le-leb, lt-leb, le-ltb, not-true, not-false}
+use borrow.Author.Tests.{leb-true, leb-false, le-leb, lt-leb, not-true, not-false}
 use Rattle.book.specs.Format.{Macro}
-use Rattle.book.specs.Reading.{Reading, got, refused, readBook}
-use Rattle.book.proofs.Offsets.{whole}
+use Rattle.book.specs.Reading.{readBook}
 use Rattle.pattern.specs.Reader as reader
-use Rattle.counter.specs.Counting.{Outcome, countResult}
+use Rattle.counter.specs.Counting.{Outcome, countResult, mostWords}
 use Rattle.command.specs.declared.asked.Asked.{Asked}
 use Rattle.command.specs.Input.{Told, told, macroAnswer}
 use Rattle.command.specs.Asked.{isDigit, allDigits, isNumber, decimal, namedAnswer, askedResult}
 use Rattle.runs.proofs.Tests.{clash}
+use Rattle.counter.proofs.Demands.{beyond-alike}
 
 never : {A : Type 0} → false ≡ true → A
 never e = clash (ap (λ (b : Bool). cond b 1 0) e)
@@ -127,19 +127,11 @@ module _ {w : List ℕ} {at n : ℕ} (x : Written w at n) where
 
 -- A number from 1,024 on is refused like 1,024: no book has such a macro.
 pub asked-alike : (b : List ℕ) (p : reader.Read) (n : ℕ) (work : List ℕ) → countResult (readBook b) p (min n 1024) work ≡ countResult (readBook b) p n work
-unfolding countResult
 asked-alike b p n work = go (leb n 1024) refl
   where
-    beyond : 1024 ≤ n → (g : Reading (List Macro)) → readBook b ≡ g → (q : reader.Read) → countResult g q (min n 1024) work ≡ countResult g q n work
-    beyond h (refused r) d q = refl
-    beyond h (got ms rest) d (reader.refused r) = refl
-    beyond h (got ms rest) d (reader.accepted t) =
-        let few = whole b ms rest d .few in
-        rw (le-ltb (min n 1024) (length ms) (omega arith), le-ltb n (length ms) (omega arith)) refl
-
     go : (x : Bool) → leb n 1024 ≡ x → countResult (readBook b) p (min n 1024) work ≡ countResult (readBook b) p n work
     go true l = let h = leb-true n 1024 l in let same : min n 1024 ≡ n = omega arith in rw same refl
-    go false l = let h = leb-false n 1024 l in beyond (omega arith) (readBook b) refl p
+    go false l = let h = leb-false n 1024 l in beyond-alike b p (min n 1024) n work (omega arith) (omega arith)
 
 -- What is told of the macro that a text names.
 macroOf : Asked → ℕ
@@ -158,7 +150,7 @@ module _ (book pattern text : List ℕ) {a : Asked} (e : a ≡ askedResult text)
       go : (b : Bool) → Asked.Macro m ≡ cond b (Asked.Macro (min (decimal text) 1024)) Asked.Malformed → some t ≡ cond b (some (macroAnswer book pattern (decimal text))) none
       go true h =
           let number : m ≡ min (decimal text) 1024 = ap macroOf h in
-          ap some (g ∙ ap (λ (n : ℕ). macroAnswer book pattern n) number ∙ ap (λ (o : Outcome). told o) (asked-alike book (reader.readPattern pattern) (decimal text) (replicate 36864 0)))
+          ap some (g ∙ ap (λ (n : ℕ). macroAnswer book pattern n) number ∙ ap (λ (o : Outcome). told o) (asked-alike book (reader.readPattern pattern) (decimal text) (replicate mostWords 0)))
       go false h = clash (ap hasMacro h)
 
   pub named-none : a ≡ Asked.Malformed → none ≡ namedAnswer book pattern text

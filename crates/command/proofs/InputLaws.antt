@@ -17,7 +17,7 @@ use Rattle.book.specs.Reading.{Reading, got, refused, readBook}
 use Rattle.book.specs.Answer.{checkedFigures, checkResult}
 use Rattle.book.specs.declared.layout.Checked.{Checked}
 use Rattle.book.proofs.Offsets.{whole}
-use Rattle.counter.specs.Counting.{Outcome, stopped, countResult}
+use Rattle.counter.specs.Counting.{Outcome, stopped, countResult, mostWords}
 use Rattle.counter.specs.Answers.{outcome}
 use Rattle.counter.specs.declared.counting.BookCount.{BookCount}
 use Rattle.pattern.specs.Reader.{readPattern}
@@ -114,10 +114,10 @@ module _ (r : BookCount) (after : List ℕ) where
   unfolding programAnswer
   program-told w e = told-of e
 
-  pub macro-told : (book pattern : List ℕ) (m : ℕ) → outcome r after ≡ countResult (readBook book) (readPattern pattern) m (replicate 36864 0) → toldBy r ≡ macroAnswer book pattern m
+  pub macro-told : (book pattern : List ℕ) (m : ℕ) → outcome r after ≡ countResult (readBook book) (readPattern pattern) m (replicate mostWords 0) → toldBy r ≡ macroAnswer book pattern m
   unfolding macroAnswer
   macro-told book pattern m e = told-of e
 
-  pub last-told : (book pattern : List ℕ) → outcome r after ≡ lastResult book pattern (replicate 36864 0) → toldBy r ≡ lastAnswer book pattern
+  pub last-told : (book pattern : List ℕ) → outcome r after ≡ lastResult book pattern (replicate mostWords 0) → toldBy r ≡ lastAnswer book pattern
   unfolding lastAnswer
   last-told book pattern e = told-of e

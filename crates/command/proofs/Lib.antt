@@ -2,4 +2,3 @@
 pub mod AskedLaws
 pub mod InputLaws
 pub mod PaperRuns
-pub mod Space

@@ -16,14 +16,13 @@ use Rattle.pattern.specs.States.{nothing, first, last, follow, someBranch}
 use Rattle.pattern.specs.States as positions
 use Rattle.pattern.specs.Moves.{enters, target, move, leads}
 use Rattle.pattern.specs.Reader.{Read, accepted, refused, readRepeat, readExpr, readBranch, readBranches, readPattern}
-use Rattle.brackets.specs.Brackets.{sameBytes, findClass, readElement, readElements, readBracket, readAtom}
+use Rattle.brackets.specs.Brackets.{sameBytes, findClass, readElement, readElements, readBracket, readAtom, readAtomBy}
 use Rattle.lines.specs.Lines.{lines, countIn, matching}
 use Rattle.counter.specs.Counting.{Outcome, itemSteps, steps, countResult}
 use Rattle.reports.specs.Words.{pairs}
 use Rattle.lines.specs.Answers.{lineResult, runResult}
 use Rattle.command.specs.Input.{patternEnd, lastResult, programResult, programAnswer}
 use Rattle.runs.specs.Counts.{countBelow, sumBelow}
-use Rattle.runs.specs.Keys.{member}
 use Rattle.pattern.specs.Form.{atoms, atomCount}
 use Rattle.lines.specs.Parts.{firstPart, laterParts, lastPart}
 
@@ -117,5 +116,5 @@ allHold (r ∷ rs) = holds r && allHold rs
 
 -- every row is as document 01 says
 pub paper-runs : allHold table ≡ true
-unfolding table allHold answerTo classNames atoms atomCount sameBytes findClass readElement readElements readBracket readAtom readRepeat readExpr readBranch readBranches readPattern classRanges inRanges inElement inElements named setOf repeated takes matchesFrom matches lines countIn matching readItem readItems readMacro readMacros readHeader readAll readBook expand expandTo expansion lineResult runResult countResult firstPart laterParts lastPart sumBelow pairs itemSteps steps anyBelow countBelow nothing first last follow someBranch positions.holds enters target move leads patternEnd lastResult programResult programAnswer xor
+unfolding table allHold answerTo classNames atoms atomCount sameBytes findClass readElement readElements readBracket readAtomBy readAtom readRepeat readExpr readBranch readBranches readPattern classRanges inRanges inElement inElements named setOf repeated takes matchesFrom matches lines countIn matching readItem readItems readMacro readMacros readHeader readAll readBook expand expandTo expansion lineResult runResult countResult firstPart laterParts lastPart sumBelow pairs itemSteps steps anyBelow countBelow nothing first last follow someBranch positions.holds enters target move leads patternEnd lastResult programResult programAnswer xor
 paper-runs = refl

@@ -8,7 +8,7 @@ use Rattle.refusal.specs.declared.Refusal.the-variants.{InputTooLong}
 use Rattle.book.specs.Format.{Macro}
 use Rattle.book.specs.Reading.{Reading, got, refused, readBook}
 use Rattle.pattern.specs.Reader.{readPattern}
-use Rattle.counter.specs.Counting.{Outcome, stopped, countResult}
+use Rattle.counter.specs.Counting.{Outcome, stopped, countResult, mostWords}
 use Rattle.counter.specs.Answers.{outcome}
 use Rattle.counter.specs.declared.counting.BookCount.{BookCount}
 use Rattle.runs.specs.Keys.{lineEnd}
@@ -58,7 +58,7 @@ programAnswer w = told (programResult w (replicate 4096 0))
 
 -- the command for people, with 36 words for each of 1,024 macros
 unfoldable pub macroAnswer : List ℕ → List ℕ → ℕ → Told
-macroAnswer book pattern m = told (countResult (readBook book) (readPattern pattern) m (replicate 36864 0))
+macroAnswer book pattern m = told (countResult (readBook book) (readPattern pattern) m (replicate mostWords 0))
 
 unfoldable pub lastAnswer : List ℕ → List ℕ → Told
-lastAnswer book pattern = told (lastResult book pattern (replicate 36864 0))
+lastAnswer book pattern = told (lastResult book pattern (replicate mostWords 0))

@@ -3,6 +3,7 @@ use crate::asked::Asked;
 use crate::asked::macro_asked;
 use crate::last::last_in;
 use counter::BookCount;
+use counter::MOST_WORDS;
 use counter::count_book;
 ghost use mathlib.Core.Path.{_≡_};
 ghost use Rattle.command.specs.Input.{lastAnswer, macroAnswer, toldBy};
@@ -17,11 +18,11 @@ pub enum NamedCount {
     NoNumber,
 }
 
-// How many lines of macro m's run match the pattern, and the steps. The work words are 1,024 reports of 36.
+// How many lines of macro m's run match the pattern, and the steps.
 fn count_macro(book: &[u8], pattern: &[u8], m: usize) -> BookCount
     ensures { λ r. ⌜ toldBy r ≡ macroAnswer (now (book .entry)) (now (pattern .entry)) m ⌝ }
 {
-    let mut work = [0; 36864];
+    let mut work = [0; MOST_WORDS];
     count_book(book, pattern, m, &mut work)
 }
 
@@ -39,6 +40,6 @@ pub fn count_named(book: &[u8], pattern: &[u8], text: &[u8]) -> NamedCount
 pub fn count_last(book: &[u8], pattern: &[u8]) -> BookCount
     ensures { λ r. ⌜ toldBy r ≡ lastAnswer (now (book .entry)) (now (pattern .entry)) ⌝ }
 {
-    let mut work = [0; 36864];
+    let mut work = [0; MOST_WORDS];
     last_in(book, pattern, &mut work)
 }

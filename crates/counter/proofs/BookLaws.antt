@@ -34,7 +34,7 @@ use Rattle.reports.specs.Words.{loadedAt}
 use Rattle.reports.specs.Promises.{Totals, totalOf}
 use Rattle.reports.proofs.TotalLaws.{totals-are}
 use Rattle.counter.specs.declared.counting.BookCount.{BookCount}
-use Rattle.counter.specs.Counting.{finished, stopped, filled, steps, needed, countResult}
+use Rattle.counter.specs.Counting.{mostWords, finished, stopped, filled, steps, needed, countResult}
 use Rattle.counter.specs.Answers.{outcome}
 use Rattle.counter.specs.Promises.{MacroFits, Filled, BookCounted, InBook, PatternFits, PatternCounted}
 use Rattle.counter.proofs.FillLaws.{reports-at}
@@ -55,13 +55,6 @@ shown-over false N S A B e g = rw g refl
 
 -- Macro m.
 module _ {keys enter : List ℕ} {p : Accepting} {book offsets : List ℕ} {m : ℕ} {before after : List ℕ} {n : ℕ} (g : MacroFits book offsets m p before) (f : Filled keys enter p (macrosIn book) m before after n) where
-  -- a place is small: a book has at most 1,024 macros
-  pub last-small : m * (p .states + 4) ≤ 36864
-  last-small =
-      let low : m ≤ 1024 = omega (arith, g .inside, macros-few book) in
-      let thin : p .states + 4 ≤ 36 = omega (arith, g .small) in
-      omega (arith, mul-le-mul-right (p .states + 4) low)
-
   module _ {r : Report} {x : Total} (l : r ≡ loadedAt after (m * (p .states + 4)) (p .states)) (z : Totals p r x) where
     -- the count is that of the run
     counted : (t : Pattern) → Automaton t keys enter p → x ≡ totalOf (matching t (expansion (macrosIn book) m))
@@ -92,7 +85,7 @@ module _ {book offsets : List ℕ} {macros : ℕ} (i : InBook book offsets macro
 
   module _ (p : Accepting) {m : ℕ} (inside : m < macros) where
     -- the product of the sizes is small: a book has at most 1,024 macros
-    pub sizes-small : PatternFits p → (m + 1) * (p .states + 4) ≤ 36864
+    pub sizes-small : PatternFits p → (m + 1) * (p .states + 4) ≤ mostWords
     sizes-small h =
         let few : m + 1 ≤ 1024 = omega (arith, i .many, macros-few book) in
         let thin : p .states + 4 ≤ 36 = omega (arith, h .small) in

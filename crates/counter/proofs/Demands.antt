@@ -1,12 +1,12 @@
 -- Demand 3, sentence by sentence, and what demand 1 says of refusals: theorems about the definition that `count_book` is proved to
 -- answer, `countResult`.
-use Prim.Native.Nat.{ℕ, zero, suc, _*_, _<_, _≤_}
+use Prim.Native.Nat.{ℕ, suc, _+_, _*_, _<_, _≤_}
 use native.Mathlib.Omega.{arith}
-use native.Mathlib.Nat.{mul-le-mul-left}
+use native.Mathlib.Nat.{mul-le-mul}
 use mathlib.Core.Path.{_≡_, refl, _∙_}
 use mathlib.Core.Logic.{_↔_}
 use mathlib.Core.Bool.{Bool, true, false, cond}
-use mathlib.Core.List.{List, [], _∷_}
+use mathlib.Core.List.{List, []}
 use lib.Dec.{leb, ltb}
 use lib.ListN.{length, getD, take}
 use borrow.Author.Tests.{leb-false, le-leb, lt-leb, lt-ltb, le-ltb}
@@ -14,21 +14,20 @@ use Rattle.refusal.specs.declared.Refusal.the-variants.{NoSuchMacro, Insufficie
 use Rattle.book.specs.Format.{Macro, wellFormed, encode}
 use Rattle.book.specs.Expansion.{expand, expansion}
 use Rattle.book.specs.Reach.{Reaches, Alike}
-use Rattle.book.specs.Reading.{Reading, got, refused, readBook}
+use Rattle.book.specs.Reading.{Reading, got, refused, readBook, macrosIn}
 use Rattle.book.proofs.Coding.{encode-read}
 use Rattle.book.proofs.Reach.{expansion-alike}
-use Rattle.pattern.specs.Moves.{states, leads}
+use Rattle.pattern.specs.Moves.{states}
 use Rattle.pattern.specs.Reader as reader
 use Rattle.lines.specs.Lines.{matching}
 use Rattle.reports.specs.Reports.{most}
-use Rattle.reports.specs.Words.{pairsWith, pairs}
-use Rattle.counter.specs.Counting.{itemSteps, stepsWithin, steps, itemsTo, Outcome, finished, stopped, filled, needed, countOf, countResult}
-use Rattle.runs.specs.Counts.{countBelow, sumBelow}
-use Rattle.runs.proofs.CountLaws.{count-le, sum-le, sum-scale}
+use Rattle.reports.specs.Words.{pairs}
+use Rattle.counter.specs.Counting.{itemSteps, stepsWithin, steps, itemsTo, Outcome, finished, stopped, filled, needed, mostWords, countOf, countResult}
+use Rattle.runs.proofs.CountLaws.{sum-le, sum-scale}
 use Rattle.pattern.specs.Form.{Pattern}
-use Rattle.lines.specs.Parts.{laterParts, lastPart}
 use Rattle.book.proofs.LayoutLaws.{macros-few}
 use Rattle.reports.proofs.ReportLaws.{pairs-square}
+use Rattle.pattern.proofs.Readings.{accepted-few}
 
 -- a sound book, an accepted pattern, a macro of the book, and work space enough
 pub record Countable (b p work : List ℕ) (ms : List Macro) (t : Pattern) (m : ℕ) : Type 0 where
@@ -78,6 +77,13 @@ module _ (t : Pattern) where
     where
       within : (items : Macro) → itemSteps t (λ j. expansion ms j) items ≤ length items * (states t * states t)
       within items = sum-le (length items) (states t * states t) (λ k. pairs t (expand (λ j. expansion ms j) (take k items))) (λ k l. pairs-square t (expand (λ j. expansion ms j) (take k items)))
+
+-- So many words are enough for every sound book and accepted pattern.
+pub needed-most : (b p : List ℕ) (t : Pattern) (m : ℕ) → reader.readPattern p ≡ reader.accepted t → m < length (macrosIn b) → needed t m ≤ mostWords
+needed-most b p t m e h =
+    let number : suc m ≤ 1024 = omega (arith, macros-few b) in
+    let wide : states t + 4 ≤ 36 = omega (arith, accepted-few p t e) in
+    mul-le-mul number wide
 
 -- No book has a macro from 1,024 on: all such numbers are refused alike.
 pub beyond-alike : (b : List ℕ) (p : reader.Read) (m n : ℕ) (work : List ℕ) → 1024 ≤ m → 1024 ≤ n → countResult (readBook b) p m work ≡ countResult (readBook b) p n work

@@ -16,7 +16,6 @@ use Rattle.book.specs.declared.macro_items.Items.{Items}
 use Rattle.book.specs.Format.{Macro, wellFormed}
 use Rattle.book.specs.Expansion.{expansion}
 use Rattle.book.specs.Reading.{macrosIn}
-use Rattle.book.specs.Answer.{layout}
 use Rattle.book.specs.MacroItems.{itemsFrom, decoded}
 use Rattle.book.proofs.MacroItems.{count-few, count-fits, items-sound}
 use Rattle.book.proofs.LayoutLaws.{well-in, macros-few}
@@ -26,13 +25,12 @@ use Rattle.pattern.specs.Moves.{states}
 use Rattle.pattern.specs.Automata.{Automaton}
 use Rattle.pattern.specs.declared.automaton.Accepting.{Accepting}
 use Rattle.pattern.proofs.Readings.{states-of}
-use Rattle.reports.specs.declared.report.Report.{Report}
 use Rattle.reports.specs.Reports.{report}
-use Rattle.reports.specs.Words.{reportWords, loadedAt, storedAt}
+use Rattle.reports.specs.Words.{loadedAt, storedAt}
 use Rattle.reports.proofs.ReportLaws.{report-size}
 use Rattle.reports.proofs.StoredLaws.{words-length, loaded-from, stored-there}
 use Rattle.counter.specs.declared.items.MacroCount.{MacroCount}
-use Rattle.counter.specs.Counting.{stepsWithin, steps, macroWords}
+use Rattle.counter.specs.Counting.{mostWords, stepsWithin, steps, macroWords}
 use Rattle.counter.specs.Promises.{Served, ItemsFit, ItemsCounted, MacroFits, Filled}
 
 module _ (t : Pattern) (few : atomCount t ≤ 29) (ms : List Macro) where
@@ -77,7 +75,7 @@ items-fit book offsets i h e = record { few = count-few book offsets i e; there 
 
 module _ {keys enter : List ℕ} {p : Accepting} {book offsets : List ℕ} {m : ℕ} {before : List ℕ} {work : List ℕ} {n i : ℕ} (x : FillSoFar keys enter p (macrosIn book) m before work n i) (g : MacroFits book offsets m p before) (below : i ≤ m) where
   -- a place is small: a book has at most 1,024 macros
-  pub place-small : i * (p .states + 4) ≤ 36864
+  pub place-small : i * (p .states + 4) ≤ mostWords
   place-small =
       let low : i ≤ 1024 = omega (arith, g .inside, macros-few book) in
       let thin : p .states + 4 ≤ 36 = omega (arith, g .small) in

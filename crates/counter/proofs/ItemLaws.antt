@@ -1,7 +1,6 @@
 -- Laws of the report of a macro's items, one after another.
 use Prim.Native.Nat.{ℕ, _+_, _*_, _<_, _≤_}
 use native.Mathlib.Omega.{arith}
-use native.Mathlib.Numerals.{add-one}
 use native.Mathlib.Nat.{mul-le-mul-left}
 use mir.Val.{Fits}
 use mir.Syntax.{w64}
@@ -34,7 +33,6 @@ use Rattle.reports.specs.Answers.{joinResult}
 use Rattle.reports.specs.Words.{pairs, pairsIn, loadedAt}
 use Rattle.reports.specs.Promises.{Extended}
 use Rattle.reports.proofs.ReportLaws.{empty-is, report-size, join-small, join-runs, pairs-of, pairs-le}
-use Rattle.counter.specs.declared.items.MacroCount.{MacroCount}
 use Rattle.counter.specs.Counting.{itemSteps}
 use Rattle.counter.specs.Promises.{Served, AllServed, AfterItem, ItemsFit, ItemsCounted}
 

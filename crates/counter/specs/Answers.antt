@@ -1,7 +1,6 @@
 -- What each operation of the counter answers.
 use Prim.Native.Nat.{ℕ}
 use mathlib.Core.List.{List}
-use Rattle.refusal.specs.Figures.{answered}
 use Rattle.counter.specs.declared.counting.BookCount.{BookCount}
 use Rattle.counter.specs.Counting.{Outcome, finished, stopped}
 

@@ -43,6 +43,10 @@ itemsTo ms m = sumBelow (suc m) (λ i. length (getD ms i []))
 abbrev pub needed : Pattern → ℕ → ℕ
 needed t m = suc m * (states t + 4)
 
+-- words that are enough for every book and pattern: 1,024 macros, 32 states (`needed-most`)
+abbrev pub mostWords : ℕ
+mostWords = 1024 * (32 + 4)
+
 -- the words of macro i's report
 abbrev pub macroWords : Pattern → List Macro → ℕ → List ℕ
 macroWords t ms i = reportWords (report t (expansion ms i))

@@ -19,6 +19,9 @@ ghost use Rattle.counter.specs.Answers.{outcome};
 ghost use Rattle.counter.specs.Counting.{countResult};
 ghost use Rattle.counter.specs.Promises.{BookCounted, Filled, InBook, MacroFits, PatternCounted, PatternFits};
 
+// Work words that are enough for every book and pattern: the reports of 1,024 macros with 32 states.
+pub const MOST_WORDS: usize = 1024 * (32 + BEHIND_ROWS);
+
 // How many lines match, and the steps; or why it is refused.
 pub enum BookCount {
     Lines(u64, u64),

@@ -6,6 +6,7 @@ pub use book::Checked;
 pub use book::body;
 pub use book::check;
 pub use counting::BookCount;
+pub use counting::MOST_WORDS;
 pub use counting::count_book;
 pub use lines::LineTest;
 pub use lines::RunCount;

@@ -1,10 +1,9 @@
 -- Laws of the lines of a run.
 use Prim.Native.Nat.{ℕ, _+_}
 use native.Mathlib.Nat.{add-zero}
-use mathlib.Core.Path.{_≡_, refl, sym}
-use mathlib.Core.Bool.{Bool, true, false, cond, _&&_, _||_, false≢true}
+use mathlib.Core.Path.{_≡_, refl}
+use mathlib.Core.Bool.{false, cond, _&&_}
 use mathlib.Core.List.{List, [], _∷_, _++_}
-use lib.Dec.{eqb}
 use Rattle.pattern.specs.Meaning.{matches}
 use Rattle.lines.specs.Lines.{lines, countIn, matching, isOpen}
 use Rattle.pattern.specs.Form.{Pattern}

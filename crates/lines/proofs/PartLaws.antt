@@ -3,10 +3,9 @@ use Prim.Native.Nat.{ℕ, _+_}
 use native.Mathlib.Omega.{arith}
 use native.Mathlib.Nat.{zero-add, add-zero, add-assoc}
 use mathlib.Core.Path.{_≡_, refl, sym, ap, _∙_}
-use mathlib.Core.Bool.{Bool, true, false, not, cond, _&&_}
+use mathlib.Core.Bool.{Bool, true, false, cond, _&&_}
 use mathlib.Core.List.{List, [], _∷_, _++_}
 use lib.Dec.{leb, eqb}
-use borrow.Author.Tests.{eqb-false, ne-eqb}
 use Rattle.lines.specs.Lines.{onto, lines, countIn, matching, isOpen}
 use Rattle.pattern.specs.Form.{Pattern}
 use Rattle.pattern.specs.Meaning.{matches}

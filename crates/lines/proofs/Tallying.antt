@@ -23,7 +23,7 @@ use Rattle.lines.proofs.LineLaws.{matching-closed, matching-open}
 use Rattle.lines.proofs.Reaching.{looked-up, reached-none, reached-more, reached-matches}
 use Rattle.pattern.specs.Form.{Pattern}
 use Rattle.runs.specs.Keys.{member, lineKey, isLine, lineEnd}
-use Rattle.runs.proofs.KeyLaws.{member-first, member-rest, key-test, line-more, line-without, member-at, member-more}
+use Rattle.runs.proofs.KeyLaws.{key-test, line-more, line-without, member-at, member-more}
 use Rattle.pattern.specs.declared.automaton.Accepting.{Accepting}
 use Rattle.pattern.specs.Automata.{Automaton}
 use Rattle.lines.specs.Moving.{reached, lookedUp}

@@ -2,7 +2,7 @@
 use Prim.Native.Nat.{ℕ, _+_}
 use mathlib.Core.Bool.{Bool, true, false, cond}
 use mathlib.Core.List.{List, [], _∷_}
-use lib.Dec.{leb, eqb}
+use lib.Dec.{eqb}
 use Rattle.pattern.specs.Meaning.{matches}
 use Rattle.pattern.specs.Form.{Pattern}
 use Rattle.runs.specs.Keys.{lineEnd}

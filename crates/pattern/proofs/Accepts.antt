@@ -3,7 +3,7 @@ use Prim.Native.Nat.{ℕ, _<_, _≤_}
 use native.Mathlib.Omega.{arith}
 use mathlib.Core.Path.{_≡_, refl}
 use mathlib.Core.Logic.{_↔_, _⊎_, inl, inr, ⊎-elim}
-use mathlib.Core.Bool.{Bool, true, false, _||_, cond}
+use mathlib.Core.Bool.{Bool, true, false, cond}
 use mathlib.Core.List.{List}
 use lib.Dec.{leb}
 use lib.ListN.{length}
@@ -13,9 +13,8 @@ use Rattle.brackets.specs.Brackets.{Parsed, parsed, fault}
 use Rattle.pattern.specs.Reader.{readBranches, accepted, refused, counted, readPattern}
 use Rattle.pattern.proofs.Branches.{branches-from, pattern-back, pattern-clean}
 use Rattle.pattern.specs.Form.{Pattern, writePattern, formedPattern, atomCount}
-use Rattle.runs.specs.Keys.{member, Bytes, isLine}
-use Rattle.runs.proofs.Tests.{clash, neither}
-use Rattle.runs.proofs.KeyLaws.{line-of}
+use Rattle.runs.specs.Keys.{isLine}
+use Rattle.runs.proofs.Tests.{clash}
 
 -- two trees of the form that are written the same are the same
 pub one-tree : (t u : Pattern) → formedPattern t ≡ true → formedPattern u ≡ true → writePattern t ≡ writePattern u → t ≡ u

@@ -3,7 +3,7 @@ use Prim.Native.Nat.{ℕ, _+_, _-_, _%_, _^_, _<_, _≤_}
 use native.Mathlib.Omega.{arith}
 use native.Mathlib.Nat.{mod-eq-of-lt}
 use native.Mathlib.Decide.{decLe}
-use mathlib.Core.Path.{_≡_, refl, sym, ap, _∙_}
+use mathlib.Core.Path.{_≡_, refl, sym, _∙_}
 use mathlib.Core.Bool.{Bool, true, false, _&&_, and-false}
 use mathlib.Core.List.{List}
 use lib.Dec.{leb, eqb}
@@ -17,7 +17,6 @@ use Rattle.brackets.specs.Brackets.{Parsed, parsed, fault, readAtom, atomAt}
 use Rattle.brackets.specs.Answers.{placeBehind, keysBehind}
 use Rattle.pattern.specs.declared.cursor.Cursor.{Cursor}
 use Rattle.pattern.specs.declared.cursor.Part.{Part}
-use Rattle.pattern.specs.declared.shape.Shape.{Shape}
 use Rattle.pattern.specs.Cycle.{AtomDone}
 use Rattle.pattern.specs.States.{nothing, first, last, atomState, atomWord}
 use Rattle.pattern.proofs.Tables.{keys-atom}

@@ -8,7 +8,7 @@ use mathlib.Core.List.{List, [], _∷_}
 use mathlib.Core.Option.{Option, none, some}
 use lib.Bits.{bitOr, or-zero-r, or-zero-l}
 use lib.Dec.{leb, ltb}
-use lib.ListN.{length, getD, set, replicate, length-replicate}
+use lib.ListN.{length, set, replicate, length-replicate, getD-replicate}
 use lib.Seq.{ext-getD}
 use borrow.Author.Tests.{le-leb, lt-ltb, lt-leb}
 use Rattle.refusal.specs.declared.Refusal.the-variants.{PatternSyntax, TooManyAtoms}
@@ -131,15 +131,10 @@ module _ (table : ℕ → Option Expr → List ℕ → List ℕ) (G : ℕ → Ex
 from-zero : (F : ℕ → ℕ) (n : ℕ) → mapWith (λ q x. bitOr x (F q)) 0 (replicate n 0) ≡ tabled F n 0
 from-zero F n =
     ext-getD 0 (mapWith (λ q x. bitOr x (F q)) 0 (replicate n 0)) (tabled F n 0) (long ∙ sym (tabled-length F n 0))
-    (λ k h. let low : k < n = rw long at h in with-getD (λ q x. bitOr x (F q)) 0 (replicate n 0) k (rw length-replicate low) ∙ rw (zeros n k) (or-zero-l (F k)) ∙ sym (tabled-at F n k low))
+    (λ k h. let low : k < n = rw long at h in with-getD (λ q x. bitOr x (F q)) 0 (replicate n 0) k (rw length-replicate low) ∙ rw (getD-replicate {A = ℕ} n k 0 0 low) (or-zero-l (F k)) ∙ sym (tabled-at F n k low))
   where
     long : length (mapWith (λ q x. bitOr x (F q)) 0 (replicate n 0)) ≡ n
     long = with-length (λ q x. bitOr x (F q)) 0 (replicate n 0) ∙ length-replicate n 0
-
-    zeros : (n k : ℕ) → _≡_ {A = ℕ} (getD (replicate n 0) k 0) 0
-    zeros zero k = refl
-    zeros (suc n) zero = refl
-    zeros (suc n) (suc k) = zeros n k
 
 module _ (t : Pattern) where
   pub keys-all : through keysIn 0 t (replicate 256 0) ≡ keyTable t

@@ -10,8 +10,6 @@ use lib.Dec.{eqb}
 use lib.ListN.{length, drop, getD, length-append, length-drop}
 use lib.Seq.{drop-drop, drop-at}
 use borrow.Author.Tests.{eq-eqb, ne-eqb}
-use mir.Syntax.{w64}
-use mir.Val.{Fits}
 use Rattle.pattern.specs.declared.branch.BranchRead.{BranchRead}
 use Rattle.pattern.specs.declared.branch_list.PatternRead.{PatternRead}
 use Rattle.pattern.specs.declared.cursor.Cursor.{Cursor}

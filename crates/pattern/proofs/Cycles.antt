@@ -13,7 +13,7 @@ use Rattle.stateset.proofs.Sets.{word-lt}
 use Rattle.pattern.specs.declared.cursor.Cursor.{Cursor}
 use Rattle.pattern.specs.declared.cursor.Part.{Part}
 use Rattle.pattern.specs.declared.shape.Shape.{Shape}
-use Rattle.brackets.specs.Form.{Atom, plain, dot, escaped, bracket, writeAtom}
+use Rattle.brackets.specs.Form.{Atom, writeAtom}
 use Rattle.brackets.specs.Brackets.{Parsed, parsed, fault, next, done, at, readAtom}
 use Rattle.pattern.specs.Reader.{Mode, endsPieces, readRepeat, readExpr}
 use Rattle.pattern.specs.States.{nothing, first, last, follow, holds, atomState}

@@ -21,7 +21,7 @@ use Rattle.pattern.specs.Moves.{states, jumps, accepting}
 use Rattle.stateset.specs.Set.{word}
 use Rattle.runs.proofs.Tests.{clash}
 use Rattle.pattern.specs.Form.{Pattern, atomCount}
-use Rattle.runs.specs.Keys.{member, isLine}
+use Rattle.runs.specs.Keys.{isLine}
 
 -- an accepted pattern has at most 29 atoms
 counted-few : (r : Parsed Pattern) (t : Pattern) → counted r ≡ accepted t → atomCount t ≤ 29

@@ -1,25 +1,24 @@
 -- The length of a pattern and its bytes, looked at before it is read.
-use Prim.Native.Nat.{ℕ, zero, suc, _+_, _<_, _≤_}
+use Prim.Native.Nat.{ℕ, _+_, _<_, _≤_}
 use native.Mathlib.Omega.{arith}
-use native.Mathlib.Nat.{not-suc-le-zero}
 use native.Mathlib.Numerals.{add-one}
 use mathlib.Core.Path.{_≡_, refl, sym, ap, _∙_}
 use mathlib.Core.Logic.{_⊎_, inl, inr}
-use mathlib.Core.Bool.{Bool, true, false, _&&_, _||_, or-comm}
-use mathlib.Core.List.{List, [], _∷_}
-use lib.Dec.{leb, ltb, eqb}
+use mathlib.Core.Bool.{Bool, true, false, _||_}
+use mathlib.Core.List.{List}
+use lib.Dec.{ltb, eqb}
 use lib.ListN.{length, getD, take}
 use lib.Seq.{take-suc, take-all}
-use borrow.Author.Tests.{le-leb, lt-leb, eqb-true, eqb-false, ltb-true, ltb-false, ne-eqb}
+use borrow.Author.Tests.{le-leb, lt-leb, eqb-true, eqb-false, ltb-true, ltb-false}
 use Rattle.refusal.specs.declared.Refusal.the-variants.{PatternLength, PatternSyntax}
 use Rattle.pattern.specs.Reader.{Read, refused, readBranches, counted, readPattern}
 use Rattle.pattern.specs.Cycle.{Ready}
 use Rattle.refusal.specs.Figures.{Figures}
 use Rattle.pattern.specs.declared.automaton.Accepting.{Accepting}
 use Rattle.pattern.specs.Automata.{refusedPattern, readFigures, keysRead, enterRead}
-use Rattle.runs.specs.Keys.{member, isLine, lineKey}
-use Rattle.runs.proofs.KeyLaws.{key-of, line-append, line-member, line-lacks, line-more, key-test}
-use Rattle.runs.proofs.Tests.{clash, neither, or-cases}
+use Rattle.runs.specs.Keys.{isLine, lineKey}
+use Rattle.runs.proofs.KeyLaws.{line-lacks, line-more, key-test}
+use Rattle.runs.proofs.Tests.{neither, or-cases}
 
 module _ (s : List ℕ) (i : ℕ) where
   module _ (inside : i < length s) where

@@ -7,14 +7,13 @@ use mathlib.Core.List.{List, [], _∷_, _++_, append-assoc}
 use lib.Dec.{leb, eqb}
 use lib.ListN.{length, drop, length-append}
 use borrow.Author.Tests.{eqb-true, not-true}
-use Rattle.brackets.specs.Form.{Atom, plain, dot, escaped, bracket, marks, writeAtom, formedAtom}
+use Rattle.brackets.specs.Form.{Atom, writeAtom, formedAtom}
 use Rattle.brackets.specs.Brackets.{parsed, next, done, at, readAtom}
 use Rattle.pattern.specs.Reader.{readRepeat, endsPieces, Mode, readExpr}
 use Rattle.pattern.specs.Form.{Expr, atom, group, star, plus, opt, seq, alt, write, formed}
-use Rattle.runs.specs.Keys.{member, lineKey, isLine}
+use Rattle.runs.specs.Keys.{isLine}
 use Rattle.runs.proofs.Tests.{clash, and-parts, neither}
-use Rattle.runs.proofs.KeyLaws.{other-than, line-append, line-member, key-is}
-use Rattle.brackets.proofs.BracketsBack.{bracket-back, bracket-clean}
+use Rattle.runs.proofs.KeyLaws.{line-append}
 use Rattle.brackets.proofs.AtomsBack.{atom-back, atom-begins, atom-long, atom-clean}
 
 -- What expressions begin with.

@@ -2,20 +2,18 @@
 use Prim.Native.Nat.{ℕ, zero, suc, _≤_}
 use native.Mathlib.Omega.{arith}
 use mathlib.Core.Path.{_≡_, refl, sym, ap, _∙_}
-use mathlib.Core.Bool.{Bool, true, false, _&&_, _||_, cond}
+use mathlib.Core.Bool.{Bool, true, false, _&&_, cond}
 use mathlib.Core.List.{List, [], _∷_, _++_, append-assoc}
 use lib.Dec.{leb, eqb}
 use lib.ListN.{drop}
-use borrow.Author.Tests.{eqb-true, leb-true, le-leb}
-use Rattle.brackets.specs.Form.{Atom, plain, dot, escaped, marks, writeAtom, formedAtom}
-use Rattle.brackets.specs.Brackets.{parsed, fault, next, done, at, readBracket, readAtom}
+use borrow.Author.Tests.{leb-true, le-leb}
+use Rattle.brackets.specs.Brackets.{parsed, fault, next, done, at, readAtom}
 use Rattle.pattern.specs.Reader.{readRepeat, endsPieces, Mode, readExpr}
-use Rattle.brackets.proofs.Parses.{same-parsed, test-parsed, untest-parsed, next-parsed, made-parsed, front}
+use Rattle.brackets.proofs.Parses.{same-parsed, test-parsed, next-parsed, made-parsed, front}
 use Rattle.pattern.specs.Form.{Expr, atom, group, star, plus, opt, seq, alt, write, formed}
-use Rattle.runs.specs.Keys.{member, isLine}
-use Rattle.runs.proofs.Tests.{clash, and-parts, neither}
+use Rattle.runs.specs.Keys.{isLine}
+use Rattle.runs.proofs.Tests.{clash, and-parts}
 use Rattle.runs.proofs.KeyLaws.{line-after, line-drop}
-use Rattle.brackets.proofs.BracketsFrom.{bracket-from}
 use Rattle.brackets.proofs.AtomsFrom.{atom-from}
 
 -- a test of how loosely something may bind passes too where it may bind more loosely

@@ -7,8 +7,7 @@ use lib.Dec.{leb, eqb}
 use lib.ListN.{length, drop}
 use Rattle.refusal.specs.declared.Refusal.{Refusal}
 use Rattle.refusal.specs.declared.Refusal.the-variants.{PatternLength, PatternSyntax, TooManyAtoms}
-use Rattle.brackets.specs.Form.{byte, Atom, plain, dot, escaped, marks}
-use Rattle.brackets.specs.Brackets.{Parsed, Parser, at, done, fault, next, parsed, readBracket, readAtom}
+use Rattle.brackets.specs.Brackets.{Parsed, Parser, at, done, fault, next, parsed, readAtom}
 use Rattle.pattern.specs.Form.{Expr, atom, star, plus, opt, seq, alt, Branch, Pattern, atomCount}
 use Rattle.runs.specs.Keys.{isLine}
 

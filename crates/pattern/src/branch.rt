@@ -4,10 +4,8 @@ use crate::cursor::Part;
 use crate::cursor::ends_pieces;
 use crate::shape::Shape;
 use brackets::peek;
-ghost use mathlib.Core.Path.{_≡_};
-ghost use mathlib.Core.Bool.{Bool};
 ghost use lib.ListN.{drop, length};
-ghost use Rattle.pattern.specs.Reader.{anchored, readBranch, readRest};
+ghost use Rattle.pattern.specs.Reader.{readBranch, readRest};
 ghost use Rattle.pattern.specs.Cycle.{Ready};
 ghost use Rattle.pattern.specs.Branches.{BranchDone, EndDone};
 

@@ -4,8 +4,6 @@ use crate::cursor::Cursor;
 use crate::summary::Summary;
 use crate::summary::with_branch;
 use brackets::peek;
-ghost use mathlib.Core.Path.{_≡_};
-ghost use lib.ListN.{drop, length};
 ghost use Rattle.pattern.specs.Cycle.{Ready};
 ghost use Rattle.pattern.specs.Summaries.{ReadsBranches};
 

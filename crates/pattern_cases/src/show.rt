@@ -1,6 +1,7 @@
 // What is printed of a pattern.
 use libc::STDOUT_FILENO;
 use pattern::Accepting;
+use pattern::State;
 use pattern::Verdict;
 use pattern::read_pattern;
 use refusal::code;
@@ -19,33 +20,31 @@ fn named(name: &[u8], n: u64) {
     number(n);
 }
 
-fn flag(t: bool) -> u64 {
-    if t { 1 } else { 0 }
+// How many of the states are those of atoms.
+fn atoms(states: usize) -> usize {
+    let fixed = State::count(0);
+    if states < fixed {
+        return 0;
+    }
+    states - fixed
 }
 
+// Of the accepting states line-start stands lowest, and atoms from 8 on; of those that every key leads to found, line-start lowest.
 fn accepting(a: Accepting) {
-    named(b": atoms ", a.atoms as u64);
+    named(b": atoms ", atoms(a.states) as u64);
     named(b" ends ", a.ends);
-    named(b" anchored ", a.anchored);
-    named(b" empty ", flag(a.empty));
-    named(b" jump ", flag(a.jump));
+    named(b" anchored ", a.accepting / 8 * 8);
+    named(b" empty ", a.accepting % 2);
+    named(b" jump ", a.always % 2);
     text(b"\n");
 }
 
-// Whether an automaton of so many atoms has state q.
-fn has_state(q: usize, atoms: usize) -> bool {
-    if q < 3 {
-        return true;
-    }
-    q - 3 < atoms
-}
-
 // The words of its states.
-fn entered(enter: &[u64; 32], atoms: usize) {
+fn entered(enter: &[u64; 32], states: usize) {
     text(b"enter");
     let mut q = 0;
     while q < 32 {
-        if has_state(q, atoms) {
+        if q < states {
             named(b" ", enter[q]);
         }
         q += 1;
@@ -92,9 +91,9 @@ pub(crate) fn case(n: u64, s: &[u8]) {
     number(n);
     match read_pattern(s, &mut keys, &mut enter) {
         Verdict::Accepted(a) => {
-            let atoms = a.atoms;
+            let states = a.states;
             accepting(a);
-            entered(&enter, atoms);
+            entered(&enter, states);
             keyed(&keys);
         }
         Verdict::Refused(r) => {

@@ -9,7 +9,7 @@ use lib.Dec.{leb, ltb, eqb}
 use lib.Bits.{bitOr}
 use lib.Pow.{pow-lt}
 use lib.ListN.{getD, set, replicate}
-use borrow.Author.Tests.{ltb-true, ltb-false, lt-ltb, le-ltb, leb-true, leb-false, le-leb, lt-leb, eq-eqb, ne-eqb}
+use borrow.Author.Tests.{ltb-true, ltb-false, lt-ltb, le-ltb, leb-true, leb-false, le-leb, lt-leb, ne-eqb}
 use Rattle.stateset.specs.Set.{bit, word, common}
 use Rattle.stateset.proofs.Sets.{word-ext, word-one, bit-word, word-high, bits-ext}
 use Rattle.pattern.specs.Meaning.{matches}
@@ -24,7 +24,6 @@ use Rattle.lines.proofs.Reaching.{looked-up, leads-high, leads-more, leads-acce
 use Rattle.reports.proofs.JoinLaw.{row-of}
 use Rattle.runs.proofs.Tests.{torn, and-snd, tests-ext}
 use Rattle.pattern.specs.Form.{Pattern, atomCount}
-use Rattle.stateset.specs.Tabled.{tabled}
 use Rattle.stateset.proofs.Tabled.{tabled-same}
 use Rattle.runs.specs.Keys.{lineEnd, isRun, lineKey}
 use Rattle.runs.proofs.KeyLaws.{key-of-line}

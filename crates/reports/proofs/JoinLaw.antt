@@ -16,7 +16,7 @@ use Rattle.pattern.specs.Moves.{states, leads, acceptedFrom}
 use Rattle.pattern.proofs.AcceptedLines.{states-match}
 use Rattle.pattern.proofs.Leading.{leads-append, accepted-append}
 use Rattle.lines.specs.Lines.{countIn}
-use Rattle.reports.specs.Reports.{most, rowsOf, withoutEnd, withEnd, reportWith, report, onward, joinedReports}
+use Rattle.reports.specs.Reports.{most, rowsOf, withEnd, reportWith, report, onward, joinedReports}
 use Rattle.pattern.specs.Form.{Pattern, atomCount}
 use Rattle.runs.specs.Keys.{isLine, isRun}
 use Rattle.stateset.proofs.Tabled.{tabled-at, tabled-same}

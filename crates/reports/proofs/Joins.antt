@@ -1,18 +1,17 @@
 -- Laws of joining reports.
-use Prim.Native.Nat.{ℕ, zero, suc, _+_, _-_, _*_, _%_, _^_, _<_, _≤_}
+use Prim.Native.Nat.{ℕ, suc, _+_, _-_, _*_, _%_, _^_, _<_, _≤_}
 use native.Mathlib.Omega.{arith}
-use native.Mathlib.Nat.{lt-of-lt-of-le, mod-lt, mod-eq-of-lt}
+use native.Mathlib.Nat.{mod-lt, mod-eq-of-lt}
 use mathlib.Core.Path.{_≡_, refl, sym, ap, _∙_}
-use mathlib.Core.Bool.{Bool, true, false, not, cond, _&&_, _||_, or-false, and-false}
+use mathlib.Core.Bool.{Bool, true, false, not, cond, _&&_, and-false}
 use mathlib.Core.List.{List}
 use lib.Dec.{eqb, leb, ltb}
 use lib.Pow.{pow-lt, pow-pos}
-use lib.ListN.{length, getD, set, replicate, length-set, List·getD-eq-default}
-use lib.Seq.{ext-getD, getD-set-same, getD-set-other}
-use lib.Bits.{bitAnd, bitOr, or-lt, and-mask}
-use borrow.Author.Tests.{ltb-true, ltb-false, lt-ltb, le-ltb, leb-true, leb-false, le-leb, lt-leb, eqb-true, eqb-false, eq-eqb, ne-eqb, not-true, not-false}
+use lib.ListN.{length, getD, List·getD-eq-default}
+use lib.Bits.{bitAnd, bitOr, and-mask}
+use borrow.Author.Tests.{ltb-true, ltb-false, leb-true, leb-false, le-leb, lt-leb, eq-eqb, ne-eqb, not-true, not-false}
 use Rattle.stateset.specs.Set.{bit, word, anyBelow, imageOf, common}
-use Rattle.stateset.proofs.Sets.{bit-zero, bit-or, bit-mod, bit-word, bit-chosen, word-ext, word-high, word-lt, word-unique}
+use Rattle.stateset.proofs.Sets.{bit-zero, bit-mod, bit-word, word-ext, word-high, word-unique}
 use Rattle.stateset.proofs.Some.{any-ext, any-widen}
 use Rattle.stateset.proofs.Images.{bit-image}
 use Rattle.reports.specs.declared.joining.Closed.{Closed}
@@ -20,8 +19,6 @@ use Rattle.reports.specs.declared.report.Report.{Report}
 use Rattle.reports.specs.Reports.{most, rowsOf, alike, joinedReports, noReport, onward, closedBy, joinedWith}
 use Rattle.reports.specs.Answers.{joinResult}
 use Rattle.runs.proofs.Tests.{and-snd}
-use Rattle.stateset.specs.Tabled.{tabled}
-use Rattle.stateset.proofs.Tabled.{tabled-length, tabled-at, tabled-same}
 use Rattle.reports.specs.Promises.{closedOf, Adds, withLines}
 use Rattle.stateset.proofs.Gathering.{gathered-more}
 

@@ -1,10 +1,10 @@
 -- Laws of reports: of the empty run, their sizes, joined, the pairs of states that they show.
-use Prim.Native.Nat.{ℕ, zero, suc, _+_, _*_, _%_, _^_, _<_, _≤_}
+use Prim.Native.Nat.{ℕ, _+_, _*_, _%_, _^_, _<_, _≤_}
 use native.Mathlib.Omega.{arith}
 use mathlib.Core.Path.{_≡_, refl, sym, ap, _∙_}
-use mathlib.Core.Bool.{Bool, true, false, cond, _&&_}
+use mathlib.Core.Bool.{Bool, true, false, cond}
 use mathlib.Core.List.{List, [], _∷_, _++_}
-use lib.Dec.{leb, ltb, eqb}
+use lib.Dec.{ltb, eqb}
 use borrow.Author.Tests.{ltb-true, lt-ltb, eq-eqb, le-leb}
 use Rattle.refusal.specs.declared.Refusal.the-variants.{ReportMismatch}
 use Rattle.refusal.specs.Number.{number}
@@ -30,7 +30,7 @@ use Rattle.reports.proofs.Joins.{shifted}
 use Rattle.reports.proofs.WordLaws.{sizes-le}
 use Rattle.runs.specs.Counts.{countBelow, sumBelow}
 use Rattle.runs.proofs.CountLaws.{count-le, sum-ext, sum-le}
-use Rattle.runs.proofs.Tests.{and-both, and-fst, and-snd, torn}
+use Rattle.runs.proofs.Tests.{torn}
 use Rattle.pattern.specs.Form.{Pattern, atomCount}
 use Rattle.runs.specs.Keys.{isRun}
 use Rattle.lines.specs.Parts.{laterParts, lastPart, partsBefore}

@@ -1,13 +1,12 @@
 -- The count of a run from its report.
 use Prim.Native.Nat.{ℕ, _+_, _-_, _%_, _^_, _<_, _≤_}
 use native.Mathlib.Omega.{arith}
-use native.Mathlib.Nat.{zero-add, add-assoc}
 use mathlib.Core.Path.{_≡_, refl, sym, ap, _∙_}
 use mathlib.Core.Bool.{Bool, true, false, not, cond, _&&_, and-comm, false≢true}
 use mathlib.Core.List.{List, [], _∷_}
 use lib.Dec.{leb, eqb}
 use lib.ListN.{getD}
-use borrow.Author.Tests.{not-true, not-false, eq-eqb, le-leb, lt-leb, leb-true, leb-false}
+use borrow.Author.Tests.{eq-eqb, le-leb, lt-leb, leb-true, leb-false}
 use Rattle.stateset.specs.Set.{bit, word}
 use Rattle.stateset.proofs.Sets.{bit-word, bit-one}
 use Rattle.stateset.proofs.Some.{any-ext, any-at}
@@ -27,7 +26,7 @@ use Rattle.reports.proofs.JoinLaw.{row-of, flag-set}
 use Rattle.lines.proofs.Tallying.{at-most-one}
 use Rattle.reports.proofs.Extending.{row-accepts}
 use Rattle.pattern.specs.Form.{Pattern, atomCount}
-use Rattle.runs.specs.Keys.{isLine, isRun, lineEnd}
+use Rattle.runs.specs.Keys.{isLine, isRun}
 use Rattle.pattern.specs.declared.automaton.Accepting.{Accepting}
 use Rattle.lines.specs.Parts.{firstPart, laterParts, lastPart, partsBefore}
 use Rattle.lines.proofs.PartLaws.{first-whole, first-line, later-lines, last-line, matching-parts, matching-whole}

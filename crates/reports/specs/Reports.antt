@@ -11,7 +11,6 @@ use Rattle.reports.specs.declared.report.Report.{Report}
 use Rattle.lines.specs.Lines.{countIn}
 use Rattle.pattern.specs.Form.{Pattern}
 use Rattle.stateset.specs.Tabled.{tabled}
-use Rattle.runs.specs.Keys.{lineEnd}
 use Rattle.lines.specs.Parts.{firstPart, laterParts, partsBefore, lastPart}
 
 -- the largest count

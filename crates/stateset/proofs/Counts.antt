@@ -1,10 +1,9 @@
 -- Laws of how many numbers below n have X, and of a set's size.
-use Prim.Native.Nat.{ℕ, zero, suc, _+_, _*_, _/_, _%_, _^_, _<_, _≤_}
+use Prim.Native.Nat.{ℕ, zero, suc, _*_, _/_, _%_, _^_, _<_, _≤_}
 use native.Mathlib.Omega.{arith}
-use native.Mathlib.Nat.{add-zero, pow-suc}
-use native.Mathlib.Decide.{le-ind}
+use native.Mathlib.Nat.{pow-suc}
 use mathlib.Core.Path.{_≡_, refl, sym, _∙_}
-use mathlib.Core.Bool.{Bool, true, false, cond}
+use mathlib.Core.Bool.{Bool, cond}
 use lib.Count.{ones, ones-step, ones-le}
 use Rattle.stateset.specs.Set.{bit, word}
 use Rattle.stateset.proofs.Sets.{bit-word, word-high, digit}

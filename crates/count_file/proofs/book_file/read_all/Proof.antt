@@ -1,6 +1,5 @@
 -- `book_file::read_all`: the bytes read stay within the buffer, and each turn reads one at least.
 use Prim.Native.Nat.{_-_, _≤_}
-use native.Mathlib.Omega.{arith}
 use mathlib.Core.Path.{_≡_}
 use lib.ListN.{length}
 use Rattle.io.proofs.Counting.{counts}

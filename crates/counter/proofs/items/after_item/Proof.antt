@@ -1,5 +1,4 @@
 -- `items::after_item`: a key extends the report, a call joins the called macro's.
-use native.Mathlib.Omega.{arith}
 use Rattle.counter.proofs.ItemLaws.{call-small, item-key, item-call}
 use borrow.Author.Needs.{needs}
 use Rattle.counter.proofs.items.after_item.Statement.{statement}

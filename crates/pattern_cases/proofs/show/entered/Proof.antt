@@ -20,9 +20,6 @@ text-requires c κs = search needs
 loop-holds : tie.Need-loop-holds Inv-loop μ-loop
 loop-holds c = search needs
 
-has-state-requires : tie.Need-has-state-requires Inv-loop μ-loop
-has-state-requires c κs = search needs
-
 slice-aggregate-named : tie.Need-slice-aggregate-named Inv-loop μ-loop
 slice-aggregate-named c = search needs
 
@@ -62,7 +59,6 @@ entered-spec =
     slice-aggregate-text
     text-requires
     loop-holds
-    has-state-requires
     slice-aggregate-named
     mul-named
     element-copy-out-named

@@ -1,6 +1,5 @@
 -- `words::room_for`: by a difference.
 use Rattle.reports.proofs.WordLaws.{room-none, room-sum, room-left, room-told}
-use borrow.Author.Needs.{needs}
 use Rattle.reports.proofs.words.room_for.Statement.{statement}
 use Rattle.reports.proofs.words.room_for.Tie as tie
 

@@ -1,6 +1,5 @@
 -- The cycle of readers. The measure is a bound on how deep they call each other; the bytes left fall.
 use Prim.Native.Nat.{ℕ, _-_, _<_}
-use native.Mathlib.Omega.{arith}
 use borrow.Author.Needs.{needs}
 use borrow.Fn.Kinds.{In}
 use borrow.Fn.PlainCycle.{Measures, is, falls, and}
