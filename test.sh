@@ -1,6 +1,7 @@
 #!/usr/bin/env bash
-# Proves every crate, tries the must-fail edits, runs the programs and the command, runs the cases again within 1 MiB of stack, and
-# compares the programs with the second program in docs/src/second. The last line is 'N passed, M failed', over all of these.
+# Looks that crates keep to each other's laws, proves every crate, tries the must-fail edits, runs the programs and the command, runs the
+# cases again within 1 MiB of stack, and compares the programs with the second program in docs/src/second. The last line is
+# 'N passed, M failed', over all of these.
 set -u -o pipefail
 cd "$(dirname "$0")" || exit 2
 passed=0 failed=0
@@ -40,6 +41,14 @@ small_stack() {
     (ulimit -s 1024 && "target/bin/$1" <"crates/$1/stdin" | cmp - "crates/$1/stdout")
 }
 
+# No crate opens a definition of another, but for the computed tables; there the search must find some.
+opened_nowhere() {
+    local opened
+    opened=$(find crates -name '*.antt' ! -name PaperRuns.antt ! -name Examples.antt -print0 | xargs -0 bash tests/opened.sh)
+    [ -z "$opened" ] || echo "$opened"
+    [ -z "$opened" ] && [ -n "$(bash tests/opened.sh crates/command/proofs/PaperRuns.antt)" ]
+}
+
 second_agrees() {
     target/second answer <crates/cases/stdin | cmp - crates/cases/stdout
 }
@@ -55,6 +64,7 @@ works rustc --version || { works apt-get update && works apt-get install -y rust
 works rt version || { echo "FAILED: rt, the command of the Rattle toolchain, is not there"; failed=1; finish; }
 works rustc --version || { echo "FAILED: rustc, which compiles the second program, is not there"; failed=1; finish; }
 
+single "no crate opens a definition of another" opened_nowhere
 counted rt ci
 [ "$failed" -eq 0 ] || finish
 

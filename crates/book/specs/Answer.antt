@@ -11,7 +11,7 @@ use Rattle.book.specs.declared.layout.Checked.{Checked}
 use Rattle.book.specs.declared.layout.Layout.{Layout}
 use Rattle.book.specs.Format.{Macro}
 use Rattle.book.specs.Offset.{starts, bodyPart, offset}
-use Rattle.book.specs.Reading.{Reading, Reader, got, refused, readBook}
+use Rattle.book.specs.Reading.{Reading, Reader, got, refused, _>>=_, readBook}
 
 -- the check of a book: its macro count
 abbrev pub checkedFigures : Checked → Figures ℕ

@@ -7,7 +7,7 @@ use lib.Dec.{ltb}
 use Rattle.refusal.specs.declared.Refusal.the-variants.{InsufficientSpace}
 use Rattle.refusal.specs.Figures.{Figures, answered, refusedFor}
 use Rattle.book.specs.Format.{Macro}
-use Rattle.book.specs.Reading.{Reading, Reader, got, refused}
+use Rattle.book.specs.Reading.{Reading, Reader, got, refused, _>>=_}
 use Rattle.book.specs.Answer.{requireMacro}
 use Rattle.reach.specs.declared.listing.Reached.{Reached}
 use Rattle.reach.specs.Reach.{ReachList}
