@@ -3,7 +3,7 @@ mod books;
 mod counts;
 mod numbers;
 mod plain;
-mod reach;
+mod reach_lists;
 mod show;
 mod stream;
 

@@ -6,7 +6,7 @@ use crate::counts::counting;
 use crate::counts::joining;
 use crate::plain::lines;
 use crate::plain::runs;
-use crate::reach::reaches;
+use crate::reach_lists::reaches;
 use crate::show;
 ghost use Prim.Native.Nat.{_≤_};
 ghost use lib.ListN.{length};
