@@ -17,7 +17,7 @@ use Rattle.brackets.specs.Brackets.{Parsed, parsed, fault, next, done, r
 use Rattle.brackets.specs.Promises.{withElement, withElements, withKey, elementOf, elementShown, elementsFrom, ElementsDone}
 use Rattle.brackets.proofs.Bytes.{first-at}
 use Rattle.brackets.proofs.Entries.{with-same, with-with, with-none}
-use Rattle.brackets.proofs.Stored.{set-stored, filled-set}
+use Rattle.brackets.proofs.Stored.{set-stored, set-entry}
 use Rattle.brackets.proofs.Taken.{Shown, shown-fault, shown-found, none-read}
 use Rattle.runs.proofs.Tests.{clash}
 use Rattle.brackets.specs.Answers.{placeBehind, mapWith, keysBehind}
@@ -105,28 +105,28 @@ module _ (s : List ℕ) (start : ℕ) (before : List Bool) (p : ℕ) (first : Bo
 module _ (es : List Element) (s : List Bool) (negated : Bool) (e : s ≡ mapWith (withElements es) 0 (replicate 256 false)) where
   bracket-set : (k : ℕ) → k < 256 → xor negated (getD s k false) ≡ named (bracket negated es) k
   unfolding withElements named
-  bracket-set k h = rw (e, filled-set (withElements es) k h)
+  bracket-set k h = rw (e, set-entry (withElements es) k h)
 
--- a set that was filled, or not
+-- a set whose elements were read, or not
 module _ (l : List ℕ) (start : ℕ) (s : List Bool) (r : AtomRead) (d : ElementsDone (length l) (elementsFrom start l) (replicate 256 false) s r) where
-  record Filled (end : ℕ) : Type 0 where
+  record Gathered (end : ℕ) : Type 0 where
     elements : List Element
     rest : List ℕ
     parse : elementsFrom start l ≡ parsed elements rest
     place : At end ≡ At (length l - length rest)
     full : s ≡ mapWith (withElements elements) 0 (replicate 256 false)
 
-  filled : (end : ℕ) → r ≡ At end → Filled end
+  gathered : (end : ℕ) → r ≡ At end → Gathered end
   unfolding ElementsDone
-  filled end h = go (elementsFrom start l) refl d
+  gathered end h = go (elementsFrom start l) refl d
     where
-      go : (a : Parsed (List Element)) → elementsFrom start l ≡ a → ElementsDone (length l) a (replicate 256 false) s r → Filled end
+      go : (a : Parsed (List Element)) → elementsFrom start l ≡ a → ElementsDone (length l) a (replicate 256 false) s r → Gathered end
       go (parsed es rest) e (f, g) = record { elements = es; rest = rest; parse = e; place = sym h ∙ f; full = g }
       go fault e f = clash (cc)
 
-  not-filled : r ≡ Fault → elementsFrom start l ≡ fault
+  not-gathered : r ≡ Fault → elementsFrom start l ≡ fault
   unfolding ElementsDone
-  not-filled h = go (elementsFrom start l) d
+  not-gathered h = go (elementsFrom start l) d
     where
       go : (a : Parsed (List Element)) → ElementsDone (length l) a (replicate 256 false) s r → a ≡ fault
       go (parsed es rest) (f, g) = clash (cc)
@@ -152,11 +152,11 @@ module _ (l : List ℕ) (b : ℕ) (e : b ≡ getD l 0 0) where
   module _ (s : List Bool) (r : AtomRead) (d : ElementsDone (length l) (elementsFrom (boolByte (eqb b 94)) l) (replicate 256 false) s r) where
     pub text-fault : r ≡ Fault → readBracket l ≡ fault
     unfolding bracketFrom
-    text-fault h = rw (text-read, not-filled l (boolByte (eqb b 94)) s r d h)
+    text-fault h = rw (text-read, not-gathered l (boolByte (eqb b 94)) s r d h)
 
     module _ (end : ℕ) (h : r ≡ At end) where
-      fill : Filled l (boolByte (eqb b 94)) s r d end
-      fill = filled l (boolByte (eqb b 94)) s r d end h
+      fill : Gathered l (boolByte (eqb b 94)) s r d end
+      fill = gathered l (boolByte (eqb b 94)) s r d end h
 
       pub text-place : At end ≡ placeBehind (length l) (readBracket l)
       unfolding bracketFrom

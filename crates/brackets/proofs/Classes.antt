@@ -15,24 +15,20 @@ use Rattle.brackets.specs.declared.class.Class.{Class}
 use Rattle.brackets.specs.declared.class.ClassRead.the-variants.{Found, Unknown}
 use Rattle.brackets.specs.Form.{className}
 use Rattle.brackets.specs.Brackets.{sameBytes, isClass, findClass}
-use Rattle.brackets.specs.Promises.{filledUp, classRow, RowOf, classShown}
+use Rattle.brackets.specs.Promises.{padded, classRow, RowOf, classShown}
 use Rattle.brackets.proofs.ClassTables.{name-clean}
 use Rattle.runs.proofs.Tests.{clash}
 use Rattle.runs.proofs.KeyLaws.{key-is, line-member, member-at}
+use Rattle.runs.proofs.KeptLaws.{zeros-at}
 
--- what stands behind a list that is filled up is 0, as behind its end
-zeros-at : (n i : ℕ) → _≡_ {A = ℕ} (getD (replicate n 0) i 0) 0
-zeros-at zero i = refl
-zeros-at (suc n) zero = refl
-zeros-at (suc n) (suc i) = zeros-at n i
-
+-- what stands behind a padded list is 0, as behind its end
 append-zeros : (l : List ℕ) (n i : ℕ) → getD (l ++ replicate n 0) i 0 ≡ getD l i 0
 append-zeros [] n i = zeros-at n i
 append-zeros (x ∷ l) n zero = refl
 append-zeros (x ∷ l) n (suc i) = append-zeros l n i
 
-pub filled-at : (n i : ℕ) (l : List ℕ) → getD (filledUp n l) i 0 ≡ getD l i 0
-filled-at n i l = append-zeros l (n - length l) i
+pub padded-at : (n i : ℕ) (l : List ℕ) → getD (padded n l) i 0 ≡ getD l i 0
+padded-at n i l = append-zeros l (n - length l) i
 
 -- whether bytes begin with some others
 unfoldable pub begins : List ℕ → List ℕ → Bool
@@ -68,7 +64,7 @@ module _ (s : List ℕ) (at c : ℕ) where
 
     byte : (j : ℕ) → getD (row .name) j 0 ≡ getD (className c) j 0
     unfolding classRow
-    byte j = rw (is .same) (filled-at 6 j (className c))
+    byte j = rw (is .same) (padded-at 6 j (className c))
 
     module _ (j : ℕ) (inv : begins (nameFrom c j) (drop (at + j) s) ≡ isClass c (drop at s)) where
       -- a byte of the name

@@ -13,7 +13,7 @@ use Rattle.brackets.specs.Sets.{Range, to, inRanges, inElement}
 use Rattle.brackets.specs.Answers.{mapWith}
 use Rattle.brackets.specs.Promises.{withElement, rangesOf, classRow, RowOf}
 use Rattle.brackets.proofs.Entries.{with-same, with-with, with-none}
-use Rattle.brackets.proofs.Classes.{filled-at}
+use Rattle.brackets.proofs.Classes.{padded-at}
 
 -- an entry of a set, with some ranges added
 unfoldable pub withRanges : List Range → ℕ → Bool → Bool
@@ -34,11 +34,11 @@ module _ (c : ℕ) (row : Class) (is : RowOf c row) (j : ℕ) (now whole : List 
 
   first : getD (row .first) j 0 ≡ getD (rangesOf c) j (to 0 0) .first
   unfolding classRow
-  first = rw (is .same) (filled-at 4 j (map (λ r. r .first) (rangesOf c)) ∙ List·getD-map (λ r. r .first) (rangesOf c) j (to 0 0))
+  first = rw (is .same) (padded-at 4 j (map (λ r. r .first) (rangesOf c)) ∙ List·getD-map (λ r. r .first) (rangesOf c) j (to 0 0))
 
   last : getD (row .last) j 0 ≡ getD (rangesOf c) j (to 0 0) .last
   unfolding classRow
-  last = rw (is .same) (filled-at 4 j (map (λ r. r .last) (rangesOf c)) ∙ List·getD-map (λ r. r .last) (rangesOf c) j (to 0 0))
+  last = rw (is .same) (padded-at 4 j (map (λ r. r .last) (rangesOf c)) ∙ List·getD-map (λ r. r .last) (rangesOf c) j (to 0 0))
 
   pub ranges-on : (after : List Bool) → j < row .count → after ≡ mapWith (withElement (range (getD (row .first) j 0) (getD (row .last) j 0))) 0 now → addedFrom c (j + 1) after ≡ whole
   unfolding withRanges withElement inElement inRanges

@@ -32,14 +32,14 @@ module _ (a : Atom) (s : List Bool) (negated : Bool) (same : (k : ℕ) → k < 2
 empty-set : (k : ℕ) → k < 256 → getD (replicate 256 false) k false ≡ false
 empty-set k h = getD-replicate 256 k false false h
 
-pub filled-set : (f : ℕ → Bool → Bool) (k : ℕ) → k < 256 → getD (mapWith f 0 (replicate 256 false)) k false ≡ f k false
-filled-set f k h = with-getD f false (replicate 256 false) k (rw (length-replicate 256 false) h) ∙ rw (empty-set k h)
+pub set-entry : (f : ℕ → Bool → Bool) (k : ℕ) → k < 256 → getD (mapWith f 0 (replicate 256 false)) k false ≡ f k false
+set-entry f k h = with-getD f false (replicate 256 false) k (rw (length-replicate 256 false) h) ∙ rw (empty-set k h)
 
 module _ (b : ℕ) (s : List Bool) (e : s ≡ mapWith (withElement (byte b)) 0 (replicate 256 false)) where
   pub key-stored : (states : ℕ) (keys after : List ℕ) → after ≡ mapWith (withKey s false states) 0 keys → after ≡ keysWith (plain b) states keys
   unfolding named xor withElement inElement
   key-stored states keys after f =
-      f ∙ set-stored (plain b) s false (λ k h. rw (e, filled-set (withElement (byte b)) k h) (Bool·not-not (eqb k b))) states keys
+      f ∙ set-stored (plain b) s false (λ k h. rw (e, set-entry (withElement (byte b)) k h) (Bool·not-not (eqb k b))) states keys
 
 pub dot-stored : (states : ℕ) (keys after : List ℕ) → after ≡ mapWith (withKey (replicate 256 false) true states) 0 keys → after ≡ keysWith dot states keys
 unfolding named xor

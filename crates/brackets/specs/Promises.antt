@@ -33,8 +33,8 @@ unfoldable pub withKey : List Bool → Bool → ℕ → ℕ → ℕ → ℕ
 withKey set negated states k x = cond (hasKey set negated k) (bitOr x states) x
 
 -- a list with 0 behind it, n numbers in all
-abbrev pub filledUp : ℕ → List ℕ → List ℕ
-filledUp n l = l ++ replicate (n - length l) 0
+abbrev pub padded : ℕ → List ℕ → List ℕ
+padded n l = l ++ replicate (n - length l) 0
 
 abbrev pub rangesOf : ℕ → List Range
 rangesOf c = getD classRanges c []
@@ -42,10 +42,10 @@ rangesOf c = getD classRanges c []
 -- a class as a row of the code's table
 unfoldable pub classRow : ℕ → Class
 classRow c = record {
-  name = filledUp 6 (className c);
+  name = padded 6 (className c);
   length = length (className c);
-  first = filledUp 4 (map (λ r. r .first) (rangesOf c));
-  last = filledUp 4 (map (λ r. r .last) (rangesOf c));
+  first = padded 4 (map (λ r. r .first) (rangesOf c));
+  last = padded 4 (map (λ r. r .last) (rangesOf c));
   count = length (rangesOf c);
 }
 

@@ -1,8 +1,8 @@
 // What is printed of an answer.
 use crate::numbers::hash;
 use crate::numbers::hash_bytes;
-use counter::Checked;
 use counter::BookCount;
+use counter::Checked;
 use counter::Joined;
 use counter::LineTest;
 use counter::Report;

@@ -15,10 +15,7 @@ const BEYOND: usize = 1024;
 fn is_digit(c: u8) -> bool
     ensures { λ r. ⌜ r ≡ isDigit c ⌝ }
 {
-    if c < b'0' {
-        return false;
-    }
-    c <= b'9'
+    (b'0' <= c) & (c <= b'9')
 }
 
 // The number so far with one more digit. Larger ones stay at BEYOND, so that a text of any length has a number.

@@ -7,7 +7,7 @@ use mathlib.Core.Bool.{Bool, true, false}
 use mathlib.Core.List.{List, [], _++_, append-assoc}
 use lib.Dec.{ltb}
 use borrow.Author.Tests.{ltb-true, ltb-false}
-use lib.ListN.{length, take, drop, length-append}
+use lib.ListN.{length, getD, take, drop, replicate, length-append}
 use lib.Seq.{take-at, drop-at, drop-drop}
 use Rattle.runs.specs.Kept.{firstWords, times}
 
@@ -48,11 +48,16 @@ module _ (W : ℕ → List ℕ) (k : ℕ) (wide : (i : ℕ) → length (W i) ≡
       ∙ sym (append-assoc (firstWords W i) (W i) (drop ((i + 1) * k) before))
       ∙ ap (λ (n : ℕ). firstWords W n ++ drop ((i + 1) * k) before) (sym (add-one i))
 
-
 pub times-add : (m n : ℕ) (w : List ℕ) → times (m + n) w ≡ times m w ++ times n w
 unfolding times
 times-add zero n w = let e : 0 + n ≡ n = omega arith in rw e refl
 times-add (suc m) n w = let e : suc m + n ≡ suc (m + n) = omega arith in rw e (ap (λ (l : List ℕ). w ++ l) (times-add m n w) ∙ sym (append-assoc w (times m w) (times n w)))
+
+-- zeros
+pub zeros-at : (n i : ℕ) → _≡_ {A = ℕ} (getD (replicate n 0) i 0) 0
+zeros-at zero i = refl
+zeros-at (suc n) zero = refl
+zeros-at (suc n) (suc i) = zeros-at n i
 
 -- Repetition by doubling, for whatever is kept of a run and joins as runs follow each other.
 module _ {A : Type 0} (of : List ℕ → A) (join : A → A → A) (fine : List ℕ → Type 0) (joins : (u v : List ℕ) → fine u → fine v → join (of u) (of v) ≡ of (u ++ v)) (w : List ℕ) (all : (n : ℕ) → fine (times n w)) where

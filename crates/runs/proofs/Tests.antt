@@ -5,7 +5,6 @@ use mathlib.Core.Path.{_≡_, refl, sym}
 use mathlib.Core.Logic.{_⊎_, inl, inr}
 use mathlib.Core.Bool.{Bool, true, false, _&&_, _||_, or-true, and-eq-true-iff}
 
-
 -- two constructors that are equal prove anything
 pub clash : {A : Type 0} → _≡_ {A = ℕ} 0 1 → A
 clash z = absurd (no-less z)
@@ -44,7 +43,6 @@ pub tests-ext : (a b : Bool) → (a ≡ true → b ≡ true) → (b ≡ true →
 tests-ext true b f g = sym (f refl)
 tests-ext false true f g = g refl
 tests-ext false false f g = refl
-
 
 -- both parts of a test that passed
 pub and-parts : (a b : Bool) → a && b ≡ true → (a ≡ true) × (b ≡ true)

@@ -1,4 +1,4 @@
--- `read_text`: the set that was filled is stored.
+-- `read_text`: the set that was read is stored.
 use borrow.Author.Needs.{needs}
 use Rattle.brackets.proofs.Answers.{fault-place, fault-table}
 use Rattle.brackets.proofs.Bracketed.{text-place, text-table, text-fault}
