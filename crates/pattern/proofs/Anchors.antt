@@ -70,10 +70,10 @@ module _ (s : List ℕ) (c : Cursor) (r : Ready s c) (keys enter : List ℕ) (st
     pub rest-pieces : (d : Cursor) (p : Shape) (y : BranchRead) → x ≡ Part.Read d p → EndDone s d start p y → BranchDone (length s) c keys enter y keys' enter' (readRest start (drop (c .at) s))
     rest-pieces d p y e f = go (view s c r Mode.branch keys enter x keys' enter' h d p e (enough (drop (c .at) s)) bound)
       where
-        go : View s c r Mode.branch keys enter d p keys' enter' (enough (drop (c .at) s)) → BranchDone (length s) c keys enter y keys' enter' (readRest start (drop (c .at) s))
+        go : View s c Mode.branch keys enter d p keys' enter' (enough (drop (c .at) s)) → BranchDone (length s) c keys enter y keys' enter' (readRest start (drop (c .at) s))
         go v =
             rw (front, ← et, some-piece, v .reading)
-            (done-end s c d start keys keys' enter enter' (some (v .expr)) (v .rest) p (v .behind-it .ready .inside) (v .behind-it .here) (v .behind-it .next) (v .shape) (v .keyed) (v .entered) y f)
+            (done-end s c d start keys keys' enter enter' (some (v .expr)) (v .rest) p (v .behind-it .ready .inside) (v .behind-it .here) (v .behind-it .next) (v .made .shape) (v .made .keyed) (v .made .entered) y f)
 
 -- the optional `^`
 module _ (s : List ℕ) (c : Cursor) (keys keys' enter enter' : List ℕ) (b : ℕ) (eb : b ≡ getD s (c .at) 0) (y : BranchRead) where

@@ -18,8 +18,8 @@ use Rattle.brackets.specs.Brackets.{Parsed, parsed, fault, next, done, at, read
 use Rattle.pattern.specs.Reader.{Mode, endsPieces, readRepeat, readExpr}
 use Rattle.pattern.specs.States.{nothing, first, last, follow, holds, atomState}
 use Rattle.pattern.specs.Tables.{keysAfter, enterAfter, linked, shapeOf, seqShape, altShape}
-use Rattle.pattern.specs.Cycle.{pastByte, Ready, Done, room, Reads, AtomDone, repeatShape, repeatEnter, repeatAt}
-use Rattle.pattern.proofs.TreesFrom.{expr-from, group-group}
+use Rattle.pattern.specs.Cycle.{pastByte, Ready, Done, room, ReadsIn, Reads, AtomDone, ReadsAtom, repeatEnter, repeated}
+use Rattle.pattern.proofs.TreesFrom.{expr-from, group-group, markedBy}
 use Rattle.pattern.proofs.Atoms.{inside}
 use Rattle.pattern.proofs.Tables.{keys-seq, keys-alt, enter-seq, enter-alt, enter-again, enter-atom, first-seq, last-seq, first-alt, last-alt}
 use Rattle.pattern.specs.Form.{Expr, atom, group, star, plus, opt, seq, alt, atoms, write}
@@ -79,6 +79,33 @@ pub record Behind (s : List ℕ) (c d : Cursor) (e : Expr) (rest : List ℕ) : T
   pub on : c .at < d .at
   pub ready : Ready s d
 
+-- what an expression comes to, whose atoms have the numbers from b on: its shape, and what it makes of the tables
+pub record Made (b : ℕ) (e : Expr) (p : Shape) (keys enter keys' enter' : List ℕ) : Type 0 where
+  pub shape : p ≡ shapeOf b e
+  pub keyed : keys' ≡ keysAfter b e keys
+  pub entered : enter' ≡ enterAfter b e enter
+
+-- an answer of a reader says what was read
+pub record View (s : List ℕ) (c : Cursor) (m : Mode) (keys enter : List ℕ) (d : Cursor) (p : Shape) (keys' enter' : List ℕ) (f : ℕ) : Type 0 where
+  pub expr : Expr
+  pub rest : List ℕ
+  pub reading : readExpr f m (drop (c .at) s) ≡ parsed expr rest
+  pub behind-it : Behind s c d expr rest
+  pub made : Made (c .atoms) expr p keys enter keys' enter'
+
+-- the byte at the cursor behind what was read
+pub peeked : (s : List ℕ) (i : ℕ) → at 0 (drop i s) ≡ getD s i 0
+peeked s i = getD-drop i s 0 0 ∙ ap (λ (j : ℕ). getD s j 0) (add-zero i)
+
+pub nonzero : (b n : ℕ) → 1 ≤ n → b ≡ n → b ≡ 0 → ⊥
+nonzero b n h e z = omega arith
+
+-- a cursor one byte on, where a byte stands
+pub past : (s : List ℕ) (d : Cursor) → Ready s d → (b : ℕ) → b ≡ getD s (d .at) 0 → (b ≡ 0 → ⊥) → Ready s (pastByte d)
+past s d r b e n =
+    let i : d .at < length s = inside s (d .at) (λ z. n (e ∙ z)) in
+    record { inside = omega arith; short = r .short; few = omega (arith, r .few); clean = r .clean }
+
 module _ (s : List ℕ) (c : Cursor) (r : Ready s c) where
   -- bytes that an expression takes at least as many of as it has atoms
   behind : (d : Cursor) (e : Expr) (w rest : List ℕ) → drop (c .at) s ≡ w ++ rest → atoms e ≤ length w → d ≡ record { at = length s - length rest; atoms = c .atoms + atoms e } → Behind s c d e rest
@@ -95,25 +122,15 @@ module _ (s : List ℕ) (c : Cursor) (r : Ready s c) where
         ready = record { inside = omega (arith, r .inside); short = r .short; few = omega (arith, r .few); clean = r .clean };
       }
 
-  -- an answer of a reader says what was read
-  pub record View (m : Mode) (keys enter : List ℕ) (d : Cursor) (p : Shape) (keys' enter' : List ℕ) (f : ℕ) : Type 0 where
-    pub expr : Expr
-    pub rest : List ℕ
-    pub reading : readExpr f m (drop (c .at) s) ≡ parsed expr rest
-    pub behind-it : Behind s c d expr rest
-    pub shape : p ≡ shapeOf (c .atoms) expr
-    pub keyed : keys' ≡ keysAfter (c .atoms) expr keys
-    pub entered : enter' ≡ enterAfter (c .atoms) expr enter
-
   module _ (m : Mode) (keys enter : List ℕ) (x : Part) (keys' enter' : List ℕ) (h : Reads m s c keys enter x keys' enter') where
-    pub view : (d : Cursor) (p : Shape) → x ≡ Part.Read d p → (f : ℕ) → room m (length s - c .at) ≤ f → View m keys enter d p keys' enter' f
+    pub view : (d : Cursor) (p : Shape) → x ≡ Part.Read d p → (f : ℕ) → room m (length s - c .at) ≤ f → View s c m keys enter d p keys' enter' f
     view d p e f g = go (readExpr f m (drop (c .at) s)) refl (h f g)
       where
-        go : (y : Parsed Expr) → readExpr f m (drop (c .at) s) ≡ y → Done (length s) c keys enter x keys' enter' y → View m keys enter d p keys' enter' f
+        go : (y : Parsed Expr) → readExpr f m (drop (c .at) s) ≡ y → Done (length s) c keys enter x keys' enter' y → View s c m keys enter d p keys' enter' f
         go (parsed t rest) q (i, j, k) =
             let (w, split, enough) = bytes-of f m (drop (c .at) s) rest t (line-drop (c .at) s (r .clean)) q in
             let next : d ≡ record { at = length s - length rest; atoms = c .atoms + atoms t } = cc in
-            record { expr = t; rest = rest; reading = q; behind-it = behind d t w rest split enough next; shape = cc; keyed = j; entered = k }
+            record { expr = t; rest = rest; reading = q; behind-it = behind d t w rest split enough next; made = record { shape = cc; keyed = j; entered = k } }
         go fault q i = clash (cc)
 
     pub unread : x ≡ Part.Fault → (f : ℕ) → room m (length s - c .at) ≤ f → readExpr f m (drop (c .at) s) ≡ fault
@@ -123,9 +140,37 @@ module _ (s : List ℕ) (c : Cursor) (r : Ready s c) where
         go (parsed t rest) q (i, j, k) = cc
         go fault q i = q
 
--- the byte at the cursor behind what was read
-pub peeked : (s : List ℕ) (i : ℕ) → at 0 (drop i s) ≡ getD s i 0
-peeked s i = getD-drop i s 0 0 ∙ ap (λ (j : ℕ). getD s j 0) (add-zero i)
+    -- What the calls in the cycle ask of a part that was read: each reads on with less room, and where it is ready.
+    module _ (d : Cursor) (p : Shape) (e : x ≡ Part.Read d p) where
+      seen : View s c m keys enter d p keys' enter' (room m (length s - c .at))
+      seen = view d p e (room m (length s - c .at)) (le-refl (room m (length s - c .at)))
+
+      pub read-ready : Ready s d
+      read-ready = seen .behind-it .ready
+
+      pub read-later : c .at < d .at
+      read-later = seen .behind-it .on
+
+      pub read-small : p .last < 2 ^ 32
+      read-small = rw (seen .made .shape) (word-lt 32 (λ q. atomState (last (c .atoms) (seen .expr)) q))
+
+      pub read-at : d .at ≤ 128
+      read-at = omega (arith, read-ready .inside, read-ready .short)
+
+      pub read-atoms : d .atoms ≤ 128
+      read-atoms = omega (arith, read-ready .few, read-at)
+
+      -- on with the pieces of a branch
+      pub on-falls : (t : ℕ) → room Mode.branch (length s - c .at) ≡ t → room Mode.branch (length s - d .at) < t
+      on-falls t h = omega (arith, read-later, read-ready .inside)
+
+      -- behind a bar
+      module _ (b : ℕ) (eb : b ≡ getD s (d .at) 0) (bar : b ≡ 124) (n : Cursor) (en : n ≡ pastByte d) where
+        pub bar-ready : Ready s n
+        bar-ready = rw en (past s d read-ready b eb (nonzero b 124 (omega arith) bar))
+
+        pub bar-falls : (t : ℕ) → room Mode.alts (length s - c .at) ≡ t → room Mode.alts (length s - n .at) < t
+        bar-falls t h = omega (arith, read-later, bar-ready .inside, ap (λ (z : Cursor). z .at) en)
 
 -- every bound is some depth
 room-some : (m : Mode) (k : ℕ) → 1 ≤ room m k
@@ -134,23 +179,18 @@ room-some Mode.branch k = omega arith
 room-some Mode.piece k = omega arith
 room-some Mode.group k = omega arith
 
-deeper : (m : Mode) (s : List ℕ) (c : Cursor) (keys enter : List ℕ) (x : Part) (keys' enter' : List ℕ) → ((k : ℕ) → room m (length s - c .at) ≤ suc k → Done (length s) c keys enter x keys' enter' (readExpr (suc k) m (drop (c .at) s))) → Reads m s c keys enter x keys' enter'
+-- so it is enough to know what they answer where they may call each other at least one deep
+abbrev Deeper : Mode → List ℕ → Cursor → List ℕ → List ℕ → Part → List ℕ → List ℕ → Type 0
+Deeper m s c keys enter x keys' enter' = (k : ℕ) → room m (length s - c .at) ≤ suc k → ReadsIn (suc k) m s c keys enter x keys' enter'
+
+deeper : (m : Mode) (s : List ℕ) (c : Cursor) (keys enter : List ℕ) (x : Part) (keys' enter' : List ℕ) → Deeper m s c keys enter x keys' enter' → Reads m s c keys enter x keys' enter'
 deeper m s c keys enter x keys' enter' h zero g = absurd (never (room-some m (length s - c .at)) g)
   where
     never : {n : ℕ} → 1 ≤ n → n ≤ 0 → ⊥
     never a b = omega arith
 deeper m s c keys enter x keys' enter' h (suc k) g = h k g
 
-pub nonzero : (b n : ℕ) → 1 ≤ n → b ≡ n → b ≡ 0 → ⊥
-nonzero b n h e z = omega arith
-
--- a cursor one byte on, where a byte stands
-pub past : (s : List ℕ) (d : Cursor) → Ready s d → (b : ℕ) → b ≡ getD s (d .at) 0 → (b ≡ 0 → ⊥) → Ready s (pastByte d)
-past s d r b e n =
-    let i : d .at < length s = inside s (d .at) (λ z. n (e ∙ z)) in
-    record { inside = omega arith; short = r .short; few = omega (arith, r .few); clean = r .clean }
-
--- and the bytes from there
+-- the bytes behind the byte behind what was read
 skipped : (s : List ℕ) (c d : Cursor) (e : Expr) (rest : List ℕ) → Behind s c d e rest → drop 1 rest ≡ drop (d .at + 1) s
 skipped s c d e rest v = ap (drop 1) (v .here) ∙ drop-drop 1 (d .at) s
 
@@ -164,30 +204,32 @@ unfolding nothing
 shape-seq b p q = rw (first-seq b p q, last-seq b p q)
 
 -- two expressions were read, the second from base b2 on: the answer for both
-module _ (n : ℕ) (c d : Cursor) (keys keys' keys'' enter enter' enter'' : List ℕ) (e1 e2 : Expr) (rest : List ℕ) (p1 p2 : Shape) (b2 : ℕ) (base : b2 ≡ c .atoms + atoms e1) (next : d ≡ record { at = n - length rest; atoms = b2 + atoms e2 }) (s1 : p1 ≡ shapeOf (c .atoms) e1) (s2 : p2 ≡ shapeOf b2 e2) (k1 : keys' ≡ keysAfter (c .atoms) e1 keys) (k2 : keys'' ≡ keysAfter b2 e2 keys') (t1 : enter' ≡ enterAfter (c .atoms) e1 enter) (t2 : enter'' ≡ enterAfter b2 e2 enter') where
+module _ (n : ℕ) (c d : Cursor) (e1 e2 : Expr) (rest : List ℕ) (b2 : ℕ) (base : b2 ≡ c .atoms + atoms e1) (next : d ≡ record { at = n - length rest; atoms = b2 + atoms e2 }) where
   place-two : d ≡ record { at = n - length rest; atoms = c .atoms + (atoms e1 + atoms e2) }
   place-two = next ∙ rw (base, add-assoc)
 
-  done-alt : (q : Shape) → q ≡ altShape p1 p2 → Done n c keys enter (Part.Read d q) keys'' enter'' (parsed (alt e1 e2) rest)
-  unfolding atoms
-  done-alt q e =
-      let whole : q ≡ shapeOf (c .atoms) (alt e1 e2) = e ∙ rw (s1, s2, base) (shape-alt (c .atoms) e1 e2) in
-      (cc (place-two, whole), k2 ∙ rw (base, k1) (keys-alt (c .atoms) e1 e2 keys), t2 ∙ rw (base, t1) (enter-alt (c .atoms) e1 e2 enter))
+  module _ {p1 p2 : Shape} {keys keys' keys'' enter enter' enter'' : List ℕ} (one : Made (c .atoms) e1 p1 keys enter keys' enter') (two : Made b2 e2 p2 keys' enter' keys'' enter'') where
+    done-alt : (q : Shape) → q ≡ altShape p1 p2 → Done n c keys enter (Part.Read d q) keys'' enter'' (parsed (alt e1 e2) rest)
+    unfolding atoms
+    done-alt q e =
+        let whole : q ≡ shapeOf (c .atoms) (alt e1 e2) = e ∙ rw (one .shape, two .shape, base) (shape-alt (c .atoms) e1 e2) in
+        (cc (place-two, whole), two .keyed ∙ rw (base, one .keyed) (keys-alt (c .atoms) e1 e2 keys), two .entered ∙ rw (base, one .entered) (enter-alt (c .atoms) e1 e2 enter))
 
-  done-seq : (q : Shape) (after : List ℕ) → q ≡ seqShape p1 p2 → after ≡ linked (p1 .last) (p2 .first) enter'' → Done n c keys enter (Part.Read d q) keys'' after (parsed (seq e1 e2) rest)
-  unfolding atoms
-  done-seq q after e f =
-      let whole : q ≡ shapeOf (c .atoms) (seq e1 e2) = e ∙ rw (s1, s2, base) (shape-seq (c .atoms) e1 e2) in
-      (cc (place-two, whole), k2 ∙ rw (base, k1) (keys-seq (c .atoms) e1 e2 keys), f ∙ rw (s1, s2, t2, base, t1) (enter-seq (c .atoms) e1 e2 enter))
+    done-seq : (q : Shape) (after : List ℕ) → q ≡ seqShape p1 p2 → after ≡ linked (p1 .last) (p2 .first) enter'' → Done n c keys enter (Part.Read d q) keys'' after (parsed (seq e1 e2) rest)
+    unfolding atoms
+    done-seq q after e f =
+        let whole : q ≡ shapeOf (c .atoms) (seq e1 e2) = e ∙ rw (one .shape, two .shape, base) (shape-seq (c .atoms) e1 e2) in
+        (cc (place-two, whole), two .keyed ∙ rw (base, one .keyed) (keys-seq (c .atoms) e1 e2 keys), f ∙ rw (one .shape, two .shape, two .entered, base, one .entered) (enter-seq (c .atoms) e1 e2 enter))
 
 module _ (s : List ℕ) (c : Cursor) (r : Ready s c) (keys enter : List ℕ) where
-  -- an answer is that of what was read
-  answer : (m : Mode) (d : Cursor) (p : Shape) (keys' enter' : List ℕ) (k : ℕ) (v : View s c r m keys enter d p keys' enter' k) → Done (length s) c keys enter (Part.Read d p) keys' enter' (parsed (v .expr) (v .rest))
-  answer m d p keys' enter' k v = (cc (v .behind-it .next, v .shape), v .keyed, v .entered)
+  module _ {m : Mode} {d : Cursor} {p : Shape} {keys' enter' : List ℕ} {k : ℕ} (v : View s c m keys enter d p keys' enter' k) where
+    -- an answer is that of what was read
+    answer : Done (length s) c keys enter (Part.Read d p) keys' enter' (parsed (v .expr) (v .rest))
+    answer = (cc (v .behind-it .next, v .made .shape), v .made .keyed, v .made .entered)
 
-  -- the byte behind it
-  byte : (m : Mode) (d : Cursor) (p : Shape) (keys' enter' : List ℕ) (k : ℕ) (v : View s c r m keys enter d p keys' enter' k) (b : ℕ) → b ≡ getD s (d .at) 0 → at 0 (v .rest) ≡ b
-  byte m d p keys' enter' k v b e = ap (at 0) (v .behind-it .here) ∙ peeked s (d .at) ∙ sym e
+    -- the byte behind it
+    byte : (b : ℕ) → b ≡ getD s (d .at) 0 → at 0 (v .rest) ≡ b
+    byte b e = ap (at 0) (v .behind-it .here) ∙ peeked s (d .at) ∙ sym e
 
   -- an alternative list
   module _ (x : Part) (keys' enter' : List ℕ) (h : Reads Mode.branch s c keys enter x keys' enter') where
@@ -200,8 +242,8 @@ module _ (s : List ℕ) (c : Cursor) (r : Ready s c) (keys enter : List ℕ) whe
       unfolding readExpr
       alts-one n = deeper Mode.alts s c keys enter (Part.Read d p) keys' enter' (λ k g. go k (view s c r Mode.branch keys enter x keys' enter' h d p e k (omega arith)))
         where
-          go : (k : ℕ) (v : View s c r Mode.branch keys enter d p keys' enter' k) → Done (length s) c keys enter (Part.Read d p) keys' enter' (readExpr (suc k) Mode.alts (drop (c .at) s))
-          go k v = rw (v .reading, byte Mode.branch d p keys' enter' k v b eb, ne-eqb _ _ n) (answer Mode.branch d p keys' enter' k v)
+          go : (k : ℕ) (v : View s c Mode.branch keys enter d p keys' enter' k) → ReadsIn (suc k) Mode.alts s c keys enter (Part.Read d p) keys' enter'
+          go k v = rw (v .reading, byte v b eb, ne-eqb _ _ n) (answer v)
 
       module _ (n : Cursor) (y : Part) (keys'' enter'' : List ℕ) (hn : Reads Mode.alts s n keys' enter' y keys'' enter'') (en : n ≡ pastByte d) (bar : b ≡ 124) where
         h2 : Reads Mode.alts s (pastByte d) keys' enter' y keys'' enter''
@@ -211,10 +253,10 @@ module _ (s : List ℕ) (c : Cursor) (r : Ready s c) (keys enter : List ℕ) whe
         unfolding readExpr
         alts-more-fault f = deeper Mode.alts s c keys enter Part.Fault keys'' enter'' (λ k g. go k g (view s c r Mode.branch keys enter x keys' enter' h d p e k (omega arith)))
           where
-            go : (k : ℕ) → room Mode.alts (length s - c .at) ≤ suc k → (v : View s c r Mode.branch keys enter d p keys' enter' k) → Done (length s) c keys enter Part.Fault keys'' enter'' (readExpr (suc k) Mode.alts (drop (c .at) s))
+            go : (k : ℕ) → room Mode.alts (length s - c .at) ≤ suc k → (v : View s c Mode.branch keys enter d p keys' enter' k) → ReadsIn (suc k) Mode.alts s c keys enter Part.Fault keys'' enter''
             go k g v =
                 let r2 = past s d (v .behind-it .ready) b eb (nonzero b 124 (omega arith) bar) in
-                rw (v .reading, byte Mode.branch d p keys' enter' k v b eb, bar, skipped s c d (v .expr) (v .rest) (v .behind-it), unread s (pastByte d) r2 Mode.alts keys' enter' y keys'' enter'' h2 f k (omega (arith, v .behind-it .on, r2 .inside))) refl
+                rw (v .reading, byte v b eb, bar, skipped s c d (v .expr) (v .rest) (v .behind-it), unread s (pastByte d) r2 Mode.alts keys' enter' y keys'' enter'' h2 f k (omega (arith, v .behind-it .on, r2 .inside))) refl
 
         pub alts-more : (d2 : Cursor) (p2 q : Shape) → y ≡ Part.Read d2 p2 → q ≡ altShape p p2 → Reads Mode.alts s c keys enter (Part.Read d2 q) keys'' enter''
         unfolding readExpr
@@ -223,15 +265,15 @@ module _ (s : List ℕ) (c : Cursor) (r : Ready s c) (keys enter : List ℕ) whe
             c2 : Cursor
             c2 = pastByte d
 
-            both : (k : ℕ) (v : View s c r Mode.branch keys enter d p keys' enter' k) (r2 : Ready s c2) → View s c2 r2 Mode.alts keys' enter' d2 p2 keys'' enter'' k → Done (length s) c keys enter (Part.Read d2 q) keys'' enter'' (readExpr (suc k) Mode.alts (drop (c .at) s))
-            both k v r2 w =
-                rw (v .reading, byte Mode.branch d p keys' enter' k v b eb, bar, skipped s c d (v .expr) (v .rest) (v .behind-it), w .reading)
-                (done-alt (length s) c d2 keys keys' keys'' enter enter' enter'' (v .expr) (w .expr) (w .rest) p p2 (d .atoms) (ap (λ (z : Cursor). z .atoms) (v .behind-it .next)) (w .behind-it .next) (v .shape) (w .shape) (v .keyed) (w .keyed) (v .entered) (w .entered) q g)
+            both : (k : ℕ) (v : View s c Mode.branch keys enter d p keys' enter' k) → View s c2 Mode.alts keys' enter' d2 p2 keys'' enter'' k → ReadsIn (suc k) Mode.alts s c keys enter (Part.Read d2 q) keys'' enter''
+            both k v w =
+                rw (v .reading, byte v b eb, bar, skipped s c d (v .expr) (v .rest) (v .behind-it), w .reading)
+                (done-alt (length s) c d2 (v .expr) (w .expr) (w .rest) (d .atoms) (ap (λ (z : Cursor). z .atoms) (v .behind-it .next)) (w .behind-it .next) (v .made) (w .made) q g)
 
-            go : (k : ℕ) → room Mode.alts (length s - c .at) ≤ suc k → (v : View s c r Mode.branch keys enter d p keys' enter' k) → Done (length s) c keys enter (Part.Read d2 q) keys'' enter'' (readExpr (suc k) Mode.alts (drop (c .at) s))
+            go : (k : ℕ) → room Mode.alts (length s - c .at) ≤ suc k → (v : View s c Mode.branch keys enter d p keys' enter' k) → ReadsIn (suc k) Mode.alts s c keys enter (Part.Read d2 q) keys'' enter''
             go k i v =
                 let r2 = past s d (v .behind-it .ready) b eb (nonzero b 124 (omega arith) bar) in
-                both k v r2 (view s c2 r2 Mode.alts keys' enter' y keys'' enter'' h2 d2 p2 f k (omega (arith, v .behind-it .on, r2 .inside)))
+                both k v (view s c2 r2 Mode.alts keys' enter' y keys'' enter'' h2 d2 p2 f k (omega (arith, v .behind-it .on, r2 .inside)))
 
   -- a branch
   module _ (x : Part) (keys' enter' : List ℕ) (h : Reads Mode.piece s c keys enter x keys' enter') where
@@ -244,29 +286,30 @@ module _ (s : List ℕ) (c : Cursor) (r : Ready s c) (keys enter : List ℕ) whe
       unfolding readExpr
       branch-last n = deeper Mode.branch s c keys enter (Part.Read d p) keys' enter' (λ k g. go k (view s c r Mode.piece keys enter x keys' enter' h d p e k (omega arith)))
         where
-          go : (k : ℕ) (v : View s c r Mode.piece keys enter d p keys' enter' k) → Done (length s) c keys enter (Part.Read d p) keys' enter' (readExpr (suc k) Mode.branch (drop (c .at) s))
-          go k v = rw (v .reading, byte Mode.piece d p keys' enter' k v b eb, ← et, n) (answer Mode.piece d p keys' enter' k v)
+          go : (k : ℕ) (v : View s c Mode.piece keys enter d p keys' enter' k) → ReadsIn (suc k) Mode.branch s c keys enter (Part.Read d p) keys' enter'
+          go k v = rw (v .reading, byte v b eb, ← et, n) (answer v)
 
       module _ (y : Part) (keys'' enter'' : List ℕ) (h2 : Reads Mode.branch s d keys' enter' y keys'' enter'') (more : t ≡ false) where
         pub branch-more-fault : y ≡ Part.Fault → Reads Mode.branch s c keys enter Part.Fault keys'' enter''
         unfolding readExpr
         branch-more-fault f = deeper Mode.branch s c keys enter Part.Fault keys'' enter'' (λ k g. go k g (view s c r Mode.piece keys enter x keys' enter' h d p e k (omega arith)))
           where
-            go : (k : ℕ) → room Mode.branch (length s - c .at) ≤ suc k → (v : View s c r Mode.piece keys enter d p keys' enter' k) → Done (length s) c keys enter Part.Fault keys'' enter'' (readExpr (suc k) Mode.branch (drop (c .at) s))
+            go : (k : ℕ) → room Mode.branch (length s - c .at) ≤ suc k → (v : View s c Mode.piece keys enter d p keys' enter' k) → ReadsIn (suc k) Mode.branch s c keys enter Part.Fault keys'' enter''
             go k g v =
-                rw (v .reading, byte Mode.piece d p keys' enter' k v b eb, ← et, more, v .behind-it .here, unread s d (v .behind-it .ready) Mode.branch keys' enter' y keys'' enter'' h2 f k (omega (arith, v .behind-it .on, v .behind-it .ready .inside))) refl
+                rw (v .reading, byte v b eb, ← et, more, v .behind-it .here, unread s d (v .behind-it .ready) Mode.branch keys' enter' y keys'' enter'' h2 f k (omega (arith, v .behind-it .on, v .behind-it .ready .inside))) refl
 
-        pub branch-more : (d2 : Cursor) (p2 q : Shape) (after : List ℕ) → y ≡ Part.Read d2 p2 → after ≡ linked (p .last) (p2 .first) enter'' → q ≡ seqShape p p2 → Reads Mode.branch s c keys enter (Part.Read d2 q) keys'' after
-        unfolding readExpr
-        branch-more d2 p2 q after f l g = deeper Mode.branch s c keys enter (Part.Read d2 q) keys'' after (λ k i. go k i (view s c r Mode.piece keys enter x keys' enter' h d p e k (omega arith)))
-          where
-            both : (k : ℕ) (v : View s c r Mode.piece keys enter d p keys' enter' k) → View s d (v .behind-it .ready) Mode.branch keys' enter' d2 p2 keys'' enter'' k → Done (length s) c keys enter (Part.Read d2 q) keys'' after (readExpr (suc k) Mode.branch (drop (c .at) s))
-            both k v w =
-                rw (v .reading, byte Mode.piece d p keys' enter' k v b eb, ← et, more, v .behind-it .here, w .reading)
-                (done-seq (length s) c d2 keys keys' keys'' enter enter' enter'' (v .expr) (w .expr) (w .rest) p p2 (d .atoms) (ap (λ (z : Cursor). z .atoms) (v .behind-it .next)) (w .behind-it .next) (v .shape) (w .shape) (v .keyed) (w .keyed) (v .entered) (w .entered) q after g l)
+        module _ (d2 : Cursor) (p2 : Shape) (f : y ≡ Part.Read d2 p2) where
+          pub branch-more : (q : Shape) (after : List ℕ) → after ≡ linked (p .last) (p2 .first) enter'' → q ≡ seqShape p p2 → Reads Mode.branch s c keys enter (Part.Read d2 q) keys'' after
+          unfolding readExpr
+          branch-more q after l g = deeper Mode.branch s c keys enter (Part.Read d2 q) keys'' after (λ k i. go k i (view s c r Mode.piece keys enter x keys' enter' h d p e k (omega arith)))
+            where
+              both : (k : ℕ) (v : View s c Mode.piece keys enter d p keys' enter' k) → View s d Mode.branch keys' enter' d2 p2 keys'' enter'' k → ReadsIn (suc k) Mode.branch s c keys enter (Part.Read d2 q) keys'' after
+              both k v w =
+                  rw (v .reading, byte v b eb, ← et, more, v .behind-it .here, w .reading)
+                  (done-seq (length s) c d2 (v .expr) (w .expr) (w .rest) (d .atoms) (ap (λ (z : Cursor). z .atoms) (v .behind-it .next)) (w .behind-it .next) (v .made) (w .made) q after g l)
 
-            go : (k : ℕ) → room Mode.branch (length s - c .at) ≤ suc k → (v : View s c r Mode.piece keys enter d p keys' enter' k) → Done (length s) c keys enter (Part.Read d2 q) keys'' after (readExpr (suc k) Mode.branch (drop (c .at) s))
-            go k i v = both k v (view s d (v .behind-it .ready) Mode.branch keys' enter' y keys'' enter'' h2 d2 p2 f k (omega (arith, v .behind-it .on, v .behind-it .ready .inside)))
+              go : (k : ℕ) → room Mode.branch (length s - c .at) ≤ suc k → (v : View s c Mode.piece keys enter d p keys' enter' k) → ReadsIn (suc k) Mode.branch s c keys enter (Part.Read d2 q) keys'' after
+              go k i v = both k v (view s d (v .behind-it .ready) Mode.branch keys' enter' y keys'' enter'' h2 d2 p2 f k (omega (arith, v .behind-it .on, v .behind-it .ready .inside)))
 
   -- a group behind its parenthesis
   module _ (x : Part) (keys' enter' : List ℕ) (h : Reads Mode.alts s c keys enter x keys' enter') where
@@ -279,49 +322,56 @@ module _ (s : List ℕ) (c : Cursor) (r : Ready s c) (keys enter : List ℕ) whe
       unfolding readExpr
       group-open n = deeper Mode.group s c keys enter Part.Fault keys' enter' (λ k g. go k (view s c r Mode.alts keys enter x keys' enter' h d p e k (omega arith)))
         where
-          go : (k : ℕ) (v : View s c r Mode.alts keys enter d p keys' enter' k) → Done (length s) c keys enter Part.Fault keys' enter' (readExpr (suc k) Mode.group (drop (c .at) s))
-          go k v = rw (v .reading, byte Mode.alts d p keys' enter' k v b eb, ne-eqb _ _ n) refl
+          go : (k : ℕ) (v : View s c Mode.alts keys enter d p keys' enter' k) → ReadsIn (suc k) Mode.group s c keys enter Part.Fault keys' enter'
+          go k v = rw (v .reading, byte v b eb, ne-eqb _ _ n) refl
 
       closed : b ≡ 41 → Reads Mode.group s c keys enter (Part.Read (pastByte d) p) keys' enter'
       unfolding readExpr atoms nothing first last follow holds
       closed n = deeper Mode.group s c keys enter (Part.Read (pastByte d) p) keys' enter' (λ k g. go k (view s c r Mode.alts keys enter x keys' enter' h d p e k (omega arith)))
         where
-          go : (k : ℕ) (v : View s c r Mode.alts keys enter d p keys' enter' k) → Done (length s) c keys enter (Part.Read (pastByte d) p) keys' enter' (readExpr (suc k) Mode.group (drop (c .at) s))
+          go : (k : ℕ) (v : View s c Mode.alts keys enter d p keys' enter' k) → ReadsIn (suc k) Mode.group s c keys enter (Part.Read (pastByte d) p) keys' enter'
           go k v =
               let r2 = past s d (v .behind-it .ready) b eb (nonzero b 41 (omega arith) n) in
               let place : d .at + 1 ≡ length s - length (drop 1 (v .rest)) = rw (skipped s c d (v .expr) (v .rest) (v .behind-it), length-drop) (omega (arith, r2 .inside)) in
               let many : d .atoms ≡ c .atoms + atoms (v .expr) = ap (λ (z : Cursor). z .atoms) (v .behind-it .next) in
-              rw (v .reading, byte Mode.alts d p keys' enter' k v b eb, n) (cc (place, many, v .shape), v .keyed, v .entered)
+              rw (v .reading, byte v b eb, n) (cc (place, many, v .made .shape), v .made .keyed, v .made .entered)
 
       pub group-closed : (n : Cursor) → n ≡ pastByte d → b ≡ 41 → Reads Mode.group s c keys enter (Part.Read n p) keys' enter'
       group-closed n en h = rw en (closed h)
 
+-- what a mark behind a part makes of it and of the table of states, by the tests for `*`, `+` and `?`
+abbrev partBy : Bool → Bool → Bool → Cursor → Shape → Part
+partBy t u w d p = Part.Read (record { at = cond (t || (u || w)) (d .at + 1) (d .at); atoms = d .atoms }) (cond (t || w) (record { nothing = true; first = p .first; last = p .last }) p)
+
+abbrev enterBy : Bool → Bool → Shape → List ℕ → List ℕ
+enterBy t u p enter = cond (t || u) (linked (p .last) (p .first) enter) enter
+
 -- an atom or a group was read, and a mark of repetition m or none stands behind it
-module _ (s : List ℕ) (c d : Cursor) (keys keys' enter enter' : List ℕ) (e : Expr) (rest : List ℕ) (p : Shape) (m : ℕ) (em : m ≡ getD s (d .at) 0) (in-s : d .at ≤ length s) (here : rest ≡ drop (d .at) s) (next : d ≡ record { at = length s - length rest; atoms = c .atoms + atoms e }) (shape : p ≡ shapeOf (c .atoms) e) (keyed : keys' ≡ keysAfter (c .atoms) e keys) (entered : enter' ≡ enterAfter (c .atoms) e enter) where
-  done-repeat : (y : Part) (after : List ℕ) → y ≡ Part.Read (record { at = repeatAt m (d .at); atoms = d .atoms }) (repeatShape m p) → after ≡ repeatEnter m p enter' → Done (length s) c keys enter y keys' after (readRepeat e rest)
+module _ {s rest keys enter keys' enter' : List ℕ} {c d : Cursor} {e : Expr} {p : Shape} (v : Behind s c d e rest) (made : Made (c .atoms) e p keys enter keys' enter') (m : ℕ) (em : m ≡ getD s (d .at) 0) where
+  done-repeat : (y : Part) (after : List ℕ) → y ≡ repeated m d p → after ≡ repeatEnter m p enter' → Done (length s) c keys enter y keys' after (readRepeat e rest)
   unfolding readRepeat atoms nothing first last follow holds
   done-repeat y after ey ea = rw (ey, ea, front) (go (eqb m 42) (eqb m 43) (eqb m 63) refl refl refl)
     where
       front : at 0 rest ≡ m
-      front = ap (at 0) here ∙ peeked s (d .at) ∙ sym em
+      front = ap (at 0) (v .here) ∙ peeked s (d .at) ∙ sym em
 
       many : d .atoms ≡ c .atoms + atoms e
-      many = ap (λ (z : Cursor). z .atoms) next
+      many = ap (λ (z : Cursor). z .atoms) (v .next)
 
       on : (n : ℕ) → 1 ≤ n → eqb m n ≡ true → d .at + 1 ≡ length s - length (drop 1 rest)
       on n l q =
           let i : d .at < length s = inside s (d .at) (λ z. nonzero m n l (eqb-true m n q) (em ∙ z)) in
-          rw (here, length-drop, length-drop) (omega arith)
+          rw (v .here, length-drop, length-drop) (omega arith)
 
       two : m ≡ 43 → m ≡ 63 → ⊥
       two f g = omega arith
 
-      go : (t u w : Bool) → eqb m 42 ≡ t → eqb m 43 ≡ u → eqb m 63 ≡ w → Done (length s) c keys enter (Part.Read (record { at = cond (t || (u || w)) (d .at + 1) (d .at); atoms = d .atoms }) (cond (t || w) (record { nothing = true; first = p .first; last = p .last }) p)) keys' (cond (t || u) (linked (p .last) (p .first) enter') enter') (cond t (parsed (star e) (drop 1 rest)) (cond u (parsed (plus e) (drop 1 rest)) (cond w (parsed (opt e) (drop 1 rest)) (parsed e rest))))
-      go true u w i j k = (cc (on 42 (omega arith) i, many, shape), keyed, rw (shape, entered) (enter-again (c .atoms) e enter))
+      go : (t u w : Bool) → eqb m 42 ≡ t → eqb m 43 ≡ u → eqb m 63 ≡ w → Done (length s) c keys enter (partBy t u w d p) keys' (enterBy t u p enter') (markedBy t u w e rest)
+      go true u w i j k = (cc (on 42 (omega arith) i, many, made .shape), made .keyed, rw (made .shape, made .entered) (enter-again (c .atoms) e enter))
       go false true true i j k = absurd (two (eqb-true m 43 j) (eqb-true m 63 k))
-      go false true false i j k = (cc (on 43 (omega arith) j, many, shape), keyed, rw (shape, entered) (enter-again (c .atoms) e enter))
-      go false false true i j k = (rw (on 63 (omega arith) k, many, shape), keyed, entered)
-      go false false false i j k = (cc (next, shape), keyed, entered)
+      go false true false i j k = (cc (on 43 (omega arith) j, many, made .shape), made .keyed, rw (made .shape, made .entered) (enter-again (c .atoms) e enter))
+      go false false true i j k = (rw (on 63 (omega arith) k, many, made .shape), made .keyed, made .entered)
+      go false false false i j k = (cc (v .next, made .shape), made .keyed, made .entered)
 
 module _ (s : List ℕ) (c : Cursor) (r : Ready s c) (keys enter : List ℕ) (b : ℕ) (eb : b ≡ getD s (c .at) 0) where
   opened : at 0 (drop (c .at) s) ≡ b
@@ -339,17 +389,18 @@ module _ (s : List ℕ) (c : Cursor) (r : Ready s c) (keys enter : List ℕ) (b 
     unfolding readExpr
     piece-fault e = deeper Mode.piece s c keys enter Part.Fault keys' enter' (λ k g. rw (opened, paren, drop-drop 1 (c .at) s, unread s (pastByte c) r2 Mode.group keys enter x keys' enter' h e k (omega (arith, r2 .inside))) refl)
 
-    pub piece-group : (d : Cursor) (p : Shape) (m : ℕ) (y : Part) (after : List ℕ) → x ≡ Part.Read d p → m ≡ getD s (d .at) 0 → y ≡ Part.Read (record { at = repeatAt m (d .at); atoms = d .atoms }) (repeatShape m p) → after ≡ repeatEnter m p enter' → Reads Mode.piece s c keys enter y keys' after
-    unfolding readExpr
-    piece-group d p m y after e em ey ea = deeper Mode.piece s c keys enter y keys' after (λ k g. go k (view s (pastByte c) r2 Mode.group keys enter x keys' enter' h d p e k (omega (arith, r2 .inside))))
-      where
-        go : (k : ℕ) (v : View s (pastByte c) r2 Mode.group keys enter d p keys' enter' k) → Done (length s) c keys enter y keys' after (readExpr (suc k) Mode.piece (drop (c .at) s))
-        go k v =
-            rw (opened, paren, drop-drop 1 (c .at) s, v .reading)
-            (done-repeat s c d keys keys' enter enter' (v .expr) (v .rest) p m em (v .behind-it .ready .inside) (v .behind-it .here) (v .behind-it .next) (v .shape) (v .keyed) (v .entered) y after ey ea)
+    module _ (d : Cursor) (p : Shape) (e : x ≡ Part.Read d p) (m : ℕ) (em : m ≡ getD s (d .at) 0) where
+      pub piece-group : (y : Part) (after : List ℕ) → y ≡ repeated m d p → after ≡ repeatEnter m p enter' → Reads Mode.piece s c keys enter y keys' after
+      unfolding readExpr
+      piece-group y after ey ea = deeper Mode.piece s c keys enter y keys' after (λ k g. go k (view s (pastByte c) r2 Mode.group keys enter x keys' enter' h d p e k (omega (arith, r2 .inside))))
+        where
+          go : (k : ℕ) (v : View s (pastByte c) Mode.group keys enter d p keys' enter' k) → ReadsIn (suc k) Mode.piece s c keys enter y keys' after
+          go k v =
+              rw (opened, paren, drop-drop 1 (c .at) s, v .reading)
+              (done-repeat (record { next = v .behind-it .next; here = v .behind-it .here; on = omega (arith, v .behind-it .on); ready = v .behind-it .ready }) (v .made) m em y after ey ea)
 
   -- a piece that is an atom
-  module _ (plain-one : b ≡ 40 → ⊥) (x : Part) (keys' : List ℕ) (h : AtomDone (length s) c keys x keys' (readAtom (drop (c .at) s))) where
+  module _ (plain-one : b ≡ 40 → ⊥) (x : Part) (keys' : List ℕ) (h : ReadsAtom s c keys x keys') where
     pub piece-atom-fault : x ≡ Part.Fault → Reads Mode.piece s c keys enter Part.Fault keys' enter
     unfolding readExpr
     piece-atom-fault e = deeper Mode.piece s c keys enter Part.Fault keys' enter (λ k g. rw (opened, ne-eqb _ _ plain-one) (go (readAtom (drop (c .at) s)) h))
@@ -358,48 +409,18 @@ module _ (s : List ℕ) (c : Cursor) (r : Ready s c) (keys enter : List ℕ) (b 
         go (parsed a rest) (i, j) = clash (cc)
         go fault i = refl
 
-    pub piece-atom : (d : Cursor) (p : Shape) (m : ℕ) (y : Part) (after : List ℕ) → x ≡ Part.Read d p → m ≡ getD s (d .at) 0 → y ≡ Part.Read (record { at = repeatAt m (d .at); atoms = d .atoms }) (repeatShape m p) → after ≡ repeatEnter m p enter → Reads Mode.piece s c keys enter y keys' after
-    unfolding readExpr atoms
-    piece-atom d p m y after e em ey ea = deeper Mode.piece s c keys enter y keys' after (λ k g. rw (opened, ne-eqb _ _ plain-one) (go (readAtom (drop (c .at) s)) refl h))
-      where
-        go : (z : Parsed Atom) → readAtom (drop (c .at) s) ≡ z → AtomDone (length s) c keys x keys' z → Done (length s) c keys enter y keys' after (next (next z (λ a. done (atom a))) readRepeat)
-        go (parsed a rest) q (i, j) =
-            let there : d ≡ record { at = length s - length rest; atoms = c .atoms + 1 } = cc in
-            let v = behind s c r d (atom a) (writeAtom a) rest (atom-from (drop (c .at) s) rest a (line-drop (c .at) s (r .clean)) q .0) (atom-long a) there in
-            done-repeat s c d keys keys' enter enter (atom a) rest p m em (v .ready .inside) (v .here) there (cc) j (enter-atom (c .atoms) a enter) y after ey ea
-        go fault q i = clash (cc)
-
--- What the calls in the cycle ask: each reads on with less room, and where it is ready.
-module _ (s : List ℕ) (c : Cursor) (r : Ready s c) (m : Mode) (keys enter : List ℕ) (x : Part) (keys' enter' : List ℕ) (h : Reads m s c keys enter x keys' enter') (d : Cursor) (p : Shape) (e : x ≡ Part.Read d p) where
-  seen : View s c r m keys enter d p keys' enter' (room m (length s - c .at))
-  seen = view s c r m keys enter x keys' enter' h d p e (room m (length s - c .at)) (le-refl (room m (length s - c .at)))
-
-  pub read-ready : Ready s d
-  read-ready = seen .behind-it .ready
-
-  pub read-later : c .at < d .at
-  read-later = seen .behind-it .on
-
-  pub read-small : p .last < 2 ^ 32
-  read-small = rw (seen .shape) (word-lt 32 (λ q. atomState (last (c .atoms) (seen .expr)) q))
-
-  pub read-at : d .at ≤ 128
-  read-at = omega (arith, read-ready .inside, read-ready .short)
-
-  pub read-atoms : d .atoms ≤ 128
-  read-atoms = omega (arith, read-ready .few, read-at)
-
-  -- on with the pieces of a branch
-  pub on-falls : (t : ℕ) → room Mode.branch (length s - c .at) ≡ t → room Mode.branch (length s - d .at) < t
-  on-falls t h = omega (arith, read-later, read-ready .inside)
-
-  -- behind a bar
-  module _ (b : ℕ) (eb : b ≡ getD s (d .at) 0) (bar : b ≡ 124) (n : Cursor) (en : n ≡ pastByte d) where
-    pub bar-ready : Ready s n
-    bar-ready = rw en (past s d read-ready b eb (nonzero b 124 (omega arith) bar))
-
-    pub bar-falls : (t : ℕ) → room Mode.alts (length s - c .at) ≡ t → room Mode.alts (length s - n .at) < t
-    bar-falls t h = omega (arith, read-later, bar-ready .inside, ap (λ (z : Cursor). z .at) en)
+    module _ (d : Cursor) (p : Shape) (e : x ≡ Part.Read d p) (m : ℕ) (em : m ≡ getD s (d .at) 0) where
+      pub piece-atom : (y : Part) (after : List ℕ) → y ≡ repeated m d p → after ≡ repeatEnter m p enter → Reads Mode.piece s c keys enter y keys' after
+      unfolding readExpr atoms
+      piece-atom y after ey ea = deeper Mode.piece s c keys enter y keys' after (λ k g. rw (opened, ne-eqb _ _ plain-one) (go (readAtom (drop (c .at) s)) refl h))
+        where
+          go : (z : Parsed Atom) → readAtom (drop (c .at) s) ≡ z → AtomDone (length s) c keys x keys' z → Done (length s) c keys enter y keys' after (next (next z (λ a. done (atom a))) readRepeat)
+          go (parsed a rest) q (i, j) =
+              let there : d ≡ record { at = length s - length rest; atoms = c .atoms + 1 } = cc in
+              let v = behind s c r d (atom a) (writeAtom a) rest (atom-from (drop (c .at) s) rest a (line-drop (c .at) s (r .clean)) q .0) (atom-long a) there in
+              let made : Made (c .atoms) (atom a) p keys enter keys' enter = record { shape = cc; keyed = j; entered = enter-atom (c .atoms) a enter } in
+              done-repeat v made m em y after ey ea
+          go fault q i = clash (cc)
 
 -- a cursor that is ready, and one behind a parenthesis
 module _ (s : List ℕ) (c : Cursor) (r : Ready s c) where
@@ -428,7 +449,7 @@ module _ (s : List ℕ) (c : Cursor) (r : Ready s c) where
       group-small = read-small s n paren-ready Mode.group keys enter x keys' enter' h d p e
 
 -- an atom leaves a cursor that is ready, and a small word
-module _ (s : List ℕ) (c : Cursor) (r : Ready s c) (keys keys' : List ℕ) (x : Part) (h : AtomDone (length s) c keys x keys' (readAtom (drop (c .at) s))) (d : Cursor) (p : Shape) (e : x ≡ Part.Read d p) where
+module _ (s : List ℕ) (c : Cursor) (r : Ready s c) (keys keys' : List ℕ) (x : Part) (h : ReadsAtom s c keys x keys') (d : Cursor) (p : Shape) (e : x ≡ Part.Read d p) where
   atom-seen : (Ready s d) × (p .last < 2 ^ 32)
   unfolding atoms
   atom-seen = go (readAtom (drop (c .at) s)) refl h

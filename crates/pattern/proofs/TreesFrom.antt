@@ -7,7 +7,7 @@ use mathlib.Core.List.{List, [], _∷_, _++_, append-assoc}
 use lib.Dec.{leb, eqb}
 use lib.ListN.{drop}
 use borrow.Author.Tests.{leb-true, le-leb}
-use Rattle.brackets.specs.Brackets.{parsed, fault, next, done, at, readAtom}
+use Rattle.brackets.specs.Brackets.{Parsed, parsed, fault, next, done, at, readAtom}
 use Rattle.pattern.specs.Reader.{readRepeat, endsPieces, Mode, readExpr}
 use Rattle.brackets.proofs.Parses.{same-parsed, test-parsed, next-parsed, made-parsed, front}
 use Rattle.pattern.specs.Form.{Expr, atom, group, star, plus, opt, seq, alt, write, formed}
@@ -52,6 +52,10 @@ level Mode.group = 0
 abbrev pub Expr-from : Mode → List ℕ → Expr → List ℕ → Type 0
 Expr-from m l e rest = (from m l ≡ write e ++ rest) × (formed e (level m) ≡ true)
 
+-- an atom or a group with the mark behind it, by the tests for `*`, `+` and `?`
+abbrev pub markedBy : Bool → Bool → Bool → Expr → List ℕ → Parsed Expr
+markedBy x y z p mid = cond x (parsed (star p) (drop 1 mid)) (cond y (parsed (plus p) (drop 1 mid)) (cond z (parsed (opt p) (drop 1 mid)) (parsed p mid)))
+
 -- after an atom or a group, with its repetition mark
 repeat-from : (l mid rest : List ℕ) (p e : Expr) → (l ≡ write p ++ mid) × (formed p 0 ≡ true) → readRepeat p mid ≡ parsed e rest → Expr-from Mode.piece l e rest
 unfolding readRepeat write formed
@@ -60,7 +64,7 @@ repeat-from l mid rest p e h r = go (eqb (at 0 mid) 42) (eqb (at 0 mid) 43) (eqb
     marked : (c : ℕ) → 1 ≤ c → eqb (at 0 mid) c ≡ true → l ≡ (write p ++ (c ∷ [])) ++ drop 1 mid
     marked c s t = rw (append-assoc, ← front mid c s t) (h .0)
 
-    go : (x y z : Bool) → eqb (at 0 mid) 42 ≡ x → eqb (at 0 mid) 43 ≡ y → eqb (at 0 mid) 63 ≡ z → cond x (parsed (star p) (drop 1 mid)) (cond y (parsed (plus p) (drop 1 mid)) (cond z (parsed (opt p) (drop 1 mid)) (parsed p mid))) ≡ parsed e rest → Expr-from Mode.piece l e rest
+    go : (x y z : Bool) → eqb (at 0 mid) 42 ≡ x → eqb (at 0 mid) 43 ≡ y → eqb (at 0 mid) 63 ≡ z → markedBy x y z p mid ≡ parsed e rest → Expr-from Mode.piece l e rest
     go true y z a b c q = let (same, after) = same-parsed q in rw (← same, ← after) (marked 42 (omega arith) a, h .1)
     go false true z a b c q = let (same, after) = same-parsed q in rw (← same, ← after) (marked 43 (omega arith) b, h .1)
     go false false true a b c q = let (same, after) = same-parsed q in rw (← same, ← after) (marked 63 (omega arith) c, h .1)

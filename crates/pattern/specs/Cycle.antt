@@ -9,7 +9,7 @@ use Rattle.pattern.specs.declared.cursor.Cursor.{Cursor}
 use Rattle.pattern.specs.declared.cursor.Part.{Part}
 use Rattle.pattern.specs.declared.shape.Shape.{Shape}
 use Rattle.brackets.specs.Form.{Atom}
-use Rattle.brackets.specs.Brackets.{Parsed, parsed, fault}
+use Rattle.brackets.specs.Brackets.{Parsed, parsed, fault, readAtom}
 use Rattle.pattern.specs.Reader.{Mode, readExpr}
 use Rattle.pattern.specs.Tables.{keysAfter, enterAfter, linked, shapeOf}
 use Rattle.pattern.specs.Form.{Expr, atom, atoms}
@@ -41,15 +41,23 @@ room Mode.branch k = 4 * k + 2
 room Mode.piece k = 4 * k + 1
 room Mode.group k = 4 * k + 4
 
+-- the answer at cursor c of the bytes s, where the readers may call each other f deep
+abbrev pub ReadsIn : ℕ → Mode → List ℕ → Cursor → List ℕ → List ℕ → Part → List ℕ → List ℕ → Type 0
+ReadsIn f m s c keys enter r keys' enter' = Done (length s) c keys enter r keys' enter' (readExpr f m (drop (c .at) s))
+
+-- and within every bound that is large enough
 abbrev pub Reads : Mode → List ℕ → Cursor → List ℕ → List ℕ → Part → List ℕ → List ℕ → Type 0
-Reads m s c keys enter r keys' enter' =
-    (f : ℕ) → room m (length s - c .at) ≤ f → Done (length s) c keys enter r keys' enter' (readExpr f m (drop (c .at) s))
+Reads m s c keys enter r keys' enter' = (f : ℕ) → room m (length s - c .at) ≤ f → ReadsIn f m s c keys enter r keys' enter'
 
 -- an atom: no state may enter anything more
 abbrev pub AtomDone : ℕ → Cursor → List ℕ → Part → List ℕ → Parsed Atom → Type 0
 AtomDone n c keys r keys' (parsed a rest) =
     (r ≡ Part.Read (record { at = n - length rest; atoms = c .atoms + 1 }) (shapeOf (c .atoms) (atom a))) × (keys' ≡ keysAfter (c .atoms) (atom a) keys)
 AtomDone n c keys r keys' fault = r ≡ Part.Fault
+
+-- the answer at cursor c of the bytes s
+abbrev pub ReadsAtom : List ℕ → Cursor → List ℕ → Part → List ℕ → Type 0
+ReadsAtom s c keys r keys' = AtomDone (length s) c keys r keys' (readAtom (drop (c .at) s))
 
 -- a repetition mark b, or none: the shape, the table and the place after it
 abbrev pub repeatShape : ℕ → Shape → Shape
@@ -60,3 +68,7 @@ repeatEnter b p enter = cond (eqb b 42 || eqb b 43) (linked (p .last) (p .first)
 
 abbrev pub repeatAt : ℕ → ℕ → ℕ
 repeatAt b at = cond (eqb b 42 || (eqb b 43 || eqb b 63)) (at + 1) at
+
+-- a part that was read up to the cursor d, with the mark b behind it, or none
+abbrev pub repeated : ℕ → Cursor → Shape → Part
+repeated b d p = Part.Read (record { at = repeatAt b (d .at); atoms = d .atoms }) (repeatShape b p)

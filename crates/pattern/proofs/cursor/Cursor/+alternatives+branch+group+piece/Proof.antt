@@ -141,7 +141,7 @@ pub +alternatives+branch+group+piece-spec : {M : Type 1} → statement M
     let t = o .before .before .before in
     let p = t .before .before .before .before .before .before in
     let k = p .before .before .before .before in
-    laws.branch-more (now (k .args .s)) (k .args .self) (k .pre .1) _ _ _ _ _ (p .piece .ensures) _ _ (t .before .before .before .before .part .given .1) _ (t .before .before .peek .ensures) _ (t .before .ends-pieces .ensures) _ _ _ (o .branch .ensures) (t .if1 .left) _ _ _ _ (c .before .before .before .before .other .given .1) (c .before .link .ensures) (c .in-sequence .ensures)))
+    laws.branch-more (now (k .args .s)) (k .args .self) (k .pre .1) _ _ _ _ _ (p .piece .ensures) _ _ (t .before .before .before .before .part .given .1) _ (t .before .before .peek .ensures) _ (t .before .ends-pieces .ensures) _ _ _ (o .branch .ensures) (t .if1 .left) _ _ (c .before .before .before .before .other .given .1) _ _ (c .before .link .ensures) (c .in-sequence .ensures)))
     (λ t. group-lts.spec (
       alternatives-below t,
       alternatives.Post,
