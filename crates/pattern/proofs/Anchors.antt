@@ -15,30 +15,39 @@ use Rattle.pattern.specs.declared.cursor.Cursor.{Cursor}
 use Rattle.pattern.specs.declared.cursor.Part.{Part}
 use Rattle.pattern.specs.declared.shape.Shape.{Shape}
 use Rattle.brackets.specs.Brackets.{Parsed, parsed, fault, at}
-use Rattle.pattern.specs.Reader.{Mode, endsPieces, enough, anchored, readRest, readBranch}
+use Rattle.pattern.specs.Reader.{Mode, endsPieces, enough, endedBy, anchored, readRest, readBranch}
 use Rattle.pattern.specs.Cycle.{Ready, Reads}
 use Rattle.pattern.specs.Cycle.{pastByte}
-use Rattle.pattern.specs.Branches.{shapeIn, keysIn, enterIn, EndDone, BranchDone}
+use Rattle.pattern.specs.Branches.{emptyShape, shapeIn, keysIn, enterIn, endRead, EndDone, BranchDone, ReadsBranch, ReadsRest}
 use Rattle.pattern.proofs.Atoms.{inside}
 use Rattle.pattern.proofs.Cycles.{peeked, nonzero, View, view, unread, past}
 use Rattle.pattern.specs.Form.{Expr, Branch, atomsIn}
 
--- pieces, or none, were read up to the cursor d, and an optional `$` stands there
-module _ (s : List ℕ) (c d : Cursor) (start : Bool) (keys keys' enter enter' : List ℕ) (e : Option Expr) (rest : List ℕ) (p : Shape) (in-s : d .at ≤ length s) (here : rest ≡ drop (d .at) s) (next : d ≡ record { at = length s - length rest; atoms = c .atoms + atomsIn e }) (shape : p ≡ shapeIn (c .atoms) e) (keyed : keys' ≡ keysIn (c .atoms) e keys) (entered : enter' ≡ enterIn (c .atoms) e enter) where
+-- pieces, or none, were read from the cursor c up to d: the bytes left, their shape, and what they make of the tables
+record PiecesRead (s : List ℕ) (c d : Cursor) (e : Option Expr) (rest : List ℕ) (p : Shape) (keys enter keys' enter' : List ℕ) : Type 0 where
+  in-s : d .at ≤ length s
+  here : rest ≡ drop (d .at) s
+  next : d ≡ record { at = length s - length rest; atoms = c .atoms + atomsIn e }
+  shape : p ≡ shapeIn (c .atoms) e
+  keyed : keys' ≡ keysIn (c .atoms) e keys
+  entered : enter' ≡ enterIn (c .atoms) e enter
+
+-- and an optional `$` stands there
+module _ {s rest keys enter keys' enter' : List ℕ} {c d : Cursor} {e : Option Expr} {p : Shape} (start : Bool) (v : PiecesRead s c d e rest p keys enter keys' enter') where
   done-end : (y : BranchRead) → EndDone s d start p y → BranchDone (length s) c keys enter y keys' enter' (anchored start e rest)
-  done-end y f = rw (ap (at 0) here ∙ peeked s (d .at), f) (go (eqb (getD s (d .at) 0) 36) refl)
+  done-end y f = rw (ap (at 0) (v .here) ∙ peeked s (d .at), f) (go (eqb (getD s (d .at) 0) 36) refl)
     where
       many : d .atoms ≡ c .atoms + atomsIn e
-      many = ap (λ (z : Cursor). z .atoms) next
+      many = ap (λ (z : Cursor). z .atoms) (v .next)
 
       on : eqb (getD s (d .at) 0) 36 ≡ true → d .at + 1 ≡ length s - length (drop 1 rest)
       on q =
           let i : d .at < length s = inside s (d .at) (nonzero (getD s (d .at) 0) 36 (omega arith) (eqb-true _ _ q)) in
-          rw (here, length-drop, length-drop) (omega arith)
+          rw (v .here, length-drop, length-drop) (omega arith)
 
-      go : (t : Bool) → eqb (getD s (d .at) 0) 36 ≡ t → BranchDone (length s) c keys enter (cond t (BranchRead.Read (pastByte d) start p true) (BranchRead.Read d start p false)) keys' enter' (cond t (parsed (record { start = start; pieces = e; end = true }) (drop 1 rest)) (parsed (record { start = start; pieces = e; end = false }) rest))
-      go true q = (rw (on q, many, shape), keyed, entered)
-      go false q = (rw (next, shape), keyed, entered)
+      go : (t : Bool) → eqb (getD s (d .at) 0) 36 ≡ t → BranchDone (length s) c keys enter (endRead t d start p) keys' enter' (endedBy t start e rest)
+      go true q = (rw (on q, many, v .shape), v .keyed, v .entered)
+      go false q = (rw (v .next, v .shape), v .keyed, v .entered)
 
 module _ (s : List ℕ) (c : Cursor) (r : Ready s c) (keys enter : List ℕ) (start : Bool) (b : ℕ) (eb : b ≡ getD s (c .at) 0) (t : Bool) (et : t ≡ endsPieces b) where
   front : at 0 (drop (c .at) s) ≡ b
@@ -46,17 +55,15 @@ module _ (s : List ℕ) (c : Cursor) (r : Ready s c) (keys enter : List ℕ) (st
 
   -- no pieces
   module _ (ends : t ≡ true) where
-    none-read : (start || eqb b 36) ≡ true → (y : BranchRead) → EndDone s c start (record { nothing = true; first = 0; last = 0 }) y → BranchDone (length s) c keys enter y keys enter (readRest start (drop (c .at) s))
-    none-read a y f =
-        let here : length s - (length s - c .at) ≡ c .at = omega (arith, r .inside) in
-        let read : BranchDone (length s) c keys enter y keys enter (anchored start none (drop (c .at) s)) =
-        done-end s c c start keys keys enter enter none (drop (c .at) s) (record { nothing = true; first = 0; last = 0 }) (r .inside) refl (rw (length-drop, here, add-zero)) refl refl refl y f in
+    pub rest-bare : (start || eqb b 36) ≡ true → (y : BranchRead) → EndDone s c start emptyShape y → ReadsRest start s c keys enter y keys enter
+    rest-bare a y f =
+        let at-end : length s - (length s - c .at) ≡ c .at = omega (arith, r .inside) in
+        let empty : PiecesRead s c c none (drop (c .at) s) emptyShape keys enter keys enter =
+        record { in-s = r .inside; here = refl; next = rw (length-drop, at-end, add-zero); shape = refl; keyed = refl; entered = refl } in
+        let read : BranchDone (length s) c keys enter y keys enter (anchored start none (drop (c .at) s)) = done-end start empty y f in
         rw (front, ← et, ends, a) (rw front at read)
 
-    pub rest-bare : (start || eqb b 36) ≡ true → (y : BranchRead) → EndDone s c start (record { nothing = true; first = 0; last = 0 }) y → BranchDone (length s) c keys enter y keys enter (readRest start (drop (c .at) s))
-    rest-bare a y f = none-read a y f
-
-    pub rest-none : (start || eqb b 36) ≡ false → BranchDone (length s) c keys enter BranchRead.Fault keys enter (readRest start (drop (c .at) s))
+    pub rest-none : (start || eqb b 36) ≡ false → ReadsRest start s c keys enter BranchRead.Fault keys enter
     rest-none e = rw (front, ← et, ends, e) refl
 
   -- pieces
@@ -64,20 +71,22 @@ module _ (s : List ℕ) (c : Cursor) (r : Ready s c) (keys enter : List ℕ) (st
     bound : 4 * (length s - c .at) + 2 ≤ enough (drop (c .at) s)
     bound = rw length-drop (omega arith)
 
-    pub rest-fault : x ≡ Part.Fault → BranchDone (length s) c keys enter BranchRead.Fault keys' enter' (readRest start (drop (c .at) s))
+    pub rest-fault : x ≡ Part.Fault → ReadsRest start s c keys enter BranchRead.Fault keys' enter'
     rest-fault e = rw (front, ← et, some-piece, unread s c r Mode.branch keys enter x keys' enter' h e (enough (drop (c .at) s)) bound) refl
 
-    pub rest-pieces : (d : Cursor) (p : Shape) (y : BranchRead) → x ≡ Part.Read d p → EndDone s d start p y → BranchDone (length s) c keys enter y keys' enter' (readRest start (drop (c .at) s))
+    pub rest-pieces : (d : Cursor) (p : Shape) (y : BranchRead) → x ≡ Part.Read d p → EndDone s d start p y → ReadsRest start s c keys enter y keys' enter'
     rest-pieces d p y e f = go (view s c r Mode.branch keys enter x keys' enter' h d p e (enough (drop (c .at) s)) bound)
       where
-        go : View s c Mode.branch keys enter d p keys' enter' (enough (drop (c .at) s)) → BranchDone (length s) c keys enter y keys' enter' (readRest start (drop (c .at) s))
+        go : View s c Mode.branch keys enter d p keys' enter' (enough (drop (c .at) s)) → ReadsRest start s c keys enter y keys' enter'
         go v =
-            rw (front, ← et, some-piece, v .reading)
-            (done-end s c d start keys keys' enter enter' (some (v .expr)) (v .rest) p (v .behind-it .ready .inside) (v .behind-it .here) (v .behind-it .next) (v .made .shape) (v .made .keyed) (v .made .entered) y f)
+            let w = v .behind-it in
+            let pieces : PiecesRead s c d (some (v .expr)) (v .rest) p keys enter keys' enter' =
+            record { in-s = w .ready .inside; here = w .here; next = w .next; shape = v .made .shape; keyed = v .made .keyed; entered = v .made .entered } in
+            rw (front, ← et, some-piece, v .reading) (done-end start pieces y f)
 
 -- the optional `^`
 module _ (s : List ℕ) (c : Cursor) (keys keys' enter enter' : List ℕ) (b : ℕ) (eb : b ≡ getD s (c .at) 0) (y : BranchRead) where
-  pub branch-start : b ≡ 94 → (n : Cursor) → n ≡ pastByte c → BranchDone (length s) n keys enter y keys' enter' (readRest true (drop (n .at) s)) → BranchDone (length s) c keys enter y keys' enter' (readBranch (drop (c .at) s))
+  pub branch-start : b ≡ 94 → (n : Cursor) → n ≡ pastByte c → ReadsRest true s n keys enter y keys' enter' → ReadsBranch s c keys enter y keys' enter'
   unfolding readBranch
   branch-start e n en h = rw (peeked s (c .at) ∙ sym eb, e, drop-drop) (same (readRest true (drop (c .at + 1) s)) (rw en at h))
     where
@@ -85,7 +94,7 @@ module _ (s : List ℕ) (c : Cursor) (keys keys' enter enter' : List ℕ) (b : �
       same (parsed t rest) k = k
       same fault k = k
 
-  pub branch-free : (b ≡ 94 → ⊥) → BranchDone (length s) c keys enter y keys' enter' (readRest false (drop (c .at) s)) → BranchDone (length s) c keys enter y keys' enter' (readBranch (drop (c .at) s))
+  pub branch-free : (b ≡ 94 → ⊥) → ReadsRest false s c keys enter y keys' enter' → ReadsBranch s c keys enter y keys' enter'
   unfolding readBranch
   branch-free e h = let front : at 0 (drop (c .at) s) ≡ b = peeked s (c .at) ∙ sym eb in rw (front, ne-eqb _ _ e) (rw front at h)
 

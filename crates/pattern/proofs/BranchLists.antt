@@ -18,27 +18,31 @@ use Rattle.pattern.specs.declared.summary.Summary.{Summary}
 use Rattle.brackets.specs.Brackets.{Parsed, parsed, fault, at, next, done}
 use Rattle.pattern.specs.Reader.{readBranch, readBranches}
 use Rattle.pattern.specs.Cycle.{pastByte, Ready}
-use Rattle.pattern.specs.Branches.{shapeIn, keysIn, enterIn, BranchDone}
+use Rattle.pattern.specs.Branches.{shapeIn, keysIn, enterIn, BranchDone, ReadsBranch}
 use Rattle.pattern.specs.Summaries.{branchSummary, summaryOf, through, PatternDone, ReadsBranches}
-use Rattle.pattern.proofs.Branches.{branch-from}
+use Rattle.pattern.proofs.Branches.{mark, behindBranch, branch-from}
 use Rattle.pattern.proofs.Cycles.{atoms-some, atoms-written, peeked, past, nonzero}
 use Rattle.pattern.specs.Form.{Expr, Branch, Pattern, atomsIn, atomCount, writePieces, writeBranch, formedPieces, formedBranch}
 use Rattle.runs.proofs.Tests.{clash}
 use Rattle.runs.proofs.KeyLaws.{line-drop}
+
+-- how many bytes a branch is written with
+abbrev bytesOf : Bool → Option Expr → Bool → ℕ
+bytesOf s p e = length (mark 94 s) + (length (writePieces p) + length (mark 36 e))
 
 -- a branch has a byte, and at least as many as atoms
 branch-long : (b : Branch) → formedBranch b ≡ true → (atomsIn (b .pieces) ≤ length (writeBranch b)) × (1 ≤ length (writeBranch b))
 unfolding formedBranch writeBranch
 branch-long b h = rw (length-append, length-append) (go (b .start) (b .pieces) (b .end) h)
   where
-    go : (s : Bool) (p : Option Expr) (e : Bool) → formedPieces (s || e) p ≡ true → (atomsIn p ≤ length {A = ℕ} (cond s (94 ∷ []) []) + (length (writePieces p) + length {A = ℕ} (cond e (36 ∷ []) []))) × (1 ≤ length {A = ℕ} (cond s (94 ∷ []) []) + (length (writePieces p) + length {A = ℕ} (cond e (36 ∷ []) [])))
+    go : (s : Bool) (p : Option Expr) (e : Bool) → formedPieces (s || e) p ≡ true → (atomsIn p ≤ bytesOf s p e) × (1 ≤ bytesOf s p e)
     go true none e f = (omega arith, omega arith)
     go false none true f = (omega arith, omega arith)
     go false none false f = clash (cc)
     go s (some x) e f = let many = atoms-written x in let one = atoms-some x in (omega arith, omega arith)
 
 -- what follows a branch decides
-stepped : (f : ℕ) (l m : List ℕ) (t : Branch) (b : ℕ) → readBranch l ≡ parsed t m → at 0 m ≡ b → readBranches (suc f) l ≡ cond (eqb b 0) (parsed (t ∷ []) m) (cond (eqb b 124) (next (readBranches f (drop 1 m)) (λ ts. done (t ∷ ts))) fault)
+stepped : (f : ℕ) (l m : List ℕ) (t : Branch) (b : ℕ) → readBranch l ≡ parsed t m → at 0 m ≡ b → readBranches (suc f) l ≡ behindBranch f t (eqb b 0) (eqb b 124) m
 unfolding readBranches
 stepped f l m t b e g = rw (e, g) refl
 
@@ -63,7 +67,7 @@ pub record BranchView (s : List ℕ) (c : Cursor) (keys enter : List ℕ) (d : C
   pub keyed : keys' ≡ keysIn (c .atoms) (tree .pieces) keys
   pub entered : enter' ≡ enterIn (c .atoms) (tree .pieces) enter
 
-module _ (s : List ℕ) (c : Cursor) (r : Ready s c) (keys enter keys' enter' : List ℕ) (x : BranchRead) (h : BranchDone (length s) c keys enter x keys' enter' (readBranch (drop (c .at) s))) where
+module _ (s : List ℕ) (c : Cursor) (r : Ready s c) (keys enter keys' enter' : List ℕ) (x : BranchRead) (h : ReadsBranch s c keys enter x keys' enter') where
   pub branch-unread : x ≡ BranchRead.Fault → readBranch (drop (c .at) s) ≡ fault
   branch-unread e = go (readBranch (drop (c .at) s)) refl h
     where
@@ -105,15 +109,9 @@ module _ (s : List ℕ) (c : Cursor) (r : Ready s c) (keys enter keys' enter' : 
     branches-fault e zero g = refl
     branches-fault e (suc f) g = rw (branch-unread e) refl
 
-    module _ (d : Cursor) (start : Bool) (p : Shape) (end : Bool) (e : x ≡ BranchRead.Read d start p end) (sum : Summary) (es : sum ≡ branchSummary a start p end) (b : ℕ) (eb : b ≡ getD s (d .at) 0) where
+    module _ (d : Cursor) (start : Bool) (p : Shape) (end : Bool) (e : x ≡ BranchRead.Read d start p end) where
       v : BranchView s c keys enter d start p end keys' enter'
       v = branch-view d start p end e
-
-      step : (f : ℕ) → readBranches (suc f) (drop (c .at) s) ≡ cond (eqb b 0) (parsed (v .tree ∷ []) (v .rest)) (cond (eqb b 124) (next (readBranches f (drop 1 (v .rest))) (λ ts. done (v .tree ∷ ts))) fault)
-      step f = stepped f (drop (c .at) s) (v .rest) (v .tree) b (v .reading) (ap (at 0) (v .here) ∙ peeked s (d .at) ∙ sym eb)
-
-      whole : sum ≡ branchSummary a (v .tree .start) (shapeIn (c .atoms) (v .tree .pieces)) (v .tree .end)
-      whole = es ∙ same-summary a (v .starts) (v .shape) (v .ends)
 
       -- bytes are left while there is a branch
       some-left : length s - c .at ≤ 0 → ⊥
@@ -125,43 +123,51 @@ module _ (s : List ℕ) (c : Cursor) (r : Ready s c) (keys enter keys' enter' : 
       pub branches-atoms : d .atoms ≤ 128
       branches-atoms = omega (arith, v .ready .few, branches-at)
 
-      pub branches-end : b ≡ 0 → ReadsBranches s c a keys enter (PatternRead.Read (d .atoms) sum) keys' enter'
-      unfolding summaryOf through atomCount
-      branches-end n zero g = absurd (some-left g)
-      branches-end n (suc f) g = rw (step f, eq-eqb _ _ n) (same-answer (v .next ∙ rw add-zero) whole, v .keyed, v .entered)
+      -- the byte b stands behind it, and `sum` is the summary with it
+      module _ (sum : Summary) (es : sum ≡ branchSummary a start p end) (b : ℕ) (eb : b ≡ getD s (d .at) 0) where
+        step : (f : ℕ) → readBranches (suc f) (drop (c .at) s) ≡ behindBranch f (v .tree) (eqb b 0) (eqb b 124) (v .rest)
+        step f = stepped f (drop (c .at) s) (v .rest) (v .tree) b (v .reading) (ap (at 0) (v .here) ∙ peeked s (d .at) ∙ sym eb)
 
-      pub branches-other : (b ≡ 0 → ⊥) → (b ≡ 124 → ⊥) → ReadsBranches s c a keys enter PatternRead.Fault keys' enter'
-      branches-other m n zero g = absurd (some-left g)
-      branches-other m n (suc f) g = rw (step f, ne-eqb _ _ m, ne-eqb _ _ n) refl
+        whole : sum ≡ branchSummary a (v .tree .start) (shapeIn (c .atoms) (v .tree .pieces)) (v .tree .end)
+        whole = es ∙ same-summary a (v .starts) (v .shape) (v .ends)
 
-      module _ (n : b ≡ 124) (m : Cursor) (em : m ≡ pastByte d) where
-        on-ready : Ready s (pastByte d)
-        on-ready = past s d (v .ready) b eb (nonzero b 124 (omega arith) n)
-
-        pub branches-ready : Ready s m
-        branches-ready = rw em on-ready
-
-        -- fewer bytes are left behind the bar
-        fewer : length s - (d .at + 1) < length s - c .at
-        fewer = omega (arith, v .on, on-ready .inside)
-
-        pub branches-falls : (t : ℕ) → length s - c .at ≡ t → length s - m .at < t
-        branches-falls t h = omega (arith, fewer, ap (λ (z : Cursor). z .at) em)
-
-        pub branches-more : (y : PatternRead) (keys'' enter'' : List ℕ) → ReadsBranches s m sum keys' enter' y keys'' enter'' → ReadsBranches s c a keys enter y keys'' enter''
+        pub branches-end : b ≡ 0 → ReadsBranches s c a keys enter (PatternRead.Read (d .atoms) sum) keys' enter'
         unfolding summaryOf through atomCount
-        branches-more y keys'' enter'' g zero k = absurd (some-left k)
-        branches-more y keys'' enter'' g (suc f) k =
-            rw (step f, ne-eqb _ _ (nonzero b 124 (omega arith) n), eq-eqb _ _ n, ap (drop 1) (v .here) ∙ drop-drop 1 (d .at) s)
-            (go (readBranches f (drop (d .at + 1) s)) (rw em at g f (omega (arith, fewer))))
-          where
-            later : {A B : Type 0} {a b : A} (f : ℕ → A → B) → a ≡ b → f (d .atoms) a ≡ f (c .atoms + atomsIn (v .tree .pieces)) b
-            later {a = a} f e = ap (λ (n : ℕ). f n a) (v .next) ∙ ap (f (c .atoms + atomsIn (v .tree .pieces))) e
+        branches-end n zero g = absurd (some-left g)
+        branches-end n (suc f) g = rw (step f, eq-eqb _ _ n) (same-answer (v .next ∙ rw add-zero) whole, v .keyed, v .entered)
 
-            go : (z : Parsed Pattern) → PatternDone (pastByte d) sum keys' enter' y keys'' enter'' z → PatternDone c a keys enter y keys'' enter'' (next z (λ ts. done (v .tree ∷ ts)))
-            go (parsed ts rest) (i, j, k) = (
-              i ∙ same-answer (ap (λ (n : ℕ). n + atomCount ts) (v .next) ∙ add-assoc (c .atoms) (atomsIn (v .tree .pieces)) (atomCount ts)) (later (λ n a. summaryOf n ts a) whole),
-              j ∙ later (λ n l. through keysIn n ts l) (v .keyed),
-              k ∙ later (λ n l. through enterIn n ts l) (v .entered),
-            )
-            go fault i = i
+        pub branches-other : (b ≡ 0 → ⊥) → (b ≡ 124 → ⊥) → ReadsBranches s c a keys enter PatternRead.Fault keys' enter'
+        branches-other m n zero g = absurd (some-left g)
+        branches-other m n (suc f) g = rw (step f, ne-eqb _ _ m, ne-eqb _ _ n) refl
+
+        module _ (n : b ≡ 124) (m : Cursor) (em : m ≡ pastByte d) where
+          on-ready : Ready s (pastByte d)
+          on-ready = past s d (v .ready) b eb (nonzero b 124 (omega arith) n)
+
+          pub branches-ready : Ready s m
+          branches-ready = rw em on-ready
+
+          -- fewer bytes are left behind the bar
+          fewer : length s - (d .at + 1) < length s - c .at
+          fewer = omega (arith, v .on, on-ready .inside)
+
+          pub branches-falls : (t : ℕ) → length s - c .at ≡ t → length s - m .at < t
+          branches-falls t h = omega (arith, fewer, ap (λ (z : Cursor). z .at) em)
+
+          pub branches-more : (y : PatternRead) (keys'' enter'' : List ℕ) → ReadsBranches s m sum keys' enter' y keys'' enter'' → ReadsBranches s c a keys enter y keys'' enter''
+          unfolding summaryOf through atomCount
+          branches-more y keys'' enter'' g zero k = absurd (some-left k)
+          branches-more y keys'' enter'' g (suc f) k =
+              rw (step f, ne-eqb _ _ (nonzero b 124 (omega arith) n), eq-eqb _ _ n, ap (drop 1) (v .here) ∙ drop-drop 1 (d .at) s)
+              (go (readBranches f (drop (d .at + 1) s)) (rw em at g f (omega (arith, fewer))))
+            where
+              later : {A B : Type 0} {a b : A} (f : ℕ → A → B) → a ≡ b → f (d .atoms) a ≡ f (c .atoms + atomsIn (v .tree .pieces)) b
+              later {a = a} f e = ap (λ (n : ℕ). f n a) (v .next) ∙ ap (f (c .atoms + atomsIn (v .tree .pieces))) e
+
+              go : (z : Parsed Pattern) → PatternDone (pastByte d) sum keys' enter' y keys'' enter'' z → PatternDone c a keys enter y keys'' enter'' (next z (λ ts. done (v .tree ∷ ts)))
+              go (parsed ts rest) (i, j, k) = (
+                i ∙ same-answer (ap (λ (n : ℕ). n + atomCount ts) (v .next) ∙ add-assoc (c .atoms) (atomsIn (v .tree .pieces)) (atomCount ts)) (later (λ n a. summaryOf n ts a) whole),
+                j ∙ later (λ n l. through keysIn n ts l) (v .keyed),
+                k ∙ later (λ n l. through enterIn n ts l) (v .entered),
+              )
+              go fault i = i

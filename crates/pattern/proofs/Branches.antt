@@ -7,8 +7,8 @@ use mathlib.Core.List.{List, [], _∷_, _++_, append-assoc, append-nil}
 use mathlib.Core.Option.{Option, none, some}
 use lib.Dec.{eqb}
 use lib.ListN.{length, drop, length-append}
-use Rattle.brackets.specs.Brackets.{parsed, fault, next, done, at}
-use Rattle.pattern.specs.Reader.{endsPieces, Mode, readExpr, enough, anchored, readRest, readBranch, readBranches}
+use Rattle.brackets.specs.Brackets.{Parsed, parsed, fault, next, done, at}
+use Rattle.pattern.specs.Reader.{endsPieces, Mode, readExpr, enough, endedBy, anchored, readRest, readBranch, readBranches}
 use Rattle.brackets.proofs.Parses.{same-parsed, test-parsed, next-parsed, made-parsed, front, clean-end}
 use Rattle.pattern.proofs.TreesFrom.{expr-from}
 use Rattle.pattern.proofs.TreesBack.{expr-starts, expr-long, expr-back, expr-clean}
@@ -20,14 +20,25 @@ use Rattle.runs.proofs.KeyLaws.{line-after, line-drop, line-append, line-cons}
 -- From the bytes.
 
 -- the bytes of an anchor that is there or not
-abbrev mark : ℕ → Bool → List ℕ
+abbrev pub mark : ℕ → Bool → List ℕ
 mark c t = cond t (c ∷ []) []
 
+-- a branch of its parts, and the bytes of its pieces and its end before others
+abbrev branchOf : Bool → Option Expr → Bool → Branch
+branchOf s p t = record { start = s; pieces = p; end = t }
+
+abbrev ending : Option Expr → Bool → List ℕ → List ℕ
+ending p t rest = writePieces p ++ (mark 36 t ++ rest)
+
+-- what a branch is whose end was read, where t tells whether it is a `$`
+abbrev EndedAs : Bool → Bool → Option Expr → List ℕ → Branch → List ℕ → Type 0
+EndedAs t s p m b rest = (b ≡ branchOf s p t) × (m ≡ mark 36 t ++ rest)
+
 -- the end of a branch that was read
-anchored-from : (s : Bool) (p : Option Expr) (m rest : List ℕ) (b : Branch) → anchored s p m ≡ parsed b rest → (b ≡ record { start = s; pieces = p; end = eqb (at 0 m) 36 }) × (m ≡ mark 36 (eqb (at 0 m) 36) ++ rest)
+anchored-from : (s : Bool) (p : Option Expr) (m rest : List ℕ) (b : Branch) → anchored s p m ≡ parsed b rest → EndedAs (eqb (at 0 m) 36) s p m b rest
 anchored-from s p m rest b r = go (eqb (at 0 m) 36) refl r
   where
-    go : (t : Bool) → eqb (at 0 m) 36 ≡ t → cond t (parsed (record { start = s; pieces = p; end = true }) (drop 1 m)) (parsed (record { start = s; pieces = p; end = false }) m) ≡ parsed b rest → (b ≡ record { start = s; pieces = p; end = t }) × (m ≡ mark 36 t ++ rest)
+    go : (t : Bool) → eqb (at 0 m) 36 ≡ t → endedBy t s p m ≡ parsed b rest → EndedAs t s p m b rest
     go true e q = let (same, after) = same-parsed q in (sym same, rw (← after) (front m 36 (omega arith) e))
     go false e q = let (same, after) = same-parsed q in (sym same, after)
 
@@ -39,12 +50,16 @@ Branch-from l b rest = (l ≡ writeBranch b ++ rest) × (formedBranch b ≡ true
 spelled : (a p z l mid rest : List ℕ) → l ≡ p ++ mid → mid ≡ z ++ rest → a ++ l ≡ (a ++ (p ++ z)) ++ rest
 spelled a p z l mid rest h g = rw (append-assoc a (p ++ z) rest, append-assoc p z rest, ← g, ← h)
 
+-- what is read after the `^` or without one, where t tells whether there are no pieces
+abbrev restBy : Bool → Bool → List ℕ → Parsed Branch
+restBy t s l = cond t (cond (s || eqb (at 0 l) 36) (anchored s none l) fault) (next (readExpr (enough l) Mode.branch l) (λ e. anchored s (some e)))
+
 -- a branch after its `^` or without one
 rest-from : (s : Bool) (l rest : List ℕ) (b : Branch) → isLine l ≡ true → readRest s l ≡ parsed b rest → Branch-from (mark 94 s ++ l) b rest
 unfolding writeBranch formedBranch
 rest-from s l rest b h r = go (endsPieces (at 0 l)) refl r
   where
-    go : (t : Bool) → endsPieces (at 0 l) ≡ t → cond t (cond (s || eqb (at 0 l) 36) (anchored s none l) fault) (next (readExpr (enough l) Mode.branch l) (λ e. anchored s (some e))) ≡ parsed b rest → Branch-from (mark 94 s ++ l) b rest
+    go : (t : Bool) → endsPieces (at 0 l) ≡ t → restBy t s l ≡ parsed b rest → Branch-from (mark 94 s ++ l) b rest
     go true t q =
         let (has, a) = test-parsed (s || eqb (at 0 l) 36) (anchored s none l) b rest q in
         let (same, ends) = anchored-from s none l rest b a in
@@ -68,6 +83,14 @@ branch-from l rest b h r = go (eqb (at 0 l) 94) refl r
 abbrev Pattern-from : List ℕ → Pattern → Type 0
 Pattern-from l t = (writePattern t ≡ l) × (formedPattern t ≡ true)
 
+-- so are those behind a bar
+abbrev Others-from : ℕ → List ℕ → List ℕ → Type 0
+Others-from f mid rest = (bs : Pattern) → readBranches f (drop 1 mid) ≡ parsed bs rest → Pattern-from (drop 1 mid) bs
+
+-- what is read behind the branch b: nothing at the end, the others behind a bar
+abbrev pub behindBranch : ℕ → Branch → Bool → Bool → List ℕ → Parsed Pattern
+behindBranch f b end bar m = cond end (parsed (b ∷ []) m) (cond bar (next (readBranches f (drop 1 m)) (λ bs. done (b ∷ bs))) fault)
+
 -- the last branch
 last-from : (l mid : List ℕ) (b : Branch) → mid ≡ [] → Branch-from l b mid → Pattern-from l (b ∷ [])
 unfolding writePattern formedPattern formedBranches
@@ -89,7 +112,7 @@ branches-from (suc f) l rest t h r =
     let clean : isLine mid ≡ true = line-after (writeBranch b) mid (rw (this .0) at h) in
     go b mid this clean (λ bs s. branches-from f (drop 1 mid) rest bs (line-drop 1 mid clean) s) (eqb (at 0 mid) 0) refl others
   where
-    go : (b : Branch) (mid : List ℕ) → Branch-from l b mid → isLine mid ≡ true → ((bs : Pattern) → readBranches f (drop 1 mid) ≡ parsed bs rest → Pattern-from (drop 1 mid) bs) → (z : Bool) → eqb (at 0 mid) 0 ≡ z → cond z (parsed (b ∷ []) mid) (cond (eqb (at 0 mid) 124) (next (readBranches f (drop 1 mid)) (λ bs. done (b ∷ bs))) fault) ≡ parsed t rest → Pattern-from l t
+    go : (b : Branch) (mid : List ℕ) → Branch-from l b mid → isLine mid ≡ true → Others-from f mid rest → (z : Bool) → eqb (at 0 mid) 0 ≡ z → behindBranch f b z (eqb (at 0 mid) 124) mid ≡ parsed t rest → Pattern-from l t
     go b mid this clean ih true z q = let (same, after) = same-parsed q in rw (← same) (last-from l mid b (clean-end mid clean z) this)
     go b mid this clean ih false z q =
         let (bar, s) = test-parsed (eqb (at 0 mid) 124) (next (readBranches f (drop 1 mid)) (λ bs. done (b ∷ bs))) t rest q in
@@ -99,7 +122,7 @@ branches-from (suc f) l rest t h r =
 -- And back.
 
 -- the end of a branch is read again
-anchored-back : (s : Bool) (p : Option Expr) (t : Bool) (rest : List ℕ) → eqb (at 0 rest) 36 ≡ false → anchored s p (mark 36 t ++ rest) ≡ parsed (record { start = s; pieces = p; end = t }) rest
+anchored-back : (s : Bool) (p : Option Expr) (t : Bool) (rest : List ℕ) → eqb (at 0 rest) 36 ≡ false → anchored s p (mark 36 t ++ rest) ≡ parsed (branchOf s p t) rest
 anchored-back s p true rest h = refl
 anchored-back s p false rest h = rw h
 
@@ -115,7 +138,7 @@ mark-needed false true rest h = refl
 mark-needed false false rest h = clash (cc)
 
 -- a branch after its `^` or without one is read again
-rest-back : (s : Bool) (p : Option Expr) (t : Bool) (rest : List ℕ) → formedPieces (s || t) p ≡ true → endsPieces (at 0 rest) ≡ true → eqb (at 0 rest) 36 ≡ false → readRest s (writePieces p ++ (mark 36 t ++ rest)) ≡ parsed (record { start = s; pieces = p; end = t }) rest
+rest-back : (s : Bool) (p : Option Expr) (t : Bool) (rest : List ℕ) → formedPieces (s || t) p ≡ true → endsPieces (at 0 rest) ≡ true → eqb (at 0 rest) 36 ≡ false → readRest s (ending p t rest) ≡ parsed (branchOf s p t) rest
 rest-back s none t rest h e d = rw (mark-ends t rest e, mark-needed s t rest h) (anchored-back s none t rest d)
 rest-back s (some p) t rest h e d =
     let (on, start, mark-not) = expr-starts p 2 (mark 36 t ++ rest) h in
@@ -124,7 +147,7 @@ rest-back s (some p) t rest h e d =
     (anchored-back s (some p) t rest d)
 
 -- a branch without a `^` does not begin with one
-start-not : (p : Option Expr) (t : Bool) (rest : List ℕ) → formedPieces t p ≡ true → eqb (at 0 (writePieces p ++ (mark 36 t ++ rest))) 94 ≡ false
+start-not : (p : Option Expr) (t : Bool) (rest : List ℕ) → formedPieces t p ≡ true → eqb (at 0 (ending p t rest)) 94 ≡ false
 start-not none true rest h = refl
 start-not none false rest h = clash (cc)
 start-not (some e) t rest h = expr-starts e 2 (mark 36 t ++ rest) h .1
@@ -136,7 +159,7 @@ branch-back b rest h e d =
     rw (append-assoc (mark 94 (b .start)) (writePieces (b .pieces) ++ mark 36 (b .end)) rest, append-assoc (writePieces (b .pieces)) (mark 36 (b .end)) rest)
     (go (b .start) (b .pieces) (b .end) h)
   where
-    go : (s : Bool) (p : Option Expr) (t : Bool) → formedPieces (s || t) p ≡ true → readBranch (mark 94 s ++ (writePieces p ++ (mark 36 t ++ rest))) ≡ parsed (record { start = s; pieces = p; end = t }) rest
+    go : (s : Bool) (p : Option Expr) (t : Bool) → formedPieces (s || t) p ≡ true → readBranch (mark 94 s ++ ending p t rest) ≡ parsed (branchOf s p t) rest
     go true p t g = rest-back true p t rest g e d
     go false p t g = rw (start-not p t rest g) (rest-back false p t rest g e d)
 

@@ -238,11 +238,15 @@ module _ (s : List ℕ) (c : Cursor) (r : Ready s c) (keys enter : List ℕ) whe
     alts-fault e = deeper Mode.alts s c keys enter Part.Fault keys' enter' (λ k g. rw (unread s c r Mode.branch keys enter x keys' enter' h e k (omega arith)) refl)
 
     module _ (d : Cursor) (p : Shape) (e : x ≡ Part.Read d p) (b : ℕ) (eb : b ≡ getD s (d .at) 0) where
+      -- what the answer says of the first branch
+      abbrev FirstBranch : ℕ → Type 0
+      FirstBranch k = View s c Mode.branch keys enter d p keys' enter' k
+
       pub alts-one : (b ≡ 124 → ⊥) → Reads Mode.alts s c keys enter (Part.Read d p) keys' enter'
       unfolding readExpr
       alts-one n = deeper Mode.alts s c keys enter (Part.Read d p) keys' enter' (λ k g. go k (view s c r Mode.branch keys enter x keys' enter' h d p e k (omega arith)))
         where
-          go : (k : ℕ) (v : View s c Mode.branch keys enter d p keys' enter' k) → ReadsIn (suc k) Mode.alts s c keys enter (Part.Read d p) keys' enter'
+          go : (k : ℕ) (v : FirstBranch k) → ReadsIn (suc k) Mode.alts s c keys enter (Part.Read d p) keys' enter'
           go k v = rw (v .reading, byte v b eb, ne-eqb _ _ n) (answer v)
 
       module _ (n : Cursor) (y : Part) (keys'' enter'' : List ℕ) (hn : Reads Mode.alts s n keys' enter' y keys'' enter'') (en : n ≡ pastByte d) (bar : b ≡ 124) where
@@ -253,7 +257,7 @@ module _ (s : List ℕ) (c : Cursor) (r : Ready s c) (keys enter : List ℕ) whe
         unfolding readExpr
         alts-more-fault f = deeper Mode.alts s c keys enter Part.Fault keys'' enter'' (λ k g. go k g (view s c r Mode.branch keys enter x keys' enter' h d p e k (omega arith)))
           where
-            go : (k : ℕ) → room Mode.alts (length s - c .at) ≤ suc k → (v : View s c Mode.branch keys enter d p keys' enter' k) → ReadsIn (suc k) Mode.alts s c keys enter Part.Fault keys'' enter''
+            go : (k : ℕ) → room Mode.alts (length s - c .at) ≤ suc k → (v : FirstBranch k) → ReadsIn (suc k) Mode.alts s c keys enter Part.Fault keys'' enter''
             go k g v =
                 let r2 = past s d (v .behind-it .ready) b eb (nonzero b 124 (omega arith) bar) in
                 rw (v .reading, byte v b eb, bar, skipped s c d (v .expr) (v .rest) (v .behind-it), unread s (pastByte d) r2 Mode.alts keys' enter' y keys'' enter'' h2 f k (omega (arith, v .behind-it .on, r2 .inside))) refl
@@ -265,12 +269,12 @@ module _ (s : List ℕ) (c : Cursor) (r : Ready s c) (keys enter : List ℕ) whe
             c2 : Cursor
             c2 = pastByte d
 
-            both : (k : ℕ) (v : View s c Mode.branch keys enter d p keys' enter' k) → View s c2 Mode.alts keys' enter' d2 p2 keys'' enter'' k → ReadsIn (suc k) Mode.alts s c keys enter (Part.Read d2 q) keys'' enter''
+            both : (k : ℕ) (v : FirstBranch k) → View s c2 Mode.alts keys' enter' d2 p2 keys'' enter'' k → ReadsIn (suc k) Mode.alts s c keys enter (Part.Read d2 q) keys'' enter''
             both k v w =
                 rw (v .reading, byte v b eb, bar, skipped s c d (v .expr) (v .rest) (v .behind-it), w .reading)
                 (done-alt (length s) c d2 (v .expr) (w .expr) (w .rest) (d .atoms) (ap (λ (z : Cursor). z .atoms) (v .behind-it .next)) (w .behind-it .next) (v .made) (w .made) q g)
 
-            go : (k : ℕ) → room Mode.alts (length s - c .at) ≤ suc k → (v : View s c Mode.branch keys enter d p keys' enter' k) → ReadsIn (suc k) Mode.alts s c keys enter (Part.Read d2 q) keys'' enter''
+            go : (k : ℕ) → room Mode.alts (length s - c .at) ≤ suc k → (v : FirstBranch k) → ReadsIn (suc k) Mode.alts s c keys enter (Part.Read d2 q) keys'' enter''
             go k i v =
                 let r2 = past s d (v .behind-it .ready) b eb (nonzero b 124 (omega arith) bar) in
                 both k v (view s c2 r2 Mode.alts keys' enter' y keys'' enter'' h2 d2 p2 f k (omega (arith, v .behind-it .on, r2 .inside)))
@@ -282,11 +286,15 @@ module _ (s : List ℕ) (c : Cursor) (r : Ready s c) (keys enter : List ℕ) whe
     branch-fault e = deeper Mode.branch s c keys enter Part.Fault keys' enter' (λ k g. rw (unread s c r Mode.piece keys enter x keys' enter' h e k (omega arith)) refl)
 
     module _ (d : Cursor) (p : Shape) (e : x ≡ Part.Read d p) (b : ℕ) (eb : b ≡ getD s (d .at) 0) (t : Bool) (et : t ≡ endsPieces b) where
+      -- what the answer says of the first piece
+      abbrev FirstPiece : ℕ → Type 0
+      FirstPiece k = View s c Mode.piece keys enter d p keys' enter' k
+
       pub branch-last : t ≡ true → Reads Mode.branch s c keys enter (Part.Read d p) keys' enter'
       unfolding readExpr
       branch-last n = deeper Mode.branch s c keys enter (Part.Read d p) keys' enter' (λ k g. go k (view s c r Mode.piece keys enter x keys' enter' h d p e k (omega arith)))
         where
-          go : (k : ℕ) (v : View s c Mode.piece keys enter d p keys' enter' k) → ReadsIn (suc k) Mode.branch s c keys enter (Part.Read d p) keys' enter'
+          go : (k : ℕ) (v : FirstPiece k) → ReadsIn (suc k) Mode.branch s c keys enter (Part.Read d p) keys' enter'
           go k v = rw (v .reading, byte v b eb, ← et, n) (answer v)
 
       module _ (y : Part) (keys'' enter'' : List ℕ) (h2 : Reads Mode.branch s d keys' enter' y keys'' enter'') (more : t ≡ false) where
@@ -294,7 +302,7 @@ module _ (s : List ℕ) (c : Cursor) (r : Ready s c) (keys enter : List ℕ) whe
         unfolding readExpr
         branch-more-fault f = deeper Mode.branch s c keys enter Part.Fault keys'' enter'' (λ k g. go k g (view s c r Mode.piece keys enter x keys' enter' h d p e k (omega arith)))
           where
-            go : (k : ℕ) → room Mode.branch (length s - c .at) ≤ suc k → (v : View s c Mode.piece keys enter d p keys' enter' k) → ReadsIn (suc k) Mode.branch s c keys enter Part.Fault keys'' enter''
+            go : (k : ℕ) → room Mode.branch (length s - c .at) ≤ suc k → (v : FirstPiece k) → ReadsIn (suc k) Mode.branch s c keys enter Part.Fault keys'' enter''
             go k g v =
                 rw (v .reading, byte v b eb, ← et, more, v .behind-it .here, unread s d (v .behind-it .ready) Mode.branch keys' enter' y keys'' enter'' h2 f k (omega (arith, v .behind-it .on, v .behind-it .ready .inside))) refl
 
@@ -303,12 +311,12 @@ module _ (s : List ℕ) (c : Cursor) (r : Ready s c) (keys enter : List ℕ) whe
           unfolding readExpr
           branch-more q after l g = deeper Mode.branch s c keys enter (Part.Read d2 q) keys'' after (λ k i. go k i (view s c r Mode.piece keys enter x keys' enter' h d p e k (omega arith)))
             where
-              both : (k : ℕ) (v : View s c Mode.piece keys enter d p keys' enter' k) → View s d Mode.branch keys' enter' d2 p2 keys'' enter'' k → ReadsIn (suc k) Mode.branch s c keys enter (Part.Read d2 q) keys'' after
+              both : (k : ℕ) (v : FirstPiece k) → View s d Mode.branch keys' enter' d2 p2 keys'' enter'' k → ReadsIn (suc k) Mode.branch s c keys enter (Part.Read d2 q) keys'' after
               both k v w =
                   rw (v .reading, byte v b eb, ← et, more, v .behind-it .here, w .reading)
                   (done-seq (length s) c d2 (v .expr) (w .expr) (w .rest) (d .atoms) (ap (λ (z : Cursor). z .atoms) (v .behind-it .next)) (w .behind-it .next) (v .made) (w .made) q after g l)
 
-              go : (k : ℕ) → room Mode.branch (length s - c .at) ≤ suc k → (v : View s c Mode.piece keys enter d p keys' enter' k) → ReadsIn (suc k) Mode.branch s c keys enter (Part.Read d2 q) keys'' after
+              go : (k : ℕ) → room Mode.branch (length s - c .at) ≤ suc k → (v : FirstPiece k) → ReadsIn (suc k) Mode.branch s c keys enter (Part.Read d2 q) keys'' after
               go k i v = both k v (view s d (v .behind-it .ready) Mode.branch keys' enter' y keys'' enter'' h2 d2 p2 f k (omega (arith, v .behind-it .on, v .behind-it .ready .inside)))
 
   -- a group behind its parenthesis
@@ -347,10 +355,10 @@ abbrev enterBy : Bool → Bool → Shape → List ℕ → List ℕ
 enterBy t u p enter = cond (t || u) (linked (p .last) (p .first) enter) enter
 
 -- an atom or a group was read, and a mark of repetition m or none stands behind it
-module _ {s rest keys enter keys' enter' : List ℕ} {c d : Cursor} {e : Expr} {p : Shape} (v : Behind s c d e rest) (made : Made (c .atoms) e p keys enter keys' enter') (m : ℕ) (em : m ≡ getD s (d .at) 0) where
-  done-repeat : (y : Part) (after : List ℕ) → y ≡ repeated m d p → after ≡ repeatEnter m p enter' → Done (length s) c keys enter y keys' after (readRepeat e rest)
+module _ {s rest keys enter keys' enter' : List ℕ} {c d : Cursor} {e : Expr} {p : Shape} (v : Behind s c d e rest) (made : Made (c .atoms) e p keys enter keys' enter') where
+  done-repeat : (m : ℕ) → m ≡ getD s (d .at) 0 → (y : Part) (after : List ℕ) → y ≡ repeated m d p → after ≡ repeatEnter m p enter' → Done (length s) c keys enter y keys' after (readRepeat e rest)
   unfolding readRepeat atoms nothing first last follow holds
-  done-repeat y after ey ea = rw (ey, ea, front) (go (eqb m 42) (eqb m 43) (eqb m 63) refl refl refl)
+  done-repeat m em y after ey ea = rw (ey, ea, front) (go (eqb m 42) (eqb m 43) (eqb m 63) refl refl refl)
     where
       front : at 0 rest ≡ m
       front = ap (at 0) (v .here) ∙ peeked s (d .at) ∙ sym em

@@ -42,11 +42,13 @@ readExpr (suc f) Mode.group l =
 abbrev pub enough : List ℕ → ℕ
 enough l = 4 * length l + 4
 
+-- a branch with its end, where t tells whether it is a `$`
+abbrev pub endedBy : Bool → Bool → Option Expr → Parser Branch
+endedBy t s e m = cond t (parsed (record { start = s; pieces = e; end = true }) (drop 1 m)) (parsed (record { start = s; pieces = e; end = false }) m)
+
 -- "A branch is an optional `^`, pieces, an optional `$`; with no anchor it needs a piece."
 abbrev pub anchored : Bool → Option Expr → Parser Branch
-anchored s e m =
-    cond (eqb (at 0 m) 36) (parsed (record { start = s; pieces = e; end = true }) (drop 1 m))
-    (parsed (record { start = s; pieces = e; end = false }) m)
+anchored s e m = endedBy (eqb (at 0 m) 36) s e m
 
 abbrev pub readRest : Bool → Parser Branch
 readRest s l =
