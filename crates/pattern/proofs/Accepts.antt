@@ -4,7 +4,7 @@ use native.Mathlib.Omega.{arith}
 use mathlib.Core.Path.{_≡_, refl}
 use mathlib.Core.Logic.{_↔_, _⊎_, inl, inr, ⊎-elim}
 use mathlib.Core.Bool.{Bool, true, false, cond}
-use mathlib.Core.List.{List}
+use mathlib.Core.List.{List, []}
 use lib.Dec.{leb}
 use lib.ListN.{length}
 use borrow.Author.Tests.{leb-true, leb-false, le-leb, lt-leb}
@@ -21,7 +21,7 @@ pub one-tree : (t u : Pattern) → formedPattern t ≡ true → formedPattern u 
 one-tree t u h g e = cc (pattern-back t h, pattern-back u g)
 
 -- what is read of the bytes of a tree of the form
-read-back : (t : Pattern) → formedPattern t ≡ true → 1 ≤ length (writePattern t) → length (writePattern t) ≤ 128 → readPattern (writePattern t) ≡ cond (leb (atomCount t) 29) (accepted t) (refused TooManyAtoms)
+read-back : (t : Pattern) → formedPattern t ≡ true → 1 ≤ length (writePattern t) → length (writePattern t) ≤ 128 → readPattern (writePattern t) ≡ counted (parsed t [])
 unfolding readPattern
 read-back t h low high =
     let clean = pattern-clean t h in

@@ -17,7 +17,8 @@ use Rattle.brackets.specs.Brackets.{Parsed, parsed, fault, readAtom, atomAt}
 use Rattle.brackets.specs.Answers.{placeBehind, keysBehind}
 use Rattle.pattern.specs.declared.cursor.Cursor.{Cursor}
 use Rattle.pattern.specs.declared.cursor.Part.{Part}
-use Rattle.pattern.specs.Cycle.{AtomDone}
+use Rattle.pattern.specs.declared.shape.Shape.{Shape}
+use Rattle.pattern.specs.Cycle.{AtomDone, ReadsAtom}
 use Rattle.pattern.specs.States.{nothing, first, last, atomState, atomWord}
 use Rattle.pattern.proofs.Tables.{keys-atom}
 use Rattle.runs.proofs.Tests.{clash}
@@ -60,20 +61,35 @@ atom-high k h = word-none 32 ∙ word-ext 32 (λ p. false) (λ p. atomState (eqb
 pub inside : (s : List ℕ) (i : ℕ) → (getD s i 0 ≡ 0 → ⊥) → i < length s
 inside s i h = elim (decLe (length s) i) [ yes p ↦ absurd (h (List·getD-eq-default s 0 p)) | no q ↦ omega arith ]
 
+-- the state of the atom that is read at a cursor, as a word
+abbrev stateAt : Cursor → ℕ
+stateAt c = atomWord (eqb (c .atoms))
+
+-- what the reader of brackets answers for the atom at a cursor: the place behind it, and the table of keys
+abbrev placeAt : List ℕ → Cursor → AtomRead
+placeAt s c = placeBehind (length s) (atomAt s (c .at))
+
+abbrev keysAt : List ℕ → Cursor → ℕ → List ℕ → List ℕ
+keysAt s c set keys = keysBehind (atomAt s (c .at)) set keys
+
+-- the shape of an atom whose state is `set`
+abbrev oneShape : ℕ → Shape
+oneShape set = record { nothing = false; first = set; last = set }
+
 -- what the reader of an atom answers at a cursor, where `set` is the atom's state
-module _ (s keys after : List ℕ) (c : Cursor) {set : ℕ} (eset : set ≡ atomWord (eqb (c .atoms))) (short : length s ≤ 128) {w : AtomRead} (place : w ≡ placeBehind (length s) (atomAt s (c .at))) (table : after ≡ keysBehind (atomAt s (c .at)) set keys) where
+module _ (s keys after : List ℕ) (c : Cursor) {set : ℕ} (eset : set ≡ stateAt c) (short : length s ≤ 128) {w : AtomRead} (place : w ≡ placeAt s c) (table : after ≡ keysAt s c set keys) where
   same : atomAt s (c .at) ≡ readAtom (drop (c .at) s)
   same = atom-at s (c .at) short
 
-  pub atom-read : (next : ℕ) (d : Cursor) → w ≡ AtomRead.At next → d ≡ record { at = next; atoms = c .atoms + 1 } → AtomDone (length s) c keys (Part.Read d (record { nothing = false; first = set; last = set })) after (readAtom (drop (c .at) s))
+  pub atom-read : (next : ℕ) (d : Cursor) → w ≡ AtomRead.At next → d ≡ record { at = next; atoms = c .atoms + 1 } → ReadsAtom s c keys (Part.Read d (oneShape set)) after
   unfolding nothing first last
   atom-read next d e g = go (readAtom (drop (c .at) s)) (rw same at place) (rw same at table)
     where
-      go : (p : Parsed Atom) → w ≡ placeBehind (length s) p → after ≡ keysBehind p set keys → AtomDone (length s) c keys (Part.Read d (record { nothing = false; first = set; last = set })) after p
+      go : (p : Parsed Atom) → w ≡ placeBehind (length s) p → after ≡ keysBehind p set keys → AtomDone (length s) c keys (Part.Read d (oneShape set)) after p
       go (parsed a rest) h k = let there : next ≡ length s - length rest = cc in (rw (g, there, eset) refl, k ∙ rw eset (keys-atom (c .atoms) a keys))
       go fault h k = clash (cc)
 
-  pub atom-faulty : w ≡ AtomRead.Fault → AtomDone (length s) c keys Part.Fault after (readAtom (drop (c .at) s))
+  pub atom-faulty : w ≡ AtomRead.Fault → ReadsAtom s c keys Part.Fault after
   atom-faulty e = go (readAtom (drop (c .at) s)) (rw same at place)
     where
       go : (p : Parsed Atom) → w ≡ placeBehind (length s) p → AtomDone (length s) c keys Part.Fault after p

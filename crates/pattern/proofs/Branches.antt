@@ -102,22 +102,24 @@ unfolding writePattern formedPattern formedBranches
 more-from l mid b [] t h g = clash (cc)
 more-from l mid b (c ∷ bs) t h g = (rw (h .0, g .0, ← front mid 124 (omega arith) t), rw (h .1) (g .1))
 
+-- a branch and what stands behind it
+module _ (f : ℕ) (l mid rest : List ℕ) (b : Branch) (t : Pattern) (this : Branch-from l b mid) (clean : isLine mid ≡ true) (others-from : Others-from f mid rest) where
+  behind-from : (z : Bool) → eqb (at 0 mid) 0 ≡ z → behindBranch f b z (eqb (at 0 mid) 124) mid ≡ parsed t rest → Pattern-from l t
+  behind-from true z q = let (same, after) = same-parsed q in rw (← same) (last-from l mid b (clean-end mid clean z) this)
+  behind-from false z q =
+      let (bar, s) = test-parsed (eqb (at 0 mid) 124) (next (readBranches f (drop 1 mid)) (λ bs. done (b ∷ bs))) t rest q in
+      let (bs, same, others) = made-parsed (readBranches f (drop 1 mid)) (λ bs. b ∷ bs) t rest s in
+      rw same (more-from l mid b bs bar this (others-from bs others))
+
 -- branches that were read are all of the bytes, and of the form
 pub branches-from : (f : ℕ) (l rest : List ℕ) (t : Pattern) → isLine l ≡ true → readBranches f l ≡ parsed t rest → Pattern-from l t
 unfolding readBranches
 branches-from zero l rest t h r = clash (cc)
 branches-from (suc f) l rest t h r =
-    let (b, mid, one, others) = next-parsed (readBranch l) (λ b m. cond (eqb (at 0 m) 0) (parsed (b ∷ []) m) (cond (eqb (at 0 m) 124) (next (readBranches f (drop 1 m)) (λ bs. done (b ∷ bs))) fault)) t rest r in
+    let (b, mid, one, others) = next-parsed (readBranch l) (λ b m. behindBranch f b (eqb (at 0 m) 0) (eqb (at 0 m) 124) m) t rest r in
     let this = branch-from l mid b h one in
     let clean : isLine mid ≡ true = line-after (writeBranch b) mid (rw (this .0) at h) in
-    go b mid this clean (λ bs s. branches-from f (drop 1 mid) rest bs (line-drop 1 mid clean) s) (eqb (at 0 mid) 0) refl others
-  where
-    go : (b : Branch) (mid : List ℕ) → Branch-from l b mid → isLine mid ≡ true → Others-from f mid rest → (z : Bool) → eqb (at 0 mid) 0 ≡ z → behindBranch f b z (eqb (at 0 mid) 124) mid ≡ parsed t rest → Pattern-from l t
-    go b mid this clean ih true z q = let (same, after) = same-parsed q in rw (← same) (last-from l mid b (clean-end mid clean z) this)
-    go b mid this clean ih false z q =
-        let (bar, s) = test-parsed (eqb (at 0 mid) 124) (next (readBranches f (drop 1 mid)) (λ bs. done (b ∷ bs))) t rest q in
-        let (bs, same, others) = made-parsed (readBranches f (drop 1 mid)) (λ bs. b ∷ bs) t rest s in
-        rw same (more-from l mid b bs bar this (ih bs others))
+    behind-from f l mid rest b t this clean (λ bs s. branches-from f (drop 1 mid) rest bs (line-drop 1 mid clean) s) (eqb (at 0 mid) 0) refl others
 
 -- And back.
 
@@ -138,7 +140,10 @@ mark-needed false true rest h = refl
 mark-needed false false rest h = clash (cc)
 
 -- a branch after its `^` or without one is read again
-rest-back : (s : Bool) (p : Option Expr) (t : Bool) (rest : List ℕ) → formedPieces (s || t) p ≡ true → endsPieces (at 0 rest) ≡ true → eqb (at 0 rest) 36 ≡ false → readRest s (ending p t rest) ≡ parsed (branchOf s p t) rest
+abbrev RestAgain : Bool → Option Expr → Bool → List ℕ → Type 0
+RestAgain s p t rest = readRest s (ending p t rest) ≡ parsed (branchOf s p t) rest
+
+rest-back : (s : Bool) (p : Option Expr) (t : Bool) (rest : List ℕ) → formedPieces (s || t) p ≡ true → endsPieces (at 0 rest) ≡ true → eqb (at 0 rest) 36 ≡ false → RestAgain s p t rest
 rest-back s none t rest h e d = rw (mark-ends t rest e, mark-needed s t rest h) (anchored-back s none t rest d)
 rest-back s (some p) t rest h e d =
     let (on, start, mark-not) = expr-starts p 2 (mark 36 t ++ rest) h in

@@ -10,6 +10,7 @@ use borrow.Author.Tests.{eqb-true, not-true}
 use Rattle.brackets.specs.Form.{Atom, writeAtom, formedAtom}
 use Rattle.brackets.specs.Brackets.{parsed, next, done, at, readAtom}
 use Rattle.pattern.specs.Reader.{readRepeat, endsPieces, Mode, readExpr}
+use Rattle.pattern.proofs.TreesFrom.{singleBy}
 use Rattle.pattern.specs.Form.{Expr, atom, group, star, plus, opt, seq, alt, write, formed}
 use Rattle.runs.specs.Keys.{isLine}
 use Rattle.runs.proofs.Tests.{clash, and-parts, neither}
@@ -82,9 +83,13 @@ room Mode.branch k = 4 * k + 2
 room Mode.piece k = 4 * k + 1
 room Mode.group k = 4 * k
 
+-- a mode reads an expression again, if the bound f is enough for its bytes
+abbrev pub Again : ℕ → Mode → Expr → List ℕ → Type 0
+Again f m e rest = room m (length (write e)) ≤ f → readExpr f m (given m e rest) ≡ parsed e rest
+
 -- reading within a bound undoes writing
 abbrev Back : ℕ → Mode → Type 0
-Back f m = (e : Expr) (rest : List ℕ) → Formed m e → stops m (at 0 rest) ≡ true → room m (length (write e)) ≤ f → readExpr f m (given m e rest) ≡ parsed e rest
+Back f m = (e : Expr) (rest : List ℕ) → Formed m e → stops m (at 0 rest) ≡ true → Again f m e rest
 
 -- what ends pieces is no repetition mark
 no-repeat : (b : ℕ) → endsPieces b ≡ true → not (repeats b) ≡ true
@@ -101,7 +106,7 @@ no-repeat b h = go (eqb b 0) (eqb b 124) (eqb b 41) refl refl refl h
 
 module _ (f : ℕ) (ih : (m : Mode) → Back f m) where
   -- an atom or a group
-  single-back : (e : Expr) (rest : List ℕ) → formed e 0 ≡ true → 4 * length (write e) ≤ f → cond (eqb (at 0 (write e ++ rest)) 40) (readExpr f Mode.group (drop 1 (write e ++ rest))) (next (readAtom (write e ++ rest)) (λ a. done (atom a))) ≡ parsed e rest
+  single-back : (e : Expr) (rest : List ℕ) → formed e 0 ≡ true → 4 * length (write e) ≤ f → singleBy (eqb (at 0 (write e ++ rest)) 40) f (write e ++ rest) ≡ parsed e rest
   unfolding write formed
   single-back (atom a) rest h l = rw (atom-begins a rest h .opened, atom-back a rest h)
   single-back (group e) rest h l = ih Mode.group (group e) rest (e, refl, h) refl l
@@ -112,14 +117,14 @@ module _ (f : ℕ) (ih : (m : Mode) → Back f m) where
   single-back (alt p q) rest h l = clash (cc)
 
   -- and with its repetition mark
-  marked-back : (e x : Expr) (c : ℕ) (rest : List ℕ) → write x ≡ write e ++ (c ∷ []) → readRepeat e (c ∷ rest) ≡ parsed x rest → formed e 0 ≡ true → room Mode.piece (length (write x)) ≤ suc f → readExpr (suc f) Mode.piece (write x ++ rest) ≡ parsed x rest
+  marked-back : (e x : Expr) (c : ℕ) (rest : List ℕ) → write x ≡ write e ++ (c ∷ []) → readRepeat e (c ∷ rest) ≡ parsed x rest → formed e 0 ≡ true → Again (suc f) Mode.piece x rest
   unfolding readExpr
   marked-back e x c rest same r h l =
       let long : length (write x) ≡ length (write e) + 1 = rw same (length-append (write e) (c ∷ [])) in
       rw (same, append-assoc (write e) (c ∷ []) rest, single-back e (c ∷ rest) h (omega arith)) r
 
   -- and without one
-  bare-back : (e : Expr) (rest : List ℕ) → formed e 0 ≡ true → repeats (at 0 rest) ≡ false → room Mode.piece (length (write e)) ≤ suc f → readExpr (suc f) Mode.piece (write e ++ rest) ≡ parsed e rest
+  bare-back : (e : Expr) (rest : List ℕ) → formed e 0 ≡ true → repeats (at 0 rest) ≡ false → Again (suc f) Mode.piece e rest
   unfolding readExpr readRepeat
   bare-back e rest h s l =
       let (a, t) = neither (eqb (at 0 rest) 42) (eqb (at 0 rest) 43 || eqb (at 0 rest) 63) s in
@@ -138,7 +143,7 @@ module _ (f : ℕ) (ih : (m : Mode) → Back f m) where
   piece-back (alt p q) rest h s l = clash (cc)
 
   -- a branch of one piece
-  one-back : (e : Expr) (rest : List ℕ) → formed e 1 ≡ true → endsPieces (at 0 rest) ≡ true → room Mode.branch (length (write e)) ≤ suc f → readExpr (suc f) Mode.branch (write e ++ rest) ≡ parsed e rest
+  one-back : (e : Expr) (rest : List ℕ) → formed e 1 ≡ true → endsPieces (at 0 rest) ≡ true → Again (suc f) Mode.branch e rest
   unfolding readExpr
   one-back e rest h s l = rw (ih Mode.piece e rest h (no-repeat (at 0 rest) s) (omega arith), s)
 
@@ -159,7 +164,7 @@ module _ (f : ℕ) (ih : (m : Mode) → Back f m) where
   branch-back (alt p q) rest h s l = clash (cc)
 
   -- an alternative list of one branch
-  only-back : (e : Expr) (rest : List ℕ) → formed e 2 ≡ true → stops Mode.alts (at 0 rest) ≡ true → room Mode.alts (length (write e)) ≤ suc f → readExpr (suc f) Mode.alts (write e ++ rest) ≡ parsed e rest
+  only-back : (e : Expr) (rest : List ℕ) → formed e 2 ≡ true → stops Mode.alts (at 0 rest) ≡ true → Again (suc f) Mode.alts e rest
   unfolding readExpr
   only-back e rest h s l =
       let (ends, bar) = and-parts (endsPieces (at 0 rest)) (not (eqb (at 0 rest) 124)) s in
@@ -180,7 +185,7 @@ module _ (f : ℕ) (ih : (m : Mode) → Back f m) where
       rw (append-assoc (write p) (124 ∷ write q) rest, ih Mode.branch p (124 ∷ write q ++ rest) hp refl (omega arith), ih Mode.alts q rest hq s (omega arith))
 
   -- a group after its opening parenthesis
-  closed-back : (x : Expr) (rest : List ℕ) → formed x 3 ≡ true → room Mode.group (length (write (group x))) ≤ suc f → readExpr (suc f) Mode.group (drop 1 (write (group x) ++ rest)) ≡ parsed (group x) rest
+  closed-back : (x : Expr) (rest : List ℕ) → formed x 3 ≡ true → Again (suc f) Mode.group (group x) rest
   unfolding write readExpr
   closed-back x rest h l =
       let long : 4 * suc (length (write x) + 1) ≤ suc f = rw length-append at l in
@@ -191,7 +196,7 @@ module _ (f : ℕ) (ih : (m : Mode) → Back f m) where
   group-back e rest (x, same, h) s l = rw same (closed-back x rest h (rw same at l))
 
 -- what is written of an expression that has a mode's form is read again, within every bound that is large enough
-pub expr-back : (f : ℕ) (m : Mode) (e : Expr) (rest : List ℕ) → Formed m e → stops m (at 0 rest) ≡ true → room m (length (write e)) ≤ f → readExpr f m (given m e rest) ≡ parsed e rest
+pub expr-back : (f : ℕ) (m : Mode) (e : Expr) (rest : List ℕ) → Formed m e → stops m (at 0 rest) ≡ true → Again f m e rest
 expr-back zero Mode.alts e rest h s l = absurd (omega arith)
 expr-back zero Mode.branch e rest h s l = absurd (omega arith)
 expr-back zero Mode.piece e rest h s l = absurd (omega arith)

@@ -52,12 +52,34 @@ level Mode.group = 0
 abbrev pub Expr-from : Mode → List ℕ → Expr → List ℕ → Type 0
 Expr-from m l e rest = (from m l ≡ write e ++ rest) × (formed e (level m) ≡ true)
 
+-- what an atom or a group that was read is
+abbrev Single-from : List ℕ → Expr → List ℕ → Type 0
+Single-from l e rest = (l ≡ write e ++ rest) × (formed e 0 ≡ true)
+
+-- every expression that a mode reads of these bytes is so
+abbrev Reads-from : ℕ → Mode → List ℕ → List ℕ → Type 0
+Reads-from f m l rest = (q : Expr) → readExpr f m l ≡ parsed q rest → Expr-from m l q rest
+
+-- What the readers go on with, by the test of the byte that decides.
+
+-- behind a branch, the others of an alternative list, or none
+abbrev altsBy : Bool → ℕ → Expr → List ℕ → Parsed Expr
+altsBy t f p mid = cond t (next (readExpr f Mode.alts (drop 1 mid)) (λ q. done (alt p q))) (parsed p mid)
+
+-- behind a piece, the end of its branch, or the others
+abbrev piecesBy : Bool → ℕ → Expr → List ℕ → Parsed Expr
+piecesBy t f p mid = cond t (parsed p mid) (next (readExpr f Mode.branch mid) (λ q. done (seq p q)))
+
+-- a group, or an atom
+abbrev pub singleBy : Bool → ℕ → List ℕ → Parsed Expr
+singleBy t f l = cond t (readExpr f Mode.group (drop 1 l)) (next (readAtom l) (λ a. done (atom a)))
+
 -- an atom or a group with the mark behind it, by the tests for `*`, `+` and `?`
 abbrev pub markedBy : Bool → Bool → Bool → Expr → List ℕ → Parsed Expr
 markedBy x y z p mid = cond x (parsed (star p) (drop 1 mid)) (cond y (parsed (plus p) (drop 1 mid)) (cond z (parsed (opt p) (drop 1 mid)) (parsed p mid)))
 
 -- after an atom or a group, with its repetition mark
-repeat-from : (l mid rest : List ℕ) (p e : Expr) → (l ≡ write p ++ mid) × (formed p 0 ≡ true) → readRepeat p mid ≡ parsed e rest → Expr-from Mode.piece l e rest
+repeat-from : (l mid rest : List ℕ) (p e : Expr) → Single-from l p mid → readRepeat p mid ≡ parsed e rest → Expr-from Mode.piece l e rest
 unfolding readRepeat write formed
 repeat-from l mid rest p e h r = go (eqb (at 0 mid) 42) (eqb (at 0 mid) 43) (eqb (at 0 mid) 63) refl refl refl r
   where
@@ -71,11 +93,11 @@ repeat-from l mid rest p e h r = go (eqb (at 0 mid) 42) (eqb (at 0 mid) 43) (eqb
     go false false false a b c q = let (same, after) = same-parsed q in rw (← same, ← after) (h .0, formed-looser p 0 (h .1))
 
 -- after a branch of an alternative list, with the others
-alts-from : (f : ℕ) (l mid rest : List ℕ) (p e : Expr) → Expr-from Mode.branch l p mid → ((q : Expr) → readExpr f Mode.alts (drop 1 mid) ≡ parsed q rest → Expr-from Mode.alts (drop 1 mid) q rest) → cond (eqb (at 0 mid) 124) (next (readExpr f Mode.alts (drop 1 mid)) (λ q. done (alt p q))) (parsed p mid) ≡ parsed e rest → Expr-from Mode.alts l e rest
+alts-from : (f : ℕ) (l mid rest : List ℕ) (p e : Expr) → Expr-from Mode.branch l p mid → Reads-from f Mode.alts (drop 1 mid) rest → altsBy (eqb (at 0 mid) 124) f p mid ≡ parsed e rest → Expr-from Mode.alts l e rest
 unfolding write formed
 alts-from f l mid rest p e h ih r = go (eqb (at 0 mid) 124) refl r
   where
-    go : (t : Bool) → eqb (at 0 mid) 124 ≡ t → cond t (next (readExpr f Mode.alts (drop 1 mid)) (λ q. done (alt p q))) (parsed p mid) ≡ parsed e rest → Expr-from Mode.alts l e rest
+    go : (t : Bool) → eqb (at 0 mid) 124 ≡ t → altsBy t f p mid ≡ parsed e rest → Expr-from Mode.alts l e rest
     go true t r =
         let (q, same, others) = made-parsed (readExpr f Mode.alts (drop 1 mid)) (λ q. alt p q) e rest r in
         let (there, formed-q) = ih q others in
@@ -83,11 +105,11 @@ alts-from f l mid rest p e h ih r = go (eqb (at 0 mid) 124) refl r
     go false t r = let (same, after) = same-parsed r in rw (← same, ← after) (h .0, formed-looser p 2 (h .1))
 
 -- after a piece of a branch, with the others
-branch-from : (f : ℕ) (l mid rest : List ℕ) (p e : Expr) → Expr-from Mode.piece l p mid → ((q : Expr) → readExpr f Mode.branch mid ≡ parsed q rest → Expr-from Mode.branch mid q rest) → cond (endsPieces (at 0 mid)) (parsed p mid) (next (readExpr f Mode.branch mid) (λ q. done (seq p q))) ≡ parsed e rest → Expr-from Mode.branch l e rest
+branch-from : (f : ℕ) (l mid rest : List ℕ) (p e : Expr) → Expr-from Mode.piece l p mid → Reads-from f Mode.branch mid rest → piecesBy (endsPieces (at 0 mid)) f p mid ≡ parsed e rest → Expr-from Mode.branch l e rest
 unfolding write formed
 branch-from f l mid rest p e h ih r = go (endsPieces (at 0 mid)) r
   where
-    go : (t : Bool) → cond t (parsed p mid) (next (readExpr f Mode.branch mid) (λ q. done (seq p q))) ≡ parsed e rest → Expr-from Mode.branch l e rest
+    go : (t : Bool) → piecesBy t f p mid ≡ parsed e rest → Expr-from Mode.branch l e rest
     go true r = let (same, after) = same-parsed r in rw (← same, ← after) (h .0, formed-looser p 1 (h .1))
     go false r =
         let (q, same, others) = made-parsed (readExpr f Mode.branch mid) (λ q. seq p q) e rest r in
@@ -95,12 +117,12 @@ branch-from f l mid rest p e h ih r = go (endsPieces (at 0 mid)) r
         rw same (rw (append-assoc (write p) (write q) rest, ← there) (h .0), rw (h .1) formed-q)
 
 -- an atom or a group
-single-from : (f : ℕ) (l mid : List ℕ) (e : Expr) → isLine l ≡ true → (readExpr f Mode.group (drop 1 l) ≡ parsed e mid → Expr-from Mode.group (drop 1 l) e mid) → cond (eqb (at 0 l) 40) (readExpr f Mode.group (drop 1 l)) (next (readAtom l) (λ a. done (atom a))) ≡ parsed e mid → (l ≡ write e ++ mid) × (formed e 0 ≡ true)
+single-from : (f : ℕ) (l mid : List ℕ) (e : Expr) → isLine l ≡ true → Reads-from f Mode.group (drop 1 l) mid → singleBy (eqb (at 0 l) 40) f l ≡ parsed e mid → Single-from l e mid
 unfolding write formed
 single-from f l mid e h ih r = go (eqb (at 0 l) 40) refl r
   where
-    go : (t : Bool) → eqb (at 0 l) 40 ≡ t → cond t (readExpr f Mode.group (drop 1 l)) (next (readAtom l) (λ a. done (atom a))) ≡ parsed e mid → (l ≡ write e ++ mid) × (formed e 0 ≡ true)
-    go true t r = (front l 40 (omega arith) t ∙ ih r .0, ih r .1)
+    go : (t : Bool) → eqb (at 0 l) 40 ≡ t → singleBy t f l ≡ parsed e mid → Single-from l e mid
+    go true t r = (front l 40 (omega arith) t ∙ ih e r .0, ih e r .1)
     go false t r =
         let (a, same, one) = made-parsed (readAtom l) (λ a. atom a) e mid r in
         rw same (atom-from l mid a h one)
@@ -119,18 +141,18 @@ pub expr-from : (f : ℕ) (m : Mode) (l rest : List ℕ) (e : Expr) → isLine l
 unfolding readExpr
 expr-from zero m l rest e h r = clash (cc)
 expr-from (suc f) Mode.alts l rest e h r =
-    let (p, mid, one, others) = next-parsed (readExpr f Mode.branch l) (λ p m. cond (eqb (at 0 m) 124) (next (readExpr f Mode.alts (drop 1 m)) (λ q. done (alt p q))) (parsed p m)) e rest r in
+    let (p, mid, one, others) = next-parsed (readExpr f Mode.branch l) (λ p m. altsBy (eqb (at 0 m) 124) f p m) e rest r in
     let this = expr-from f Mode.branch l mid p h one in
     let clean : isLine mid ≡ true = line-after (write p) mid (rw (this .0) at h) in
     alts-from f l mid rest p e this (λ q s. expr-from f Mode.alts (drop 1 mid) rest q (line-drop 1 mid clean) s) others
 expr-from (suc f) Mode.branch l rest e h r =
-    let (p, mid, one, others) = next-parsed (readExpr f Mode.piece l) (λ p m. cond (endsPieces (at 0 m)) (parsed p m) (next (readExpr f Mode.branch m) (λ q. done (seq p q)))) e rest r in
+    let (p, mid, one, others) = next-parsed (readExpr f Mode.piece l) (λ p m. piecesBy (endsPieces (at 0 m)) f p m) e rest r in
     let this = expr-from f Mode.piece l mid p h one in
     let clean : isLine mid ≡ true = line-after (write p) mid (rw (this .0) at h) in
     branch-from f l mid rest p e this (λ q s. expr-from f Mode.branch mid rest q clean s) others
 expr-from (suc f) Mode.piece l rest e h r =
-    let (p, mid, one, others) = next-parsed (cond (eqb (at 0 l) 40) (readExpr f Mode.group (drop 1 l)) (next (readAtom l) (λ a. done (atom a)))) readRepeat e rest r in
-    repeat-from l mid rest p e (single-from f l mid p h (λ s. expr-from f Mode.group (drop 1 l) mid p (line-drop 1 l h) s) one) others
+    let (p, mid, one, others) = next-parsed (singleBy (eqb (at 0 l) 40) f l) readRepeat e rest r in
+    repeat-from l mid rest p e (single-from f l mid p h (λ q s. expr-from f Mode.group (drop 1 l) mid q (line-drop 1 l h) s) one) others
 expr-from (suc f) Mode.group l rest e h r =
     let (p, mid, one, others) = next-parsed (readExpr f Mode.alts l) (λ e m. cond (eqb (at 0 m) 41) (parsed (group e) (drop 1 m)) fault) e rest r in
     group-from l mid rest p e (expr-from f Mode.alts l mid p h one) others
