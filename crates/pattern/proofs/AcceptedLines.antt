@@ -14,7 +14,7 @@ use Rattle.pattern.specs.Moves.{states, enters, into, intoEnd, jumps, ta
 use Rattle.pattern.proofs.Meaning.{matches-iff}
 use Rattle.pattern.proofs.Continuations.{Step, lifted}
 use Rattle.pattern.proofs.SomeBranch.{Some, some-true, true-some, some-map, Tells, some-within, some-step, step-some}
-use Rattle.pattern.proofs.BranchStates.{no-key, firstOf, lastOf, followOf, holdsOf, first-tells, follow-tells, holds-tells, cont-tells, At, After, at-begins, begins-at, Live, live-after, free-after, after-cases, live-step, step-live, live-end, end-live, matches-place, place-matches, nothing-in}
+use Rattle.pattern.proofs.BranchStates.{BranchStep, no-key, firstOf, lastOf, followOf, holdsOf, first-tells, follow-tells, holds-tells, cont-tells, At, After, at-begins, begins-at, Live, live-after, free-after, after-cases, live-step, step-live, live-end, end-live, matches-place, place-matches, nothing-in}
 use Rattle.runs.proofs.Tests.{torn, or-cases, or-left, or-right, and-both, and-fst, and-snd, tests-ext}
 use Rattle.pattern.specs.Form.{Branch, Pattern, atomsIn, atomCount}
 use Rattle.runs.specs.Keys.{lineKey, isLine}
@@ -146,7 +146,7 @@ module _ (b : ℕ) (r : Branch) where
 
   -- how a branch matches a line that has a key: it begins later; it can match nothing; or it begins here
   abbrev Begins : ℕ → List ℕ → Type 0
-  Begins c w = Somewhere (Step (freeOf b r) (holdsOf b r) (After b r)) w ⊎ ((jumpOf ≡ true) ⊎ Step (firstOf b r) (holdsOf b r) (After b r) (c ∷ w))
+  Begins c w = Somewhere (BranchStep freeOf b r) w ⊎ ((jumpOf ≡ true) ⊎ BranchStep firstOf b r (c ∷ w))
 
   unanchored : nothingIn (r .pieces) ≡ true → (r .start ≡ false) ⊎ (r .end ≡ false) → jumpOf ≡ true
   unanchored n e = and-both (nothingIn (r .pieces)) (not (r .start && r .end)) n (go (r .start) (r .end) e)
@@ -202,17 +202,17 @@ module _ (t : Pattern) where
   step-matches : (w : List ℕ) → Step (firstInBranch t) (holdsKey t) (Follows t) w → Matches t w
   step-matches w s =
       some-matches 0 t w
-      (some-map (λ b r. Step (firstOf b r) (holdsOf b r) (After b r) w) (λ b r. MatchesBranch r w) (λ b r s. at-matches b r w (begins-at b r w s)) 0 t
+      (some-map (λ b r. BranchStep firstOf b r w) (λ b r. MatchesBranch r w) (λ b r s. at-matches b r w (begins-at b r w s)) 0 t
       (step-some firstOf holdsOf After first-tells holds-tells after-tells 0 t w s))
 
   mid-matches : (c : ℕ) (w : List ℕ) → Mid t w → Matches t (c ∷ w)
   mid-matches c w m =
       let p = mid-place m in
       some-matches 0 t (c ∷ w)
-      (some-map (λ b r. Step (freeOf b r) (holdsOf b r) (After b r) (p .from)) (λ b r. MatchesBranch r (c ∷ w)) (λ b r s. one p b r s) 0 t
+      (some-map (λ b r. BranchStep freeOf b r (p .from)) (λ b r. MatchesBranch r (c ∷ w)) (λ b r s. one p b r s) 0 t
       (step-some freeOf holdsOf After free-tells holds-tells after-tells 0 t (p .from) (p .there)))
     where
-      one : (p : Somewhere (Step (firstInFree t) (holdsKey t) (Follows t)) w) (b : ℕ) (r : Branch) → Step (freeOf b r) (holdsOf b r) (After b r) (p .from) → MatchesBranch r (c ∷ w)
+      one : (p : Somewhere (Step (firstInFree t) (holdsKey t) (Follows t)) w) (b : ℕ) (r : Branch) → BranchStep freeOf b r (p .from) → MatchesBranch r (c ∷ w)
       one p b r s =
           later-matches b r (c ∷ w)
           (not-true (r .start) (and-fst (not (r .start)) (firstOf b r (s .which)) (s .comes)))
@@ -229,7 +229,7 @@ module _ (t : Pattern) where
       (some-map (λ b r. jumpOf b r ≡ true) (λ b r. MatchesBranch r w) (λ b r. jump-matches b r w) 0 t (some-true (λ b r. jumpOf b r) 0 t h))
 
   -- the place where a branch begins later
-  some-place : (w : List ℕ) (b : ℕ) (u : Pattern) → Some (λ d r. Somewhere (Step (freeOf d r) (holdsOf d r) (After d r)) w) b u → Somewhere (λ x. Some (λ d r. Step (freeOf d r) (holdsOf d r) (After d r) x) b u) w
+  some-place : (w : List ℕ) (b : ℕ) (u : Pattern) → Some (λ d r. Somewhere (BranchStep freeOf d r) w) b u → Somewhere (λ x. Some (λ d r. BranchStep freeOf d r x) b u) w
   some-place w b (r ∷ rs) (inl p) = record { before = p .before; from = p .from; whole = p .whole; there = inl (p .there) }
   some-place w b (r ∷ rs) (inr p) =
       let q = some-place w (b + atomsIn (r .pieces)) rs p in
@@ -244,10 +244,10 @@ module _ (t : Pattern) where
       (⊎-elim
       (λ p. inl (true-some (λ b r. jumpOf b r) 0 t p))
       (λ p. inr (some-step firstOf holdsOf After 0 t (c ∷ w) p))
-      (some-either (λ b r. jumpOf b r ≡ true) (λ b r. Step (firstOf b r) (holdsOf b r) (After b r) (c ∷ w)) 0 t p)))
+      (some-either (λ b r. jumpOf b r ≡ true) (λ b r. BranchStep firstOf b r (c ∷ w)) 0 t p)))
       (some-either
-      (λ b r. Somewhere (Step (freeOf b r) (holdsOf b r) (After b r)) w)
-      (λ b r. (jumpOf b r ≡ true) ⊎ Step (firstOf b r) (holdsOf b r) (After b r) (c ∷ w))
+      (λ b r. Somewhere (BranchStep freeOf b r) w)
+      (λ b r. (jumpOf b r ≡ true) ⊎ BranchStep firstOf b r (c ∷ w))
       0
       t
       (some-map (λ b r. MatchesBranch r (c ∷ w)) (λ b r. Begins b r c w) (λ b r. branch-begins b r c w) 0 t (matches-some 0 t (c ∷ w) m)))

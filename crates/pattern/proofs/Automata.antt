@@ -21,14 +21,14 @@ use Rattle.pattern.specs.Reader.{Read, accepted, refused, readBranches, 
 use Rattle.pattern.specs.States.{nothingIn, inPieces, first, last, follow, holds, someBranch, firstInBranch, firstInFree, endsFree, endsAnchored, holdsKey, emptyBranch, emptyFree, atomWord}
 use Rattle.pattern.specs.Tables.{isAtom}
 use Rattle.pattern.specs.Branches.{shapeIn, keysIn, enterIn}
-use Rattle.pattern.specs.Summaries.{branchSummary, summaryOf, through, PatternDone, ReadsBranches}
+use Rattle.pattern.specs.Summaries.{withBranch, summaryOf, through, PatternDone, ReadsBranches}
 use Rattle.pattern.specs.Moves.{enters}
 use Rattle.pattern.specs.Cycle.{Ready}
 use Rattle.refusal.specs.Figures.{answered}
 use Rattle.pattern.specs.Automata.{keyTable, enterTable, accepts, acceptingOf, refusedPattern, readFigures, keysRead, enterRead}
 use Rattle.brackets.proofs.Entries.{with-same, with-with, with-none, with-length, with-getD}
 use Rattle.pattern.proofs.Moving.{always-word, accepting-word}
-use Rattle.pattern.proofs.Tables.{atoms-none, atoms-same, both-added, added-if}
+use Rattle.pattern.proofs.Tables.{atoms-none, atoms-same, withAtoms, both-added, added-if}
 use Rattle.pattern.specs.Form.{Expr, Branch, Pattern, atomsIn, atomCount}
 use Rattle.stateset.specs.Tabled.{tabled}
 use Rattle.stateset.proofs.Tabled.{tabled-same, tabled-length, tabled-at, tabled-next}
@@ -40,23 +40,23 @@ none-added : (x : ℕ) → bitOr x (atomWord (λ k. false)) ≡ x
 none-added x = rw (atoms-none (λ k. false) (λ k. refl)) (or-zero-r x)
 
 -- what the branches add to a word of the summary
-module _ (field : Summary → ℕ) (P : ℕ → Branch → ℕ → Bool) (one : (b : ℕ) (r : Branch) (a : Summary) → field (branchSummary a (r .start) (shapeIn b (r .pieces)) (r .end)) ≡ bitOr (field a) (atomWord (P b r))) where
-  gathered : (t : Pattern) (b : ℕ) (a : Summary) → field (summaryOf b t a) ≡ bitOr (field a) (atomWord (λ k. someBranch (λ c r. P c r k) b t))
+module _ (field : Summary → ℕ) (P : ℕ → Branch → ℕ → Bool) (one : (b : ℕ) (r : Branch) (a : Summary) → field (withBranch b r a) ≡ withAtoms (field a) (P b r)) where
+  gathered : (t : Pattern) (b : ℕ) (a : Summary) → field (summaryOf b t a) ≡ withAtoms (field a) (λ k. someBranch (λ c r. P c r k) b t)
   unfolding summaryOf someBranch
   gathered [] b a = sym (none-added (field a))
   gathered (r ∷ rs) b a =
       let others : ℕ → Bool = λ k. someBranch (λ c r. P c r k) (b + atomsIn (r .pieces)) rs in
-      gathered rs (b + atomsIn (r .pieces)) (branchSummary a (r .start) (shapeIn b (r .pieces)) (r .end))
+      gathered rs (b + atomsIn (r .pieces)) (withBranch b r a)
       ∙ ap (λ (x : ℕ). bitOr x (atomWord others)) (one b r a)
       ∙ both-added (P b r) others (λ k. P b r k || others k) (λ k. refl) (field a)
 
 -- and to a test of it
-module _ (field : Summary → Bool) (P : ℕ → Branch → Bool) (one : (b : ℕ) (r : Branch) (a : Summary) → field (branchSummary a (r .start) (shapeIn b (r .pieces)) (r .end)) ≡ (field a || P b r)) where
+module _ (field : Summary → Bool) (P : ℕ → Branch → Bool) (one : (b : ℕ) (r : Branch) (a : Summary) → field (withBranch b r a) ≡ (field a || P b r)) where
   told : (t : Pattern) (b : ℕ) (a : Summary) → field (summaryOf b t a) ≡ (field a || someBranch P b t)
   unfolding summaryOf someBranch
   told [] b a = sym (or-false (field a))
   told (r ∷ rs) b a =
-      told rs (b + atomsIn (r .pieces)) (branchSummary a (r .start) (shapeIn b (r .pieces)) (r .end))
+      told rs (b + atomsIn (r .pieces)) (withBranch b r a)
       ∙ ap (λ (x : Bool). x || someBranch P (b + atomsIn (r .pieces)) rs) (one b r a)
       ∙ or-assoc (field a) (P b r) (someBranch P (b + atomsIn (r .pieces)) rs)
 
@@ -109,18 +109,26 @@ module _ (t : Pattern) where
   unfolding accepts
   accepts-all n e = rw (all-ends, all-anchored, all-empty, all-jump, always-word t, accepting-word t, e) refl
 
+-- a table whose entry q has the atoms of X q too
+abbrev added : (ℕ → ℕ → Bool) → List ℕ → List ℕ
+added X l = mapWith (λ q x. withAtoms x (X q)) 0 l
+
+-- what an expression adds to a table: the atoms of G
+abbrev Adds : (ℕ → Option Expr → List ℕ → List ℕ) → (ℕ → Expr → ℕ → ℕ → Bool) → Type 0
+Adds table G = (b : ℕ) (e : Expr) (l : List ℕ) → table b (some e) l ≡ added (G b e) l
+
 -- what the branches add to the entries of a table
-module _ (table : ℕ → Option Expr → List ℕ → List ℕ) (G : ℕ → Expr → ℕ → ℕ → Bool) (one : (b : ℕ) (e : Expr) (l : List ℕ) → table b (some e) l ≡ mapWith (λ q x. bitOr x (atomWord (G b e q))) 0 l) (no : (b : ℕ) (l : List ℕ) → table b none l ≡ l) where
-  pieces-entries : (b : ℕ) (o : Option Expr) (l : List ℕ) → table b o l ≡ mapWith (λ q x. bitOr x (atomWord (λ k. inPieces (λ e. G b e q k) o))) 0 l
+module _ (table : ℕ → Option Expr → List ℕ → List ℕ) (G : ℕ → Expr → ℕ → ℕ → Bool) (one : Adds table G) (no : (b : ℕ) (l : List ℕ) → table b none l ≡ l) where
+  pieces-entries : (b : ℕ) (o : Option Expr) (l : List ℕ) → table b o l ≡ added (λ q k. inPieces (λ e. G b e q k) o) l
   pieces-entries b none l = no b l ∙ sym (with-none _ (λ q x. none-added x) 0 l)
   pieces-entries b (some e) l = one b e l
 
-  entries : (t : Pattern) (b : ℕ) (l : List ℕ) → through table b t l ≡ mapWith (λ q x. bitOr x (atomWord (λ k. someBranch (λ c r. inPieces (λ e. G c e q k) (r .pieces)) b t))) 0 l
+  entries : (t : Pattern) (b : ℕ) (l : List ℕ) → through table b t l ≡ added (λ q k. someBranch (λ c r. inPieces (λ e. G c e q k) (r .pieces)) b t) l
   unfolding through someBranch
   entries [] b l = sym (with-none _ (λ q x. none-added x) 0 l)
   entries (r ∷ rs) b l =
       ap (through table (b + atomsIn (r .pieces)) rs) (pieces-entries b (r .pieces) l)
-      ∙ entries rs (b + atomsIn (r .pieces)) (mapWith (λ q x. bitOr x (atomWord (λ k. inPieces (λ e. G b e q k) (r .pieces)))) 0 l)
+      ∙ entries rs (b + atomsIn (r .pieces)) (added (λ q k. inPieces (λ e. G b e q k) (r .pieces)) l)
       ∙ with-with _ _ 0 l
       ∙ with-same _ _
       (λ q x. both-added (λ k. inPieces (λ e. G b e q k) (r .pieces)) (λ k. someBranch (λ c r. inPieces (λ e. G c e q k) (r .pieces)) (b + atomsIn (r .pieces)) rs) (λ k. inPieces (λ e. G b e q k) (r .pieces) || someBranch (λ c r. inPieces (λ e. G c e q k) (r .pieces)) (b + atomsIn (r .pieces)) rs) (λ k. refl) x)

@@ -19,7 +19,7 @@ use Rattle.brackets.specs.Brackets.{Parsed, parsed, fault, at, next, done}
 use Rattle.pattern.specs.Reader.{readBranch, readBranches}
 use Rattle.pattern.specs.Cycle.{pastByte, Ready}
 use Rattle.pattern.specs.Branches.{shapeIn, keysIn, enterIn, BranchDone, ReadsBranch}
-use Rattle.pattern.specs.Summaries.{branchSummary, summaryOf, through, PatternDone, ReadsBranches}
+use Rattle.pattern.specs.Summaries.{branchSummary, withBranch, summaryOf, through, PatternDone, ReadsBranches}
 use Rattle.pattern.proofs.Branches.{mark, behindBranch, branch-from}
 use Rattle.pattern.proofs.Cycles.{atoms-some, atoms-written, peeked, past, nonzero}
 use Rattle.pattern.specs.Form.{Expr, Branch, Pattern, atomsIn, atomCount, writePieces, writeBranch, formedPieces, formedBranch}
@@ -128,7 +128,7 @@ module _ (s : List ℕ) (c : Cursor) (r : Ready s c) (keys enter keys' enter' : 
         step : (f : ℕ) → readBranches (suc f) (drop (c .at) s) ≡ behindBranch f (v .tree) (eqb b 0) (eqb b 124) (v .rest)
         step f = stepped f (drop (c .at) s) (v .rest) (v .tree) b (v .reading) (ap (at 0) (v .here) ∙ peeked s (d .at) ∙ sym eb)
 
-        whole : sum ≡ branchSummary a (v .tree .start) (shapeIn (c .atoms) (v .tree .pieces)) (v .tree .end)
+        whole : sum ≡ withBranch (c .atoms) (v .tree) a
         whole = es ∙ same-summary a (v .starts) (v .shape) (v .ends)
 
         pub branches-end : b ≡ 0 → ReadsBranches s c a keys enter (PatternRead.Read (d .atoms) sum) keys' enter'

@@ -10,7 +10,7 @@ use Rattle.pattern.specs.Meaning.{TakesPieces, MatchesBranch}
 use Rattle.pattern.specs.States.{first, last, follow, holds, nothingIn, inPieces}
 use Rattle.pattern.proofs.Leaves.{Leaves, takes-leaves, leaves-takes}
 use Rattle.pattern.proofs.Numbering.{Within, first-within, follow-within, holds-within}
-use Rattle.pattern.proofs.Continuations.{Cont, Step, lifted, starts, goes-on, nothing-leaves, last-cont, first-leaves, follow-cont, cont-within}
+use Rattle.pattern.proofs.Continuations.{Cont, Step, EndsOr, lifted, starts, goes-on, nothing-leaves, last-cont, first-leaves, follow-cont, cont-within}
 use Rattle.pattern.proofs.SomeBranch.{Tells}
 use Rattle.runs.proofs.Tests.{clash, torn, and-both, and-fst, and-snd}
 use Rattle.pattern.specs.Form.{Expr, Branch, atomsIn}
@@ -59,12 +59,16 @@ holds-tells k c b r = tells b (λ e. holds b e k c) k (λ e. holds-within b e k 
 pub cont-tells : (b : ℕ) (o : Option Expr) (k : ℕ) (w v : List ℕ) → ContIn b o k w v → Within b (atomsIn o) k
 cont-tells b (some e) k w v c = cont-within b e k w v c
 
+-- the pieces take nothing and may end, or take a step
+abbrev GoesIn : Bool → (ℕ → Bool) → ℕ → Option Expr → List ℕ → List ℕ → Type 0
+GoesIn ends may b o w v = EndsOr ends may (λ k c. inPieces (λ e. holds b e k c) o) (λ k r. ContIn b o k r v) w v
+
 -- the laws of expressions, for the pieces of a branch
-starts-in : (b : ℕ) (o : Option Expr) (w v : List ℕ) → LeavesIn o w v → ((nothingIn o ≡ true) × (w ≡ v)) ⊎ Step (λ k. inPieces (λ e. first b e k) o) (λ k c. inPieces (λ e. holds b e k c) o) (λ k r. ContIn b o k r v) w
+starts-in : (b : ℕ) (o : Option Expr) (w v : List ℕ) → LeavesIn o w v → GoesIn (nothingIn o) (λ k. inPieces (λ e. first b e k) o) b o w v
 starts-in b none w v l = inl (refl, l)
 starts-in b (some e) w v l = starts b e w v l
 
-goes-in : (b : ℕ) (o : Option Expr) (k : ℕ) (w v : List ℕ) → ContIn b o k w v → ((inPieces (λ e. last b e k) o ≡ true) × (w ≡ v)) ⊎ Step (λ j. inPieces (λ e. follow b e k j) o) (λ j c. inPieces (λ e. holds b e j c) o) (λ j r. ContIn b o j r v) w
+goes-in : (b : ℕ) (o : Option Expr) (k : ℕ) (w v : List ℕ) → ContIn b o k w v → GoesIn (inPieces (λ e. last b e k) o) (λ j. inPieces (λ e. follow b e k j) o) b o w v
 goes-in b (some e) k w v c = goes-on b e k w v c
 
 pub nothing-in : (o : Option Expr) (w : List ℕ) → nothingIn o ≡ true → LeavesIn o w w
@@ -93,16 +97,20 @@ pub record After (b : ℕ) (r : Branch) (k : ℕ) (w : List ℕ) : Type 0 where
   pub goes : ContIn b (r .pieces) k w behind
   pub to-end : r .end ≡ true → behind ≡ []
 
+-- the branch takes a key with an atom that may come, and matches on after it
+abbrev pub BranchStep : (ℕ → Branch → ℕ → Bool) → ℕ → Branch → List ℕ → Type 0
+BranchStep may b r w = Step (may b r) (holdsOf b r) (After b r) w
+
 module _ (b : ℕ) (r : Branch) where
   -- it begins by taking nothing, or with a first atom
-  pub at-begins : (w : List ℕ) → At r w → ((nothingIn (r .pieces) ≡ true) × (r .end ≡ true → w ≡ [])) ⊎ Step (firstOf b r) (holdsOf b r) (After b r) w
+  pub at-begins : (w : List ℕ) → At r w → ((nothingIn (r .pieces) ≡ true) × (r .end ≡ true → w ≡ [])) ⊎ BranchStep firstOf b r w
   at-begins w a =
       ⊎-elim
       (λ i. inl (i .0, λ e. i .1 ∙ a .to-end e))
       (λ s. inr (lifted s refl (λ k i. i) (λ k c i. i) (λ k v c. record { behind = a .behind; goes = c; to-end = a .to-end })))
       (starts-in b (r .pieces) w (a .behind) (a .leaves))
 
-  pub begins-at : (w : List ℕ) → Step (firstOf b r) (holdsOf b r) (After b r) w → At r w
+  pub begins-at : (w : List ℕ) → BranchStep firstOf b r w → At r w
   begins-at w s =
       let g = s .goes in
       record {

@@ -65,13 +65,21 @@ pub record Step (may : ℕ → Bool) (has : ℕ → ℕ → Bool) (On : ℕ → 
   pub holding : has which taken ≡ true
   pub goes : On which rest
 
+-- nothing of w is taken where that may end, or a step is
+abbrev pub EndsOr : Bool → (ℕ → Bool) → (ℕ → ℕ → Bool) → (ℕ → List ℕ → Type 0) → List ℕ → List ℕ → Type 0
+EndsOr ends may has On w v = ((ends ≡ true) × (w ≡ v)) ⊎ Step may has On w
+
 -- e takes nothing and may end, or takes a step
 abbrev pub Goes : Bool → (ℕ → Bool) → ℕ → Expr → List ℕ → List ℕ → Type 0
-Goes ends may b e w v = ((ends ≡ true) × (w ≡ v)) ⊎ Step may (holds b e) (λ k r. Cont b e k r v) w
+Goes ends may b e w v = EndsOr ends may (holds b e) (λ k r. Cont b e k r v) w v
+
+-- n has every number that m has
+abbrev pub Wider : (ℕ → Bool) → (ℕ → Bool) → Type 0
+Wider m n = (k : ℕ) → m k ≡ true → n k ≡ true
 
 -- a step of a part is one of the whole
 module _ {m n : ℕ → Bool} {H I : ℕ → ℕ → Bool} {F G : ℕ → List ℕ → Type 0} where
-  pub lifted : {w u : List ℕ} (s : Step m H F u) → w ≡ u → ((k : ℕ) → m k ≡ true → n k ≡ true) → ((k c : ℕ) → H k c ≡ true → I k c ≡ true) → ((k : ℕ) (r : List ℕ) → F k r → G k r) → Step n I G w
+  pub lifted : {w u : List ℕ} (s : Step m H F u) → w ≡ u → Wider m n → ((k : ℕ) → Wider (H k) (I k)) → ((k : ℕ) (r : List ℕ) → F k r → G k r) → Step n I G w
   lifted s i may has goes =
       record {
         taken = s .taken;
@@ -83,7 +91,7 @@ module _ {m n : ℕ → Bool} {H I : ℕ → ℕ → Bool} {F G : ℕ → List �
         goes = goes (s .which) (s .rest) (s .goes);
       }
 
-  pub kept : {x y : Bool} {w v : List ℕ} → ((x ≡ true) × (w ≡ v)) ⊎ Step m H F w → (x ≡ true → y ≡ true) → ((k : ℕ) → m k ≡ true → n k ≡ true) → ((k c : ℕ) → H k c ≡ true → I k c ≡ true) → ((k : ℕ) (r : List ℕ) → F k r → G k r) → ((y ≡ true) × (w ≡ v)) ⊎ Step n I G w
+  pub kept : {x y : Bool} {w v : List ℕ} → EndsOr x m H F w v → (x ≡ true → y ≡ true) → Wider m n → ((k : ℕ) → Wider (H k) (I k)) → ((k : ℕ) (r : List ℕ) → F k r → G k r) → EndsOr y n I G w v
   kept (inl i) ends may has goes = inl (ends (i .0), i .1)
   kept (inr s) ends may has goes = inr (lifted s refl may has goes)
 

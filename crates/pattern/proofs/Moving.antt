@@ -90,6 +90,14 @@ module _ (t : Pattern) (few : atomCount t ≤ 29) (x c : ℕ) (l : lineKey c ≡
   abbrev ending : Bool
   ending = common 64 entered (atomWord (endsFree t))
 
+  -- the word of the states that are led to: the atoms, mid-line, and found for two reasons
+  abbrev ledWord : ℕ
+  ledWord = bitOr (bitOr entered (cond moving 2 0)) (bitOr (cond always 4 0) (cond ending 4 0))
+
+  -- and whether state p is one of them
+  abbrev ledTo : ℕ → Bool
+  ledTo p = (from (λ q. atomState (into t q c) p) || (moving && eqb 1 p)) || ((always && eqb 2 p) || (ending && eqb 2 p))
+
   from-none : from (λ q. false) ≡ false
   from-none = any-none 32 (λ q. bit x q && false) (λ q. and-false (bit x q))
 
@@ -135,7 +143,7 @@ module _ (t : Pattern) (few : atomCount t ≤ 29) (x c : ℕ) (l : lineKey c ≡
       ∙ from-same (λ q. anyBelow 32 (λ p. atomState (into t q c) p && atomState (endsFree t) p)) (λ q. intoEnd t q c) (λ q h. ends-is q)
 
   -- the states that are led to, by their numbers
-  led : (p : ℕ) → p < 32 → ((from (λ q. atomState (into t q c) p) || (moving && eqb 1 p)) || ((always && eqb 2 p) || (ending && eqb 2 p))) ≡ from (λ q. target t q c p)
+  led : (p : ℕ) → p < 32 → ledTo p ≡ from (λ q. target t q c p)
   unfolding target
   led zero h = simp (and-false, or-false)
   led (suc zero) h = into-mid (from (λ q. false)) moving always ending from-none ∙ moving-is
@@ -164,16 +172,16 @@ module _ (t : Pattern) (few : atomCount t ≤ 29) (x c : ℕ) (l : lineKey c ≡
       back = omega arith
 
   -- the words of a move are the set of the states that it leads to
-  pub advanced : bitOr (bitOr entered (cond moving 2 0)) (bitOr (cond always 4 0) (cond ending 4 0)) ≡ word 32 (λ p. anyBelow 32 (λ q. bit x q && move t q c p))
+  pub advanced : ledWord ≡ word 32 (λ p. anyBelow 32 (λ q. bit x q && move t q c p))
   unfolding move
   advanced =
-      word-unique 32 (bitOr (bitOr entered (cond moving 2 0)) (bitOr (cond always 4 0) (cond ending 4 0))) (λ p. from (λ q. move t q c p))
+      word-unique 32 ledWord (λ p. from (λ q. move t q c p))
       (or-lt 32 (bitOr entered (cond moving 2 0)) (bitOr (cond always 4 0) (cond ending 4 0))
       (or-lt 32 entered (cond moving 2 0) (entered-lt t c (key-byte c l) x) (chosen-lt moving 2 (omega arith)))
       (or-lt 32 (cond always 4 0) (cond ending 4 0) (chosen-lt always 4 (omega arith)) (chosen-lt ending 4 (omega arith))))
       (λ p h. spelled p h ∙ led p h ∙ from-same (λ q. target t q c p) (λ q. lineKey c && target t q c p) (λ q i. rw l refl))
     where
-      spelled : (p : ℕ) → p < 32 → bit (bitOr (bitOr entered (cond moving 2 0)) (bitOr (cond always 4 0) (cond ending 4 0))) p ≡ ((from (λ q. atomState (into t q c) p) || (moving && eqb 1 p)) || ((always && eqb 2 p) || (ending && eqb 2 p)))
+      spelled : (p : ℕ) → p < 32 → bit ledWord p ≡ ledTo p
       spelled p h =
           spell entered (cond moving 2 0) (cond always 4 0) (cond ending 4 0) p
           (entered-bit t c (key-byte c l) x p h)

@@ -47,8 +47,12 @@ pub record AcceptedAs (p : List ℕ) (a : Accepting) (keys enter : List ℕ) : T
   pub reading : readPattern p ≡ accepted tree
   pub tables : Automaton tree keys enter a
 
+-- v is the answer for the pattern p
+abbrev pub AnswersFor : List ℕ → Verdict → Type 0
+AnswersFor p v = verdictFigures v ≡ readFigures (readPattern p)
+
 -- what `read_pattern` promises
-module _ (p keys enter keys' enter' : List ℕ) {v : Verdict} (f : verdictFigures v ≡ readFigures (readPattern p)) (k : keys' ≡ keysRead (readPattern p) keys) (n : enter' ≡ enterRead (readPattern p) enter) where
+module _ (p keys enter keys' enter' : List ℕ) {v : Verdict} (f : AnswersFor p v) (k : keys' ≡ keysRead (readPattern p) keys) (n : enter' ≡ enterRead (readPattern p) enter) where
   pub read-accepted : {a : Accepting} → v ≡ Verdict.Accepted a → AcceptedAs p a keys' enter'
   read-accepted {a} h = go (readPattern p) refl (sym (ap verdictFigures h) ∙ f) k n
     where

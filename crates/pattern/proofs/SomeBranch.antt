@@ -48,7 +48,14 @@ some-meet k P Q f g b (r ∷ rs) (inr p) (inr q) = inr (some-meet k P Q f g (b +
 
 -- a step of some branch is one of the pattern, and the other way round
 module _ (m : ℕ → Branch → ℕ → Bool) (H : ℕ → Branch → ℕ → ℕ → Bool) (G : ℕ → Branch → ℕ → List ℕ → Type 0) where
-  pub some-step : (b : ℕ) (t : Pattern) (w : List ℕ) → Some (λ d r. Step (m d r) (H d r) (G d r) w) b t → Step (λ k. someBranch (λ d r. m d r k) b t) (λ k c. someBranch (λ d r. H d r k c) b t) (λ k v. Some (λ d r. G d r k v) b t) w
+  -- some branch takes the step, or the pattern does
+  abbrev pub SomeSteps : ℕ → Pattern → List ℕ → Type 0
+  SomeSteps b t w = Some (λ d r. Step (m d r) (H d r) (G d r) w) b t
+
+  abbrev pub PatternSteps : ℕ → Pattern → List ℕ → Type 0
+  PatternSteps b t w = Step (λ k. someBranch (λ d r. m d r k) b t) (λ k c. someBranch (λ d r. H d r k c) b t) (λ k v. Some (λ d r. G d r k v) b t) w
+
+  pub some-step : (b : ℕ) (t : Pattern) (w : List ℕ) → SomeSteps b t w → PatternSteps b t w
   unfolding someBranch
   some-step b (r ∷ rs) w (inl s) =
       lifted s refl
@@ -62,7 +69,7 @@ module _ (m : ℕ → Branch → ℕ → Bool) (H : ℕ → Branch → ℕ → �
       (λ k v g. inr g)
 
   module _ (tells-m : (k : ℕ) → Tells k (λ d r. m d r k ≡ true)) (tells-H : (k c : ℕ) → Tells k (λ d r. H d r k c ≡ true)) (tells-G : (k : ℕ) (v : List ℕ) → Tells k (λ d r. G d r k v)) where
-    pub step-some : (b : ℕ) (t : Pattern) (w : List ℕ) → Step (λ k. someBranch (λ d r. m d r k) b t) (λ k c. someBranch (λ d r. H d r k c) b t) (λ k v. Some (λ d r. G d r k v) b t) w → Some (λ d r. Step (m d r) (H d r) (G d r) w) b t
+    pub step-some : (b : ℕ) (t : Pattern) (w : List ℕ) → PatternSteps b t w → SomeSteps b t w
     step-some b t w s =
         let k = s .which in
         let c = s .taken in

@@ -41,8 +41,12 @@ atoms-none X e = word-ext 32 (λ p. atomState X p) (λ p. false) (λ p h. rw (e 
     none true = refl
     none false = refl
 
+-- an entry with the atoms that have X too
+abbrev pub withAtoms : ℕ → (ℕ → Bool) → ℕ
+withAtoms x X = bitOr x (atomWord X)
+
 -- a word that is added where a test holds
-pub added-if : (t : Bool) (F : ℕ → Bool) (y : ℕ) → cond t (bitOr y (atomWord F)) y ≡ bitOr y (atomWord (λ j. t && F j))
+pub added-if : (t : Bool) (F : ℕ → Bool) (y : ℕ) → cond t (withAtoms y F) y ≡ withAtoms y (λ j. t && F j)
 added-if true F y = refl
 added-if false F y = rw (atoms-none (λ j. false) (λ j. refl)) (sym (or-zero-r y))
 
@@ -50,7 +54,7 @@ pub atoms-same : (X Y : ℕ → Bool) → ((k : ℕ) → X k ≡ Y k) → atomWo
 atoms-same X Y e = word-ext 32 (λ p. atomState X p) (λ p. atomState Y p) (λ p h. rw (e (p - 3)))
 
 -- two parts add their atoms, one after the other
-pub both-added : (X Y Z : ℕ → Bool) → ((k : ℕ) → (X k || Y k) ≡ Z k) → (x : ℕ) → bitOr (bitOr x (atomWord X)) (atomWord Y) ≡ bitOr x (atomWord Z)
+pub both-added : (X Y Z : ℕ → Bool) → ((k : ℕ) → (X k || Y k) ≡ Z k) → (x : ℕ) → withAtoms (withAtoms x X) Y ≡ withAtoms x Z
 both-added X Y Z e x = or-assoc x (atomWord X) (atomWord Y) ∙ ap (λ (y : ℕ). bitOr x y) (atoms-or X Y ∙ atoms-same (λ k. X k || Y k) Z e)
 
 -- which states stand in a word of atoms
@@ -70,7 +74,7 @@ atoms-bit L s = go (ltb s 32) refl
     go false h = rw h (word-high 32 (λ p. atomState L p) s (ltb-false s 32 h) ∙ none (leb 3 s) (L (s - 3)))
 
 -- an entry that is linked: state s has P, and F too if it is one of L
-link-entry : (P F L Z : ℕ → Bool) (s x : ℕ) → ((j : ℕ) → (P j || ((isAtom s && L (s - 3)) && F j)) ≡ Z j) → cond (bit (atomWord L) s) (bitOr (bitOr x (atomWord P)) (atomWord F)) (bitOr x (atomWord P)) ≡ bitOr x (atomWord Z)
+link-entry : (P F L Z : ℕ → Bool) (s x : ℕ) → ((j : ℕ) → (P j || ((isAtom s && L (s - 3)) && F j)) ≡ Z j) → cond (bit (atomWord L) s) (withAtoms (withAtoms x P) F) (withAtoms x P) ≡ withAtoms x Z
 link-entry P F L Z s x e =
     rw (atoms-bit L s)
     (added-if (isAtom s && L (s - 3)) F (bitOr x (atomWord P)) ∙ both-added P (λ j. (isAtom s && L (s - 3)) && F j) Z e x)

@@ -92,29 +92,31 @@ repeat-from l mid rest p e h r = go (eqb (at 0 mid) 42) (eqb (at 0 mid) 43) (eqb
     go false false true a b c q = let (same, after) = same-parsed q in rw (← same, ← after) (marked 63 (omega arith) c, h .1)
     go false false false a b c q = let (same, after) = same-parsed q in rw (← same, ← after) (h .0, formed-looser p 0 (h .1))
 
--- after a branch of an alternative list, with the others
-alts-from : (f : ℕ) (l mid rest : List ℕ) (p e : Expr) → Expr-from Mode.branch l p mid → Reads-from f Mode.alts (drop 1 mid) rest → altsBy (eqb (at 0 mid) 124) f p mid ≡ parsed e rest → Expr-from Mode.alts l e rest
-unfolding write formed
-alts-from f l mid rest p e h ih r = go (eqb (at 0 mid) 124) refl r
-  where
-    go : (t : Bool) → eqb (at 0 mid) 124 ≡ t → altsBy t f p mid ≡ parsed e rest → Expr-from Mode.alts l e rest
-    go true t r =
-        let (q, same, others) = made-parsed (readExpr f Mode.alts (drop 1 mid)) (λ q. alt p q) e rest r in
-        let (there, formed-q) = ih q others in
-        rw same (rw (append-assoc (write p) (124 ∷ write q) rest, ← there, ← front mid 124 (omega arith) t) (h .0), rw (h .1) formed-q)
-    go false t r = let (same, after) = same-parsed r in rw (← same, ← after) (h .0, formed-looser p 2 (h .1))
+-- p was read of l, and e of it and what is behind it
+module _ (f : ℕ) (l mid rest : List ℕ) (p e : Expr) where
+  -- after a branch of an alternative list, with the others
+  alts-from : Expr-from Mode.branch l p mid → Reads-from f Mode.alts (drop 1 mid) rest → altsBy (eqb (at 0 mid) 124) f p mid ≡ parsed e rest → Expr-from Mode.alts l e rest
+  unfolding write formed
+  alts-from h ih r = go (eqb (at 0 mid) 124) refl r
+    where
+      go : (t : Bool) → eqb (at 0 mid) 124 ≡ t → altsBy t f p mid ≡ parsed e rest → Expr-from Mode.alts l e rest
+      go true t r =
+          let (q, same, others) = made-parsed (readExpr f Mode.alts (drop 1 mid)) (λ q. alt p q) e rest r in
+          let (there, formed-q) = ih q others in
+          rw same (rw (append-assoc (write p) (124 ∷ write q) rest, ← there, ← front mid 124 (omega arith) t) (h .0), rw (h .1) formed-q)
+      go false t r = let (same, after) = same-parsed r in rw (← same, ← after) (h .0, formed-looser p 2 (h .1))
 
--- after a piece of a branch, with the others
-branch-from : (f : ℕ) (l mid rest : List ℕ) (p e : Expr) → Expr-from Mode.piece l p mid → Reads-from f Mode.branch mid rest → piecesBy (endsPieces (at 0 mid)) f p mid ≡ parsed e rest → Expr-from Mode.branch l e rest
-unfolding write formed
-branch-from f l mid rest p e h ih r = go (endsPieces (at 0 mid)) r
-  where
-    go : (t : Bool) → piecesBy t f p mid ≡ parsed e rest → Expr-from Mode.branch l e rest
-    go true r = let (same, after) = same-parsed r in rw (← same, ← after) (h .0, formed-looser p 1 (h .1))
-    go false r =
-        let (q, same, others) = made-parsed (readExpr f Mode.branch mid) (λ q. seq p q) e rest r in
-        let (there, formed-q) = ih q others in
-        rw same (rw (append-assoc (write p) (write q) rest, ← there) (h .0), rw (h .1) formed-q)
+  -- after a piece of a branch, with the others
+  branch-from : Expr-from Mode.piece l p mid → Reads-from f Mode.branch mid rest → piecesBy (endsPieces (at 0 mid)) f p mid ≡ parsed e rest → Expr-from Mode.branch l e rest
+  unfolding write formed
+  branch-from h ih r = go (endsPieces (at 0 mid)) r
+    where
+      go : (t : Bool) → piecesBy t f p mid ≡ parsed e rest → Expr-from Mode.branch l e rest
+      go true r = let (same, after) = same-parsed r in rw (← same, ← after) (h .0, formed-looser p 1 (h .1))
+      go false r =
+          let (q, same, others) = made-parsed (readExpr f Mode.branch mid) (λ q. seq p q) e rest r in
+          let (there, formed-q) = ih q others in
+          rw same (rw (append-assoc (write p) (write q) rest, ← there) (h .0), rw (h .1) formed-q)
 
 -- an atom or a group
 single-from : (f : ℕ) (l mid : List ℕ) (e : Expr) → isLine l ≡ true → Reads-from f Mode.group (drop 1 l) mid → singleBy (eqb (at 0 l) 40) f l ≡ parsed e mid → Single-from l e mid

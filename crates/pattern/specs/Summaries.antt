@@ -13,7 +13,7 @@ use Rattle.pattern.specs.declared.summary.Summary.{Summary}
 use Rattle.brackets.specs.Brackets.{Parsed, parsed, fault}
 use Rattle.pattern.specs.Reader.{readBranches}
 use Rattle.pattern.specs.Branches.{shapeIn, keysIn, enterIn}
-use Rattle.pattern.specs.Form.{Expr, Pattern, atomsIn, atomCount}
+use Rattle.pattern.specs.Form.{Expr, Branch, Pattern, atomsIn, atomCount}
 
 -- a summary with one branch more
 abbrev pub branchSummary : Summary → Bool → Shape → Bool → Summary
@@ -26,10 +26,14 @@ branchSummary a start p end = record {
   jump = a .jump || (p .nothing && not (start && end));
 }
 
+-- the same of a branch whose atoms have the numbers from b on
+abbrev pub withBranch : ℕ → Branch → Summary → Summary
+withBranch b r a = branchSummary a (r .start) (shapeIn b (r .pieces)) (r .end)
+
 -- branches one after the other, whose atoms have the numbers from b on
 unfoldable pub summaryOf : ℕ → Pattern → Summary → Summary
 summaryOf b [] a = a
-summaryOf b (r ∷ rs) a = summaryOf (b + atomsIn (r .pieces)) rs (branchSummary a (r .start) (shapeIn b (r .pieces)) (r .end))
+summaryOf b (r ∷ rs) a = summaryOf (b + atomsIn (r .pieces)) rs (withBranch b r a)
 
 -- and a table that the pieces of each change
 unfoldable pub through : (ℕ → Option Expr → List ℕ → List ℕ) → ℕ → Pattern → List ℕ → List ℕ

@@ -36,8 +36,14 @@ linked from to enter = mapWith (λ q x. cond (bit from q) (bitOr x to) x) 0 ente
 abbrev pub shapeOf : ℕ → Expr → Shape
 shapeOf b e = record { nothing = nothing e; first = atomWord (first b e); last = atomWord (last b e) }
 
+abbrev pub seqFirst : Shape → Shape → ℕ
+seqFirst p q = cond (p .nothing) (bitOr (p .first) (q .first)) (p .first)
+
+abbrev pub seqLast : Shape → Shape → ℕ
+seqLast p q = cond (q .nothing) (bitOr (q .last) (p .last)) (q .last)
+
 abbrev pub seqShape : Shape → Shape → Shape
-seqShape p q = record { nothing = p .nothing && q .nothing; first = cond (p .nothing) (bitOr (p .first) (q .first)) (p .first); last = cond (q .nothing) (bitOr (q .last) (p .last)) (q .last) }
+seqShape p q = record { nothing = p .nothing && q .nothing; first = seqFirst p q; last = seqLast p q }
 
 abbrev pub altShape : Shape → Shape → Shape
 altShape p q = record { nothing = p .nothing || q .nothing; first = bitOr (p .first) (q .first); last = bitOr (p .last) (q .last) }
