@@ -18,7 +18,7 @@ use Rattle.brackets.specs.Brackets.{Parsed, parsed, fault, next, done, at, read
 use Rattle.pattern.specs.Reader.{Mode, endsPieces, readRepeat, readExpr}
 use Rattle.pattern.specs.States.{nothing, first, last, follow, holds, atomState}
 use Rattle.pattern.specs.Tables.{keysAfter, enterAfter, linked, shapeOf, seqShape, altShape}
-use Rattle.pattern.specs.Cycle.{pastByte, Ready, Done, room, ReadsIn, Reads, AtomDone, ReadsAtom, repeatEnter, repeated}
+use Rattle.pattern.specs.Cycle.{pastByte, Ready, Done, room, ReadsIn, Reads, AtomDone, ReadsAtom, repeatEnter, repeatPart}
 use Rattle.pattern.proofs.TreesFrom.{expr-from, group-group, markedBy}
 use Rattle.pattern.proofs.Atoms.{inside}
 use Rattle.pattern.proofs.Tables.{keys-seq, keys-alt, enter-seq, enter-alt, enter-again, enter-atom, first-seq, last-seq, first-alt, last-alt}
@@ -356,7 +356,7 @@ enterBy t u p enter = cond (t || u) (linked (p .last) (p .first) enter) enter
 
 -- an atom or a group was read, and a mark of repetition m or none stands behind it
 module _ {s rest keys enter keys' enter' : List ℕ} {c d : Cursor} {e : Expr} {p : Shape} (v : Behind s c d e rest) (made : Made (c .atoms) e p keys enter keys' enter') where
-  done-repeat : (m : ℕ) → m ≡ getD s (d .at) 0 → (y : Part) (after : List ℕ) → y ≡ repeated m d p → after ≡ repeatEnter m p enter' → Done (length s) c keys enter y keys' after (readRepeat e rest)
+  done-repeat : (m : ℕ) → m ≡ getD s (d .at) 0 → (y : Part) (after : List ℕ) → y ≡ repeatPart m d p → after ≡ repeatEnter m p enter' → Done (length s) c keys enter y keys' after (readRepeat e rest)
   unfolding readRepeat atoms nothing first last follow holds
   done-repeat m em y after ey ea = rw (ey, ea, front) (go (eqb m 42) (eqb m 43) (eqb m 63) refl refl refl)
     where
@@ -398,7 +398,7 @@ module _ (s : List ℕ) (c : Cursor) (r : Ready s c) (keys enter : List ℕ) (b 
     piece-fault e = deeper Mode.piece s c keys enter Part.Fault keys' enter' (λ k g. rw (opened, paren, drop-drop 1 (c .at) s, unread s (pastByte c) r2 Mode.group keys enter x keys' enter' h e k (omega (arith, r2 .inside))) refl)
 
     module _ (d : Cursor) (p : Shape) (e : x ≡ Part.Read d p) (m : ℕ) (em : m ≡ getD s (d .at) 0) where
-      pub piece-group : (y : Part) (after : List ℕ) → y ≡ repeated m d p → after ≡ repeatEnter m p enter' → Reads Mode.piece s c keys enter y keys' after
+      pub piece-group : (y : Part) (after : List ℕ) → y ≡ repeatPart m d p → after ≡ repeatEnter m p enter' → Reads Mode.piece s c keys enter y keys' after
       unfolding readExpr
       piece-group y after ey ea = deeper Mode.piece s c keys enter y keys' after (λ k g. go k (view s (pastByte c) r2 Mode.group keys enter x keys' enter' h d p e k (omega (arith, r2 .inside))))
         where
@@ -418,7 +418,7 @@ module _ (s : List ℕ) (c : Cursor) (r : Ready s c) (keys enter : List ℕ) (b 
         go fault i = refl
 
     module _ (d : Cursor) (p : Shape) (e : x ≡ Part.Read d p) (m : ℕ) (em : m ≡ getD s (d .at) 0) where
-      pub piece-atom : (y : Part) (after : List ℕ) → y ≡ repeated m d p → after ≡ repeatEnter m p enter → Reads Mode.piece s c keys enter y keys' after
+      pub piece-atom : (y : Part) (after : List ℕ) → y ≡ repeatPart m d p → after ≡ repeatEnter m p enter → Reads Mode.piece s c keys enter y keys' after
       unfolding readExpr atoms
       piece-atom y after ey ea = deeper Mode.piece s c keys enter y keys' after (λ k g. rw (opened, ne-eqb _ _ plain-one) (go (readAtom (drop (c .at) s)) refl h))
         where

@@ -6,7 +6,7 @@ use lib.Bits.{bitOr}
 use Rattle.pattern.specs.declared.shape.Shape.{Shape}
 use Rattle.pattern.specs.declared.summary.Summary.{Summary}
 use Rattle.pattern.specs.Tables.{seqFirst, seqLast, seqShape, altShape}
-use Rattle.pattern.specs.Summaries.{branchSummary}
+use Rattle.pattern.specs.Summaries.{firstWith, freeWith, endsWith, anchoredWith, summaryWith, branchSummary}
 
 module _ (p q : Shape) {f l : ℕ} where
   pub either-made : f ≡ bitOr (p .first) (q .first) → l ≡ bitOr (p .last) (q .last) → _≡_ {A = Shape} (record { nothing = p .nothing || q .nothing; first = f; last = l }) (altShape p q)
@@ -15,7 +15,6 @@ module _ (p q : Shape) {f l : ℕ} where
   pub sequence-made : f ≡ seqFirst p q → l ≡ seqLast p q → _≡_ {A = Shape} (record { nothing = p .nothing && q .nothing; first = f; last = l }) (seqShape p q)
   sequence-made g h = rw (g, h) refl
 
-pub branch-made : (a : Summary) (start : Bool) (p : Shape) (end : Bool) {f r e n : ℕ} → f ≡ bitOr (a .first) (p .first) → r ≡ cond (not start) (bitOr (a .free) (p .first)) (a .free) →
-    e ≡ cond (not end) (bitOr (a .ends) (p .last)) (a .ends) → n ≡ cond end (bitOr (a .anchored) (p .last)) (a .anchored) →
-    _≡_ {A = Summary} (record { first = f; free = r; ends = e; anchored = n; empty = a .empty || p .nothing; jump = a .jump || (p .nothing && not (start && end)) }) (branchSummary a start p end)
-branch-made a start p end g h i j = rw (g, h, i, j) refl
+module _ (a : Summary) (start : Bool) (p : Shape) (end : Bool) {f r e n : ℕ} where
+  pub branch-made : f ≡ firstWith a p → r ≡ freeWith a start p → e ≡ endsWith a p end → n ≡ anchoredWith a p end → summaryWith a start p end f r e n ≡ branchSummary a start p end
+  branch-made g h i j = rw (g, h, i, j) refl

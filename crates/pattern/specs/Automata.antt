@@ -64,11 +64,16 @@ abbrev pub enterRead : Read → List ℕ → List ℕ
 enterRead (accepted t) enter = enterTable t
 enterRead (refused r) enter = enter
 
--- what the branches come to, with n atoms
+-- what the branches come to: the states in which a line always matches, and those in which it does at its end
+abbrev pub alwaysOf : Summary → ℕ
+alwaysOf a = bitOr 4 (cond (a .jump) 1 0)
+
+abbrev pub acceptsOf : Summary → ℕ
+acceptsOf a = bitOr (bitOr 4 (cond (a .empty) 1 0)) (a .anchored)
+
+-- and all of it, with n atoms
+abbrev pub acceptingWith : Summary → ℕ → ℕ → ℕ → Accepting
+acceptingWith a always accepting states = record { always = always; ends = a .ends; accepting = accepting; states = states }
+
 abbrev pub acceptingOf : Summary → ℕ → Accepting
-acceptingOf a n = record {
-  always = bitOr 4 (cond (a .jump) 1 0);
-  ends = a .ends;
-  accepting = bitOr (bitOr 4 (cond (a .empty) 1 0)) (a .anchored);
-  states = 3 + n;
-}
+acceptingOf a n = acceptingWith a (alwaysOf a) (acceptsOf a) (3 + n)

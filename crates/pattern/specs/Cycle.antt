@@ -70,5 +70,5 @@ abbrev pub repeatAt : ℕ → ℕ → ℕ
 repeatAt b at = cond (eqb b 42 || (eqb b 43 || eqb b 63)) (at + 1) at
 
 -- a part that was read up to the cursor d, with the mark b behind it, or none
-abbrev pub repeated : ℕ → Cursor → Shape → Part
-repeated b d p = Part.Read (record { at = repeatAt b (d .at); atoms = d .atoms }) (repeatShape b p)
+abbrev pub repeatPart : ℕ → Cursor → Shape → Part
+repeatPart b d p = Part.Read (record { at = repeatAt b (d .at); atoms = d .atoms }) (repeatShape b p)

@@ -15,16 +15,31 @@ use Rattle.pattern.specs.Reader.{readBranches}
 use Rattle.pattern.specs.Branches.{shapeIn, keysIn, enterIn}
 use Rattle.pattern.specs.Form.{Expr, Branch, Pattern, atomsIn, atomCount}
 
--- a summary with one branch more
-abbrev pub branchSummary : Summary → Bool → Shape → Bool → Summary
-branchSummary a start p end = record {
-  first = bitOr (a .first) (p .first);
-  free = cond (not start) (bitOr (a .free) (p .first)) (a .free);
-  ends = cond (not end) (bitOr (a .ends) (p .last)) (a .ends);
-  anchored = cond end (bitOr (a .anchored) (p .last)) (a .anchored);
+-- a summary with one branch more: its words, and the whole of them
+abbrev pub firstWith : Summary → Shape → ℕ
+firstWith a p = bitOr (a .first) (p .first)
+
+abbrev pub freeWith : Summary → Bool → Shape → ℕ
+freeWith a start p = cond (not start) (bitOr (a .free) (p .first)) (a .free)
+
+abbrev pub endsWith : Summary → Shape → Bool → ℕ
+endsWith a p end = cond (not end) (bitOr (a .ends) (p .last)) (a .ends)
+
+abbrev pub anchoredWith : Summary → Shape → Bool → ℕ
+anchoredWith a p end = cond end (bitOr (a .anchored) (p .last)) (a .anchored)
+
+abbrev pub summaryWith : Summary → Bool → Shape → Bool → ℕ → ℕ → ℕ → ℕ → Summary
+summaryWith a start p end first free ends anchored = record {
+  first = first;
+  free = free;
+  ends = ends;
+  anchored = anchored;
   empty = a .empty || p .nothing;
   jump = a .jump || (p .nothing && not (start && end));
 }
+
+abbrev pub branchSummary : Summary → Bool → Shape → Bool → Summary
+branchSummary a start p end = summaryWith a start p end (firstWith a p) (freeWith a start p) (endsWith a p end) (anchoredWith a p end)
 
 -- the same of a branch whose atoms have the numbers from b on
 abbrev pub withBranch : ℕ → Branch → Summary → Summary

@@ -32,7 +32,7 @@ count-requires : tie.Need-count-requires
 count-requires c κs = search needs
 
 returns : tie.Need-returns
-returns c = search (laws.summed-words)
+returns c = search (laws.summed-words, laws.always-made, laws.accepts-made)
 
 pub summed-spec : {M : Type 1} → statement M
 summed-spec = tie.close (tie.spec set-requires set-requires-2 chosen-requires union-requires chosen-requires-2 union-requires-2 union-requires-3 cast-count count-requires returns)
