@@ -2,13 +2,13 @@
 use Prim.Native.Nat.{ℕ, zero, suc, _+_, _*_, _≤_}
 use native.Mathlib.Omega.{arith}
 use mathlib.Core.Path.{_≡_, refl}
-use mathlib.Core.Bool.{Bool, true, false, not, _&&_, _||_, cond}
+use mathlib.Core.Bool.{Bool, true, false, not, _&&_, _||_}
 use mathlib.Core.List.{List, [], _∷_, _++_, append-assoc}
 use lib.Dec.{leb, eqb}
 use lib.ListN.{length, drop, length-append}
 use borrow.Author.Tests.{eqb-true, not-true}
 use Rattle.brackets.specs.Form.{Atom, writeAtom, formedAtom}
-use Rattle.brackets.specs.Brackets.{parsed, next, done, at, readAtom}
+use Rattle.brackets.specs.Brackets.{parsed, at}
 use Rattle.pattern.specs.Reader.{readRepeat, endsPieces, Mode, readExpr}
 use Rattle.pattern.proofs.TreesFrom.{singleBy}
 use Rattle.pattern.specs.Form.{Expr, atom, group, star, plus, opt, seq, alt, write, formed}
