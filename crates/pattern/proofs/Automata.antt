@@ -25,7 +25,7 @@ use Rattle.pattern.specs.Summaries.{withBranch, summaryOf, through, Patt
 use Rattle.pattern.specs.Moves.{enters}
 use Rattle.pattern.specs.Cycle.{Ready}
 use Rattle.refusal.specs.Figures.{answered}
-use Rattle.pattern.specs.Automata.{alwaysOf, acceptsOf, acceptingWith, keyTable, enterTable, accepts, acceptingOf, refusedPattern, readFigures, keysRead, enterRead}
+use Rattle.pattern.specs.Automata.{alwaysOf, acceptsOf, keyTable, enterTable, accepts, acceptingOf, refusedPattern, readFigures, keysRead, enterRead}
 use Rattle.brackets.proofs.Entries.{with-same, with-with, with-none, with-length, with-getD}
 use Rattle.pattern.proofs.Moving.{always-word, accepting-word}
 use Rattle.pattern.proofs.Tables.{atoms-none, atoms-same, withAtoms, both-added, added-if}
@@ -204,8 +204,8 @@ module _ (a : Summary) {start found : ℕ} (at-start : start ≡ 2 ^ 0 % 2 ^ 64)
   pub accepts-made : {y fixed accepting : ℕ} → y ≡ cond (a .empty) start 0 → fixed ≡ bitOr found y → accepting ≡ bitOr fixed (a .anchored) → accepting ≡ acceptsOf a
   accepts-made y z v = rw (v, z, y, at-found, at-start) refl
 
-pub summed-words : (a : Summary) (n : ℕ) {always accepting states : ℕ} → always ≡ alwaysOf a → accepting ≡ acceptsOf a → states ≡ 3 + n → acceptingWith a always accepting states ≡ acceptingOf a n
-summed-words a n w v c = rw (c, v, w) refl
+pub summed-words : (a : Summary) (n : ℕ) {w v c : ℕ} → w ≡ alwaysOf a → v ≡ acceptsOf a → c ≡ 3 + n → record { always = w; ends = a .ends; accepting = v; states = c } ≡ acceptingOf a n
+summed-words a n i j k = rw (k, j, i) refl
 
 -- the cursor at the start is ready where the pattern is
 pub start-ready : (s : List ℕ) (c : Cursor) → c ≡ record { at = 0; atoms = 0 } → Ready s (record { at = 0; atoms = 0 }) → Ready s c

@@ -72,8 +72,5 @@ abbrev pub acceptsOf : Summary → ℕ
 acceptsOf a = bitOr (bitOr 4 (cond (a .empty) 1 0)) (a .anchored)
 
 -- and all of it, with n atoms
-abbrev pub acceptingWith : Summary → ℕ → ℕ → ℕ → Accepting
-acceptingWith a always accepting states = record { always = always; ends = a .ends; accepting = accepting; states = states }
-
 abbrev pub acceptingOf : Summary → ℕ → Accepting
-acceptingOf a n = acceptingWith a (alwaysOf a) (acceptsOf a) (3 + n)
+acceptingOf a n = record { always = alwaysOf a; ends = a .ends; accepting = acceptsOf a; states = 3 + n }

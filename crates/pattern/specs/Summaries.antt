@@ -28,18 +28,15 @@ endsWith a p end = cond (not end) (bitOr (a .ends) (p .last)) (a .ends)
 abbrev pub anchoredWith : Summary → Shape → Bool → ℕ
 anchoredWith a p end = cond end (bitOr (a .anchored) (p .last)) (a .anchored)
 
-abbrev pub summaryWith : Summary → Bool → Shape → Bool → ℕ → ℕ → ℕ → ℕ → Summary
-summaryWith a start p end first free ends anchored = record {
-  first = first;
-  free = free;
-  ends = ends;
-  anchored = anchored;
+abbrev pub branchSummary : Summary → Bool → Shape → Bool → Summary
+branchSummary a start p end = record {
+  first = firstWith a p;
+  free = freeWith a start p;
+  ends = endsWith a p end;
+  anchored = anchoredWith a p end;
   empty = a .empty || p .nothing;
   jump = a .jump || (p .nothing && not (start && end));
 }
-
-abbrev pub branchSummary : Summary → Bool → Shape → Bool → Summary
-branchSummary a start p end = summaryWith a start p end (firstWith a p) (freeWith a start p) (endsWith a p end) (anchoredWith a p end)
 
 -- the same of a branch whose atoms have the numbers from b on
 abbrev pub withBranch : ℕ → Branch → Summary → Summary
