@@ -6,16 +6,16 @@ use Rattle.refusal.specs.declared.Refusal.{Refusal}
 use Rattle.refusal.specs.Figures.{Figures, refusedFor}
 use Rattle.pattern.specs.Form.{Pattern}
 use Rattle.pattern.specs.Reader.{Read, accepted, refused, readPattern}
-use Rattle.pattern.specs.Automata.{Automaton, verdictFigures, readFigures, keysRead, enterRead}
+use Rattle.pattern.specs.Automata.{Automaton}
 use Rattle.pattern.specs.declared.automaton.Accepting.{Accepting}
 use Rattle.pattern.specs.declared.automaton.Verdict.{Verdict}
 use Rattle.pattern.proofs.Readings.{read-accepted, read-refused}
 use Rattle.lines.specs.declared.line.LineTest.{LineTest}
 use Rattle.lines.specs.declared.run.RunCount.{RunCount}
 use Rattle.lines.specs.Answers.{lineFigures, runFigures, lineResult, runResult}
-use Rattle.lines.specs.Promises.{TestsLine, CountsRun}
+use Rattle.lines.specs.Promises.{VerdictOn, KeysFrom, EnterFrom, TestsLine, CountsRun}
 
-module _ (p keys enter keys' enter' : List ℕ) {v : Verdict} (figures : verdictFigures v ≡ readFigures (readPattern p)) (keyed : keys' ≡ keysRead (readPattern p) keys) (entered : enter' ≡ enterRead (readPattern p) enter) where
+module _ (p keys enter keys' enter' : List ℕ) {v : Verdict} (figures : VerdictOn p v) (keyed : KeysFrom p keys keys') (entered : EnterFrom p enter enter') where
   -- a refused pattern, whatever else is asked
   passed-on : {r : Refusal} → v ≡ Verdict.Refused r → (F : Read → Figures ℕ) → F (refused r) ≡ refusedFor r → refusedFor r ≡ F (readPattern p)
   passed-on e F f = sym (ap F (read-refused p keys enter keys' enter' figures keyed entered e) ∙ f)

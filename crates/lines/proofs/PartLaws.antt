@@ -24,6 +24,13 @@ first-whole (c ∷ u) h = go (λ i. first-whole u i) (eqb lineEnd c) h
     go f true i = clash (cc)
     go f false i = ap (λ (l : List ℕ). c ∷ l) (f i)
 
+-- the first part, and the later ones, of a run with one key more in front, which may be a line end
+abbrev firstOnto : Bool → ℕ → List ℕ → List ℕ
+firstOnto b c l = cond b [] (c ∷ l)
+
+abbrev laterOnto : Bool → List ℕ → List (List ℕ) → List (List ℕ)
+laterOnto b l ls = cond b (l ∷ ls) ls
+
 -- where one run follows another: the first part goes on into the second run, if there is no line end before
 abbrev pub firstThen : List ℕ → List (List ℕ) → List ℕ → List ℕ
 firstThen l [] v = l ++ firstPart v
@@ -34,7 +41,7 @@ unfolding firstPart laterParts
 first-append [] v = refl
 first-append (c ∷ u) v = go (eqb lineEnd c) (laterParts u) (first-append u v)
   where
-    go : (b : Bool) (ls : List (List ℕ)) → firstPart (u ++ v) ≡ firstThen (firstPart u) ls v → cond b [] (c ∷ firstPart (u ++ v)) ≡ firstThen (cond b [] (c ∷ firstPart u)) (cond b (firstPart u ∷ ls) ls) v
+    go : (b : Bool) (ls : List (List ℕ)) → firstPart (u ++ v) ≡ firstThen (firstPart u) ls v → firstOnto b c (firstPart (u ++ v)) ≡ firstThen (firstOnto b c (firstPart u)) (laterOnto b (firstPart u) ls) v
     go true ls e = refl
     go false [] e = ap (λ (l : List ℕ). c ∷ l) e
     go false (m ∷ ms) e = ap (λ (l : List ℕ). c ∷ l) e
@@ -49,7 +56,7 @@ unfolding laterParts
 later-append [] v = refl
 later-append (c ∷ u) v = go (eqb lineEnd c) (first-append u v) (later-append u v)
   where
-    go : (b : Bool) → firstPart (u ++ v) ≡ firstThen (firstPart u) (laterParts u) v → laterParts (u ++ v) ≡ laterThen (laterParts u) v → cond b (firstPart (u ++ v) ∷ laterParts (u ++ v)) (laterParts (u ++ v)) ≡ laterThen (cond b (firstPart u ∷ laterParts u) (laterParts u)) v
+    go : (b : Bool) {l : List ℕ} {ls : List (List ℕ)} → l ≡ firstThen (firstPart u) (laterParts u) v → ls ≡ laterThen (laterParts u) v → laterOnto b l ls ≡ laterThen (laterOnto b (firstPart u) (laterParts u)) v
     go true e f = rw (e, f) refl
     go false e f = f
 
@@ -67,32 +74,43 @@ module _ (u v : List ℕ) where
   pub later-kept : {l : List ℕ} {ls : List (List ℕ)} → laterParts u ≡ l ∷ ls → laterParts (u ++ v) ≡ firstThen l ls v ∷ laterThen ls v
   later-kept e = rw e at (later-append u v)
 
--- the last part then, and the count of those before it
-last-then : (l : List ℕ) (ls : List (List ℕ)) (v : List ℕ) → lastPart (firstThen l ls v) (laterThen ls v) ≡ lastPart (lastPart l ls ++ firstPart v) (laterParts v)
+-- how many of the parts before the last pass a test
+abbrev pub countBefore : (List ℕ → Bool) → List ℕ → List (List ℕ) → ℕ
+countBefore X l ls = countIn X (partsBefore l ls)
+
+-- the last part where run v follows the parts l and ls, and the count of those before it
+abbrev pub lastThen : List ℕ → List (List ℕ) → List ℕ → List ℕ
+lastThen l ls v = lastPart (firstThen l ls v) (laterThen ls v)
+
+abbrev pub countThen : (List ℕ → Bool) → List ℕ → List (List ℕ) → List ℕ → ℕ
+countThen X l ls v = countBefore X (firstThen l ls v) (laterThen ls v)
+
+-- the last part goes on into the second run
+last-then : (l : List ℕ) (ls : List (List ℕ)) (v : List ℕ) → lastThen l ls v ≡ lastPart (lastPart l ls ++ firstPart v) (laterParts v)
 unfolding lastPart
 last-then l [] v = refl
 last-then l (m ∷ ms) v = last-then m ms v
 
-before-then : (X : List ℕ → Bool) (l : List ℕ) (ls : List (List ℕ)) (v : List ℕ) → countIn X (partsBefore (firstThen l ls v) (laterThen ls v)) ≡ countIn X (partsBefore l ls) + countIn X (partsBefore (lastPart l ls ++ firstPart v) (laterParts v))
+before-then : (X : List ℕ → Bool) (l : List ℕ) (ls : List (List ℕ)) (v : List ℕ) → countThen X l ls v ≡ countBefore X l ls + countBefore X (lastPart l ls ++ firstPart v) (laterParts v)
 unfolding lastPart partsBefore countIn
 before-then X l [] v = sym (zero-add _)
 before-then X l (m ∷ ms) v = ap (λ (n : ℕ). cond (X l) 1 0 + n) (before-then X m ms v) ∙ sym (add-assoc (cond (X l) 1 0) _ _)
 
 -- where the second run has no line end, and where it has one
 module _ (l : List ℕ) (ls : List (List ℕ)) (v : List ℕ) where
-  pub last-open : laterParts v ≡ [] → lastPart (firstThen l ls v) (laterThen ls v) ≡ lastPart l ls ++ v
+  pub last-open : laterParts v ≡ [] → lastThen l ls v ≡ lastPart l ls ++ v
   unfolding lastPart
   last-open e = rw e at (last-then l ls v) ∙ ap (λ (w : List ℕ). lastPart l ls ++ w) (first-whole v e)
 
-  pub before-open : (X : List ℕ → Bool) → laterParts v ≡ [] → countIn X (partsBefore (firstThen l ls v) (laterThen ls v)) ≡ countIn X (partsBefore l ls)
+  pub before-open : (X : List ℕ → Bool) → laterParts v ≡ [] → countThen X l ls v ≡ countBefore X l ls
   unfolding partsBefore countIn
   before-open X e = rw e at (before-then X l ls v) ∙ add-zero (countIn X (partsBefore l ls))
 
-  pub last-closed : {m : List ℕ} {ms : List (List ℕ)} → laterParts v ≡ m ∷ ms → lastPart (firstThen l ls v) (laterThen ls v) ≡ lastPart m ms
+  pub last-closed : {m : List ℕ} {ms : List (List ℕ)} → laterParts v ≡ m ∷ ms → lastThen l ls v ≡ lastPart m ms
   unfolding lastPart
   last-closed e = rw e at (last-then l ls v)
 
-  pub before-closed : (X : List ℕ → Bool) {m : List ℕ} {ms : List (List ℕ)} → laterParts v ≡ m ∷ ms → countIn X (partsBefore (firstThen l ls v) (laterThen ls v)) ≡ countIn X (partsBefore l ls) + (cond (X (lastPart l ls ++ firstPart v)) 1 0 + countIn X (partsBefore m ms))
+  pub before-closed : (X : List ℕ → Bool) {m : List ℕ} {ms : List (List ℕ)} → laterParts v ≡ m ∷ ms → countThen X l ls v ≡ countBefore X l ls + (cond (X (lastPart l ls ++ firstPart v)) 1 0 + countBefore X m ms)
   unfolding partsBefore countIn
   before-closed X e = rw e at (before-then X l ls v)
 
@@ -149,7 +167,7 @@ pub last-one : (l : List ℕ) → lastPart l [] ≡ l
 unfolding lastPart
 last-one l = refl
 
-pub before-none : (X : List ℕ → Bool) (l : List ℕ) → countIn X (partsBefore l []) ≡ 0
+pub before-none : (X : List ℕ → Bool) (l : List ℕ) → countBefore X l [] ≡ 0
 unfolding partsBefore countIn
 before-none X l = refl
 
@@ -173,7 +191,11 @@ lines-parts (c ∷ w) = go (eqb lineEnd c) (firstPart w) (laterParts w) (lines-p
     go false (d ∷ f) [] e = rw e refl
     go false f (m ∷ ms) e = rw e refl
 
-count-parts : (X : List ℕ → Bool) (l : List ℕ) (ls : List (List ℕ)) → countIn X (linesOf l ls) ≡ countIn X (partsBefore l ls) + cond (isOpen (lastPart l ls) && X (lastPart l ls)) 1 0
+-- 1 if a last part counts: if it has a key and passes a test
+abbrev pub countLast : (List ℕ → Bool) → List ℕ → ℕ
+countLast X l = cond (isOpen l && X l) 1 0
+
+count-parts : (X : List ℕ → Bool) (l : List ℕ) (ls : List (List ℕ)) → countIn X (linesOf l ls) ≡ countBefore X l ls + countLast X (lastPart l ls)
 unfolding countIn partsBefore lastPart
 count-parts X [] [] = refl
 count-parts X (c ∷ l) [] = omega arith
@@ -181,11 +203,11 @@ count-parts X l (m ∷ ms) = ap (λ (n : ℕ). cond (X l) 1 0 + n) (count-parts 
 
 module _ (t : Pattern) (w : List ℕ) where
   -- a run without a line end is one line, if it has a key
-  pub matching-whole : laterParts w ≡ [] → matching t w ≡ cond (isOpen w && matches t w) 1 0
+  pub matching-whole : laterParts w ≡ [] → matching t w ≡ countLast (matches t) w
   unfolding matching countIn partsBefore lastPart
   matching-whole e = ap (countIn (matches t)) (rw e at (lines-parts w) ∙ ap lastOnly (first-whole w e)) ∙ count-parts (matches t) w [] ∙ zero-add _
 
   -- with line ends: the first line, those between, and the last part if it has a key
-  pub matching-parts : {l : List ℕ} {ls : List (List ℕ)} → laterParts w ≡ l ∷ ls → matching t w ≡ cond (matches t (firstPart w)) 1 0 + (countIn (matches t) (partsBefore l ls) + cond (isOpen (lastPart l ls) && matches t (lastPart l ls)) 1 0)
+  pub matching-parts : {l : List ℕ} {ls : List (List ℕ)} → laterParts w ≡ l ∷ ls → matching t w ≡ cond (matches t (firstPart w)) 1 0 + (countBefore (matches t) l ls + countLast (matches t) (lastPart l ls))
   unfolding matching countIn
   matching-parts {l} {ls} e = ap (countIn (matches t)) (rw e at (lines-parts w)) ∙ ap (λ (n : ℕ). cond (matches t (firstPart w)) 1 0 + n) (count-parts (matches t) l ls)

@@ -1,5 +1,5 @@
 -- Laws of the count over a plain run: what is known after some of its keys, and what it comes to.
-use Prim.Native.Nat.{ℕ, _+_, _%_, _^_, _<_, _≤_}
+use Prim.Native.Nat.{ℕ, _+_, _<_, _≤_}
 use native.Mathlib.Omega.{arith}
 use native.Mathlib.Nat.{zero-add}
 use native.Mathlib.Numerals.{add-one}
@@ -12,7 +12,6 @@ use lib.Seq.{take-all, take-suc, drop-cons}
 use borrow.Author.Tests.{eqb-true, ne-eqb}
 use Rattle.refusal.specs.declared.Refusal.the-variants.{InvalidKey}
 use Rattle.pattern.specs.Meaning.{matches}
-use Rattle.stateset.specs.Set.{common}
 use Rattle.lines.specs.declared.run.RunCount.{RunCount}
 use Rattle.lines.specs.declared.run.Tally.{Tally}
 use Rattle.lines.specs.Lines.{matching, isOpen}
@@ -26,10 +25,14 @@ use Rattle.runs.specs.Keys.{member, lineKey, isLine, lineEnd}
 use Rattle.runs.proofs.KeyLaws.{key-test, line-more, line-without, member-at, member-more}
 use Rattle.pattern.specs.declared.automaton.Accepting.{Accepting}
 use Rattle.pattern.specs.Automata.{Automaton}
-use Rattle.lines.specs.Moving.{reached, lookedUp}
+use Rattle.lines.specs.Moving.{startSet, accepts, reached, lookedUp}
 
--- two tallies of closed lines
-same-tally : {x y m n : ℕ} → x ≡ y → m ≡ n → _≡_ {A = Tally} (record { set = x; pending = false; lines = m }) (record { set = y; pending = false; lines = n })
+-- a tally of closed lines
+abbrev pub closedTally : ℕ → ℕ → Tally
+closedTally x n = record { set = x; pending = false; lines = n }
+
+-- two of them
+same-tally : {x y m n : ℕ} → x ≡ y → m ≡ n → _≡_ {A = Tally} (closedTally x m) (closedTally y n)
 same-tally e f = rw (e, f)
 
 -- and it makes a line that has a key
@@ -48,7 +51,7 @@ last-small false m e = omega arith
 
 -- One more key.
 module _ {keys enter : List ℕ} {p : Accepting} {a : Tally} {k : ℕ} where
-  pub after-end : {z x : ℕ} {m : Bool} → k ≡ lineEnd → z ≡ 2 ^ 0 % 2 ^ 64 → m ≡ common 64 (a .set) (p .accepting) → x ≡ cond m 1 0 → AfterKey keys enter p a k (record { set = z; pending = false; lines = a .lines + x })
+  pub after-end : {z x : ℕ} {m : Bool} → k ≡ lineEnd → z ≡ startSet → m ≡ accepts p (a .set) → x ≡ cond m 1 0 → AfterKey keys enter p a k (closedTally z (a .lines + x))
   unfolding tallyAfter
   after-end {z} {x} {m} e y f g =
       record {
@@ -67,13 +70,17 @@ module _ {keys enter : List ℕ} {p : Accepting} {a : Tally} {k : ℕ} where
             rw (no, g, looked-up h (a .set) k key, i, reached-more t (h .few) w k) refl;
       }
 
+-- the run's lines are n, and those from the keys of `line` and from place `at` on
+abbrev pub CountedTo : Pattern → List ℕ → ℕ → List ℕ → ℕ → Type 0
+CountedTo t run at line n = n + matching t (line ++ drop at run) ≡ matching t run
+
 -- the tally of the first `at` keys of a run
 pub record Tallied (t : Pattern) (run : List ℕ) (at : ℕ) (a : Tally) : Type 0 where
   pub line : List ℕ
   pub clean : isLine line ≡ true
   pub leads : a .set ≡ reached t line
   pub has-key : a .pending ≡ isOpen line
-  pub count : a .lines + matching t (line ++ drop at run) ≡ matching t run
+  pub count : CountedTo t run at line (a .lines)
 
 pub record RunSoFar (keys enter : List ℕ) (p : Accepting) (run : List ℕ) (a : Tally) (at : ℕ) : Type 0 where
   pub inside : at ≤ length run
@@ -82,7 +89,7 @@ pub record RunSoFar (keys enter : List ℕ) (p : Accepting) (run : List ℕ) (a 
   pub tallied : (t : Pattern) → Automaton t keys enter p → Tallied t run at a
 
 module _ {keys enter : List ℕ} {p : Accepting} {run : List ℕ} where
-  pub run-start : {z : ℕ} → z ≡ 2 ^ 0 % 2 ^ 64 → RunSoFar keys enter p run (record { set = z; pending = false; lines = 0 }) 0
+  pub run-start : {z : ℕ} → z ≡ startSet → RunSoFar keys enter p run (closedTally z 0) 0
   run-start e =
       record {
         inside = omega arith;
@@ -112,12 +119,12 @@ module _ {keys enter : List ℕ} {p : Accepting} {run : List ℕ} where
         rest : drop at run ≡ k ∷ drop (at + 1) run
         rest = drop-cons run at 0 h ∙ ap (λ (m : ℕ). k ∷ drop m run) (sym (add-one at))
 
-        closed : (t : Pattern) (w : List ℕ) → isLine w ≡ true → k ≡ lineEnd → b .lines ≡ a .lines + cond (matches t w) 1 0 → a .lines + matching t (w ++ drop at run) ≡ matching t run → b .lines + matching t (drop (at + 1) run) ≡ matching t run
+        closed : (t : Pattern) (w : List ℕ) → isLine w ≡ true → k ≡ lineEnd → b .lines ≡ a .lines + cond (matches t w) 1 0 → CountedTo t run at w (a .lines) → CountedTo t run (at + 1) [] (b .lines)
         closed t w l e f r =
             omega
             (arith, ap (λ (v : List ℕ). matching t (w ++ v)) (rest ∙ ap (λ (x : ℕ). x ∷ drop (at + 1) run) e), matching-closed t w (drop (at + 1) run) (line-without w lineEnd refl l))
 
-        longer : (t : Pattern) (w : List ℕ) → b .lines ≡ a .lines → a .lines + matching t (w ++ drop at run) ≡ matching t run → b .lines + matching t ((w ++ (k ∷ [])) ++ drop (at + 1) run) ≡ matching t run
+        longer : (t : Pattern) (w : List ℕ) → b .lines ≡ a .lines → CountedTo t run at w (a .lines) → CountedTo t run (at + 1) (w ++ (k ∷ [])) (b .lines)
         longer t w f r = rw (append-assoc, f, ← rest) r
 
         go : (t : Pattern) → Automaton t keys enter p → Tallied t run at a → (x : Bool) → eqb k lineEnd ≡ x → Tallied t run (at + 1) b
@@ -142,7 +149,7 @@ module _ {keys enter : List ℕ} {p : Accepting} {run : List ℕ} where
               count = longer t w (ap (λ (d : Tally). d .lines) f) (u .count);
             }
 
-    pub run-done : {m : Bool} {y : ℕ} → length run ≤ at → m ≡ common 64 (a .set) (p .accepting) → y ≡ cond (a .pending && m) 1 0 → CountsRun keys enter p run (RunCount.Lines (a .lines + y))
+    pub run-done : {m : Bool} {y : ℕ} → length run ≤ at → m ≡ accepts p (a .set) → y ≡ cond (a .pending && m) 1 0 → CountsRun keys enter p run (RunCount.Lines (a .lines + y))
     unfolding runResult CountsRun
     run-done {m} {y} h e g t i = rw none (ap answered total)
       where

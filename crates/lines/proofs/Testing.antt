@@ -1,5 +1,5 @@
 -- Laws of the one-line test: what is known after some keys of a line, and what it comes to.
-use Prim.Native.Nat.{ℕ, _+_, _%_, _^_, _<_, _≤_}
+use Prim.Native.Nat.{ℕ, _+_, _<_, _≤_}
 use native.Mathlib.Omega.{arith}
 use native.Mathlib.Numerals.{add-one}
 use mathlib.Core.Path.{_≡_, refl, sym, ap, _∙_}
@@ -15,7 +15,6 @@ use Rattle.refusal.specs.Figures.{answered}
 use Rattle.runs.specs.Keys.{member, lineKey, isLine, lineEnd}
 use Rattle.runs.proofs.Tests.{neither, or-cases, or-left, or-right}
 use Rattle.runs.proofs.KeyLaws.{key-test, line-more, line-without, member-at}
-use Rattle.stateset.specs.Set.{common}
 use Rattle.pattern.specs.Form.{Pattern}
 use Rattle.pattern.specs.Meaning.{matches}
 use Rattle.pattern.specs.Reader.{accepted}
@@ -23,9 +22,13 @@ use Rattle.pattern.specs.Automata.{Automaton}
 use Rattle.pattern.specs.declared.automaton.Accepting.{Accepting}
 use Rattle.lines.specs.declared.line.LineTest.{LineTest}
 use Rattle.lines.specs.Answers.{lineResult}
-use Rattle.lines.specs.Moving.{moved, reached, lookedUp}
+use Rattle.lines.specs.Moving.{moved, startSet, reached, accepts, lookedUp}
 use Rattle.lines.specs.Promises.{TestsLine}
 use Rattle.lines.proofs.Reaching.{looked-up, reached-none, reached-more, reached-matches}
+
+-- no key of a line: 0, or a line end
+abbrev pub endsLine : ℕ → Bool
+endsLine k = eqb k 0 || eqb k 10
 
 -- what is known after `at` keys of a line
 pub record LineSoFar (keys enter : List ℕ) (a : Accepting) (line : List ℕ) (set at : ℕ) : Type 0 where
@@ -34,11 +37,11 @@ pub record LineSoFar (keys enter : List ℕ) (a : Accepting) (line : List ℕ) (
   pub leads : (t : Pattern) → Automaton t keys enter a → set ≡ reached t (take at line)
 
 module _ {keys enter : List ℕ} {a : Accepting} {line : List ℕ} where
-  pub line-start : {x : ℕ} → x ≡ 2 ^ 0 % 2 ^ 64 → LineSoFar keys enter a line x 0
+  pub line-start : {x : ℕ} → x ≡ startSet → LineSoFar keys enter a line x 0
   line-start e = record { inside = omega arith; clean = refl; leads = λ t d. e ∙ reached-none t }
 
   module _ {set at : ℕ} (s : LineSoFar keys enter a line set at) where
-    pub line-on : {next : ℕ} → at < length line → getD line at 0 < 256 → (eqb (getD line at 0) 0 || eqb (getD line at 0) 10) ≡ false → next ≡ lookedUp keys enter a set (getD line at 0) → LineSoFar keys enter a line next (at + 1)
+    pub line-on : {next : ℕ} → at < length line → getD line at 0 < 256 → endsLine (getD line at 0) ≡ false → next ≡ lookedUp keys enter a set (getD line at 0) → LineSoFar keys enter a line next (at + 1)
     line-on {next} h b f g =
         record {
           inside = omega arith;
@@ -52,7 +55,7 @@ module _ {keys enter : List ℕ} {a : Accepting} {line : List ℕ} where
         key : lineKey k ≡ true
         key = let (zero-not, ten-not) = neither (eqb k 0) (eqb k 10) f in sym (key-test k b zero-not) ∙ rw ten-not refl
 
-    pub line-refused : at < length line → (eqb (getD line at 0) 0 || eqb (getD line at 0) 10) ≡ true → TestsLine keys enter a line (LineTest.Refused InvalidKey)
+    pub line-refused : at < length line → endsLine (getD line at 0) ≡ true → TestsLine keys enter a line (LineTest.Refused InvalidKey)
     unfolding lineResult TestsLine
     line-refused h f t d = rw (go (or-cases (eqb (getD line at 0) 0) (eqb (getD line at 0) 10) f)) refl
       where
@@ -61,7 +64,7 @@ module _ {keys enter : List ℕ} {a : Accepting} {line : List ℕ} where
         go (inr z) = or-right (member 0 line) (member lineEnd line) (member-at lineEnd line at h (eqb-true _ 10 z))
 
     -- the whole line
-    line-whole : length line ≤ at → (m : Bool) → m ≡ common 64 set (a .accepting) → (t : Pattern) → Automaton t keys enter a → lineResult (accepted t) line ≡ answered (cond m 1 0)
+    line-whole : length line ≤ at → (m : Bool) → m ≡ accepts a set → (t : Pattern) → Automaton t keys enter a → lineResult (accepted t) line ≡ answered (cond m 1 0)
     unfolding lineResult
     line-whole h m e t d =
         rw (line-without line 0 refl whole, line-without line lineEnd refl whole, found) refl
@@ -75,10 +78,10 @@ module _ {keys enter : List ℕ} {a : Accepting} {line : List ℕ} where
         found : matches t line ≡ m
         found = sym (e ∙ reached-matches d set line (s .leads t d ∙ ap (reached t) all) whole)
 
-    pub line-matches : length line ≤ at → {m : Bool} → m ≡ common 64 set (a .accepting) → m ≡ true → TestsLine keys enter a line LineTest.Matches
+    pub line-matches : length line ≤ at → {m : Bool} → m ≡ accepts a set → m ≡ true → TestsLine keys enter a line LineTest.Matches
     unfolding TestsLine
     line-matches h e f t d = sym (line-whole h _ e t d ∙ rw f refl)
 
-    pub line-differs : length line ≤ at → {m : Bool} → m ≡ common 64 set (a .accepting) → m ≡ false → TestsLine keys enter a line LineTest.NoMatch
+    pub line-differs : length line ≤ at → {m : Bool} → m ≡ accepts a set → m ≡ false → TestsLine keys enter a line LineTest.NoMatch
     unfolding TestsLine
     line-differs h e f t d = sym (line-whole h _ e t d ∙ rw f refl)

@@ -1,6 +1,6 @@
 -- Document 01, "States and steps": a move of a set of states, by its meaning and by look-up.
-use Prim.Native.Nat.{ℕ}
-use mathlib.Core.Bool.{cond, _&&_}
+use Prim.Native.Nat.{ℕ, _%_, _^_}
+use mathlib.Core.Bool.{Bool, cond, _&&_}
 use mathlib.Core.List.{List}
 use lib.Bits.{bitAnd, bitOr}
 use lib.ListN.{getD}
@@ -16,6 +16,14 @@ moved t x c = word 32 (λ p. anyBelow 32 (λ q. bit x q && move t q c p))
 -- the states that the keys of w lead to from line-start
 unfoldable pub reached : Pattern → List ℕ → ℕ
 reached t w = word 32 (leads t 0 w)
+
+-- the set of line-start alone, as a shifted word
+abbrev pub startSet : ℕ
+startSet = 2 ^ 0 % 2 ^ 64
+
+-- a set of states has an accepting one
+abbrev pub accepts : Accepting → ℕ → Bool
+accepts a x = common 64 x (a .accepting)
 
 -- the atoms that are entered on key k
 abbrev pub entered : List ℕ → List ℕ → ℕ → ℕ → ℕ

@@ -9,11 +9,15 @@ use lib.Dec.{ltb}
 use borrow.Author.Tests.{ltb-true, ltb-false}
 use lib.ListN.{length, getD, take, drop, replicate, length-append}
 use lib.Seq.{take-at, drop-at, drop-drop}
-use Rattle.runs.specs.Kept.{firstWords, times}
+use Rattle.runs.specs.Kept.{firstWords, wordsOver, times}
 
 pub words-none : (W : ℕ → List ℕ) → firstWords W 0 ≡ []
 unfolding firstWords
 words-none W = refl
+
+-- the words of macro j stand at its place in the work words
+abbrev pub StandsIn : (ℕ → List ℕ) → ℕ → ℕ → List ℕ → Type 0
+StandsIn W k j work = (behind : List ℕ) × (drop (j * k) work ≡ W j ++ behind)
 
 module _ (W : ℕ → List ℕ) (k : ℕ) (wide : (i : ℕ) → length (W i) ≡ k) where
   pub words-length : (n : ℕ) → length (firstWords W n) ≡ n * k
@@ -21,20 +25,20 @@ module _ (W : ℕ → List ℕ) (k : ℕ) (wide : (i : ℕ) → length (W i) ≡
   words-length zero = omega arith
   words-length (suc n) = rw (length-append, words-length n, wide n) (omega arith)
 
-  -- the words of macro j stand at its place
-  pub words-at : (n j : ℕ) → j < n → (rest : List ℕ) → (behind : List ℕ) × (drop (j * k) (firstWords W n ++ rest) ≡ W j ++ behind)
+  -- the words of each of the first n macros stand at its place
+  pub words-at : (n j : ℕ) → j < n → (rest : List ℕ) → StandsIn W k j (firstWords W n ++ rest)
   unfolding firstWords
   words-at zero j h rest = absurd (omega arith)
   words-at (suc n) j h rest = rw (append-assoc (firstWords W n) (W n) rest) (go (λ l. words-at n j l (W n ++ rest)) (ltb j n) refl)
     where
-      go : (j < n → (behind : List ℕ) × (drop (j * k) (firstWords W n ++ (W n ++ rest)) ≡ W j ++ behind)) → (b : Bool) → ltb j n ≡ b → (behind : List ℕ) × (drop (j * k) (firstWords W n ++ (W n ++ rest)) ≡ W j ++ behind)
+      go : (j < n → StandsIn W k j (firstWords W n ++ (W n ++ rest))) → (b : Bool) → ltb j n ≡ b → StandsIn W k j (firstWords W n ++ (W n ++ rest))
       go f true e = f (ltb-true j n e)
       go f false e =
           let same : j ≡ n = omega (arith, ltb-false j n e) in
           (rest, rw same (drop-at (firstWords W n) (W n ++ rest) (n * k) (words-length n)))
 
   -- and those of one macro more are stored behind the first i
-  pub words-stored : (i : ℕ) (before work after : List ℕ) → work ≡ firstWords W i ++ drop (i * k) before → after ≡ take (i * k) work ++ (W i ++ drop (i * k + k) work) → after ≡ firstWords W (i + 1) ++ drop ((i + 1) * k) before
+  pub words-stored : (i : ℕ) (before work after : List ℕ) → work ≡ wordsOver W k i before → after ≡ take (i * k) work ++ (W i ++ drop (i * k + k) work) → after ≡ wordsOver W k (i + 1) before
   unfolding firstWords
   words-stored i before work after e f =
       let at = i * k in
@@ -59,8 +63,12 @@ zeros-at zero i = refl
 zeros-at (suc n) zero = refl
 zeros-at (suc n) (suc i) = zeros-at n i
 
--- Repetition by doubling, for whatever is kept of a run and joins as runs follow each other.
-module _ {A : Type 0} (of : List ℕ → A) (join : A → A → A) (fine : List ℕ → Type 0) (joins : (u v : List ℕ) → fine u → fine v → join (of u) (of v) ≡ of (u ++ v)) (w : List ℕ) (all : (n : ℕ) → fine (times n w)) where
+-- what is kept of a run joins as runs follow each other
+abbrev pub Joins : {A : Type 0} → (List ℕ → A) → (A → A → A) → (List ℕ → Type 0) → Type 0
+Joins of join fine = (u v : List ℕ) → fine u → fine v → join (of u) (of v) ≡ of (u ++ v)
+
+-- Repetition by doubling, for whatever joins.
+module _ {A : Type 0} (of : List ℕ → A) (join : A → A → A) (fine : List ℕ → Type 0) (joins : Joins of join fine) (w : List ℕ) (all : (n : ℕ) → fine (times n w)) where
   pub twice : {a : A} (n : ℕ) → a ≡ of (times n w) → join a a ≡ of (times (n + n) w)
   twice {a} n e = rw e (joins (times n w) (times n w) (all n) (all n) ∙ ap of (sym (times-add n n w)))
 

@@ -1,11 +1,16 @@
 -- What is kept for each macro of a book, in words one after another; and a run repeated.
-use Prim.Native.Nat.{ℕ, zero, suc}
+use Prim.Native.Nat.{ℕ, zero, suc, _*_}
 use mathlib.Core.List.{List, [], _++_}
+use lib.ListN.{drop}
 
 -- the words of the first n macros, where W gives those of one
 unfoldable pub firstWords : (ℕ → List ℕ) → ℕ → List ℕ
 firstWords W zero = []
 firstWords W (suc n) = firstWords W n ++ W n
+
+-- the words of the first n macros, each of k words, stored over the front of some words
+abbrev pub wordsOver : (ℕ → List ℕ) → ℕ → ℕ → List ℕ → List ℕ
+wordsOver W k n before = firstWords W n ++ drop (n * k) before
 
 -- a run n times
 unfoldable pub times : ℕ → List ℕ → List ℕ
