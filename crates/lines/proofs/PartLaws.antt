@@ -41,7 +41,7 @@ unfolding firstPart laterParts
 first-append [] v = refl
 first-append (c ∷ u) v = go (eqb lineEnd c) (laterParts u) (first-append u v)
   where
-    go : (b : Bool) (ls : List (List ℕ)) → firstPart (u ++ v) ≡ firstThen (firstPart u) ls v → firstOnto b c (firstPart (u ++ v)) ≡ firstThen (firstOnto b c (firstPart u)) (laterOnto b (firstPart u) ls) v
+    go : (b : Bool) (ls : List (List ℕ)) {l : List ℕ} → l ≡ firstThen (firstPart u) ls v → firstOnto b c l ≡ firstThen (firstOnto b c (firstPart u)) (laterOnto b (firstPart u) ls) v
     go true ls e = refl
     go false [] e = ap (λ (l : List ℕ). c ∷ l) e
     go false (m ∷ ms) e = ap (λ (l : List ℕ). c ∷ l) e
@@ -54,11 +54,11 @@ laterThen (l ∷ ls) v = firstThen l ls v ∷ laterThen ls v
 later-append : (u v : List ℕ) → laterParts (u ++ v) ≡ laterThen (laterParts u) v
 unfolding laterParts
 later-append [] v = refl
-later-append (c ∷ u) v = go (eqb lineEnd c) (first-append u v) (later-append u v)
+later-append (c ∷ u) v = go (eqb lineEnd c) (later-append u v)
   where
-    go : (b : Bool) {l : List ℕ} {ls : List (List ℕ)} → l ≡ firstThen (firstPart u) (laterParts u) v → ls ≡ laterThen (laterParts u) v → laterOnto b l ls ≡ laterThen (laterOnto b (firstPart u) (laterParts u)) v
-    go true e f = rw (e, f) refl
-    go false e f = f
+    go : (b : Bool) {ls : List (List ℕ)} → ls ≡ laterThen (laterParts u) v → laterOnto b (firstPart (u ++ v)) ls ≡ laterThen (laterOnto b (firstPart u) (laterParts u)) v
+    go true e = rw (first-append u v, e) refl
+    go false e = e
 
 -- the same by cases
 module _ (u v : List ℕ) where
@@ -74,7 +74,11 @@ module _ (u v : List ℕ) where
   pub later-kept : {l : List ℕ} {ls : List (List ℕ)} → laterParts u ≡ l ∷ ls → laterParts (u ++ v) ≡ firstThen l ls v ∷ laterThen ls v
   later-kept e = rw e at (later-append u v)
 
--- how many of the parts before the last pass a test
+-- 1 if a line passes a test
+abbrev pub countOne : (List ℕ → Bool) → List ℕ → ℕ
+countOne X l = cond (X l) 1 0
+
+-- how many of the parts before the last pass it
 abbrev pub countBefore : (List ℕ → Bool) → List ℕ → List (List ℕ) → ℕ
 countBefore X l ls = countIn X (partsBefore l ls)
 
@@ -85,13 +89,16 @@ lastThen l ls v = lastPart (firstThen l ls v) (laterThen ls v)
 abbrev pub countThen : (List ℕ → Bool) → List ℕ → List (List ℕ) → List ℕ → ℕ
 countThen X l ls v = countBefore X (firstThen l ls v) (laterThen ls v)
 
--- the last part goes on into the second run
-last-then : (l : List ℕ) (ls : List (List ℕ)) (v : List ℕ) → lastThen l ls v ≡ lastPart (lastPart l ls ++ firstPart v) (laterParts v)
+-- the line across: the last part goes on into the second run
+abbrev pub lineAcross : List ℕ → List (List ℕ) → List ℕ → List ℕ
+lineAcross l ls v = lastPart l ls ++ firstPart v
+
+last-then : (l : List ℕ) (ls : List (List ℕ)) (v : List ℕ) → lastThen l ls v ≡ lastPart (lineAcross l ls v) (laterParts v)
 unfolding lastPart
 last-then l [] v = refl
 last-then l (m ∷ ms) v = last-then m ms v
 
-before-then : (X : List ℕ → Bool) (l : List ℕ) (ls : List (List ℕ)) (v : List ℕ) → countThen X l ls v ≡ countBefore X l ls + countBefore X (lastPart l ls ++ firstPart v) (laterParts v)
+before-then : (X : List ℕ → Bool) (l : List ℕ) (ls : List (List ℕ)) (v : List ℕ) → countThen X l ls v ≡ countBefore X l ls + countBefore X (lineAcross l ls v) (laterParts v)
 unfolding lastPart partsBefore countIn
 before-then X l [] v = sym (zero-add _)
 before-then X l (m ∷ ms) v = ap (λ (n : ℕ). cond (X l) 1 0 + n) (before-then X m ms v) ∙ sym (add-assoc (cond (X l) 1 0) _ _)
@@ -110,7 +117,7 @@ module _ (l : List ℕ) (ls : List (List ℕ)) (v : List ℕ) where
   unfolding lastPart
   last-closed e = rw e at (last-then l ls v)
 
-  pub before-closed : (X : List ℕ → Bool) {m : List ℕ} {ms : List (List ℕ)} → laterParts v ≡ m ∷ ms → countThen X l ls v ≡ countBefore X l ls + (cond (X (lastPart l ls ++ firstPart v)) 1 0 + countBefore X m ms)
+  pub before-closed : (X : List ℕ → Bool) {m : List ℕ} {ms : List (List ℕ)} → laterParts v ≡ m ∷ ms → countThen X l ls v ≡ countBefore X l ls + (countOne X (lineAcross l ls v) + countBefore X m ms)
   unfolding partsBefore countIn
   before-closed X e = rw e at (before-then X l ls v)
 
@@ -195,7 +202,11 @@ lines-parts (c ∷ w) = go (eqb lineEnd c) (firstPart w) (laterParts w) (lines-p
 abbrev pub countLast : (List ℕ → Bool) → List ℕ → ℕ
 countLast X l = cond (isOpen l && X l) 1 0
 
-count-parts : (X : List ℕ → Bool) (l : List ℕ) (ls : List (List ℕ)) → countIn X (linesOf l ls) ≡ countBefore X l ls + countLast X (lastPart l ls)
+-- how many parts pass, the last only if it counts
+abbrev pub countParts : (List ℕ → Bool) → List ℕ → List (List ℕ) → ℕ
+countParts X l ls = countBefore X l ls + countLast X (lastPart l ls)
+
+count-parts : (X : List ℕ → Bool) (l : List ℕ) (ls : List (List ℕ)) → countIn X (linesOf l ls) ≡ countParts X l ls
 unfolding countIn partsBefore lastPart
 count-parts X [] [] = refl
 count-parts X (c ∷ l) [] = omega arith
@@ -208,6 +219,6 @@ module _ (t : Pattern) (w : List ℕ) where
   matching-whole e = ap (countIn (matches t)) (rw e at (lines-parts w) ∙ ap lastOnly (first-whole w e)) ∙ count-parts (matches t) w [] ∙ zero-add _
 
   -- with line ends: the first line, those between, and the last part if it has a key
-  pub matching-parts : {l : List ℕ} {ls : List (List ℕ)} → laterParts w ≡ l ∷ ls → matching t w ≡ cond (matches t (firstPart w)) 1 0 + (countBefore (matches t) l ls + countLast (matches t) (lastPart l ls))
+  pub matching-parts : {l : List ℕ} {ls : List (List ℕ)} → laterParts w ≡ l ∷ ls → matching t w ≡ countOne (matches t) (firstPart w) + countParts (matches t) l ls
   unfolding matching countIn
   matching-parts {l} {ls} e = ap (countIn (matches t)) (rw e at (lines-parts w)) ∙ ap (λ (n : ℕ). cond (matches t (firstPart w)) 1 0 + n) (count-parts (matches t) l ls)

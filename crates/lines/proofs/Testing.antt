@@ -30,6 +30,10 @@ use Rattle.lines.proofs.Reaching.{looked-up, reached-none, reached-more
 abbrev pub endsLine : ℕ → Bool
 endsLine k = eqb k 0 || eqb k 10
 
+-- the key at a place
+abbrev pub keyAt : List ℕ → ℕ → ℕ
+keyAt line at = getD line at 0
+
 -- what is known after `at` keys of a line
 pub record LineSoFar (keys enter : List ℕ) (a : Accepting) (line : List ℕ) (set at : ℕ) : Type 0 where
   pub inside : at ≤ length line
@@ -41,7 +45,7 @@ module _ {keys enter : List ℕ} {a : Accepting} {line : List ℕ} where
   line-start e = record { inside = omega arith; clean = refl; leads = λ t d. e ∙ reached-none t }
 
   module _ {set at : ℕ} (s : LineSoFar keys enter a line set at) where
-    pub line-on : {next : ℕ} → at < length line → getD line at 0 < 256 → endsLine (getD line at 0) ≡ false → next ≡ lookedUp keys enter a set (getD line at 0) → LineSoFar keys enter a line next (at + 1)
+    pub line-on : {next : ℕ} → at < length line → keyAt line at < 256 → endsLine (keyAt line at) ≡ false → next ≡ lookedUp keys enter a set (keyAt line at) → LineSoFar keys enter a line next (at + 1)
     line-on {next} h b f g =
         record {
           inside = omega arith;
@@ -55,7 +59,7 @@ module _ {keys enter : List ℕ} {a : Accepting} {line : List ℕ} where
         key : lineKey k ≡ true
         key = let (zero-not, ten-not) = neither (eqb k 0) (eqb k 10) f in sym (key-test k b zero-not) ∙ rw ten-not refl
 
-    pub line-refused : at < length line → endsLine (getD line at 0) ≡ true → TestsLine keys enter a line (LineTest.Refused InvalidKey)
+    pub line-refused : at < length line → endsLine (keyAt line at) ≡ true → TestsLine keys enter a line (LineTest.Refused InvalidKey)
     unfolding lineResult TestsLine
     line-refused h f t d = rw (go (or-cases (eqb (getD line at 0) 0) (eqb (getD line at 0) 10) f)) refl
       where

@@ -15,18 +15,25 @@ use Rattle.pattern.specs.Meaning.{matches}
 use Rattle.pattern.specs.Moves.{states, leads, acceptedFrom}
 use Rattle.pattern.proofs.AcceptedLines.{states-match}
 use Rattle.pattern.proofs.Leading.{leads-append, accepted-append}
-use Rattle.lines.specs.Lines.{countIn}
 use Rattle.reports.specs.Reports.{most, rowsOf, withEnd, reportWith, report, onward, joinedReports}
 use Rattle.pattern.specs.Form.{Pattern, atomCount}
 use Rattle.runs.specs.Keys.{isLine, isRun}
 use Rattle.stateset.proofs.Tabled.{tabled-at, tabled-same}
 use Rattle.runs.proofs.KeyLaws.{line-append}
-use Rattle.lines.specs.Parts.{firstPart, laterParts, lastPart, partsBefore}
-use Rattle.lines.proofs.PartLaws.{first-into, later-into, first-kept, later-kept, firstThen, laterThen, last-open, before-open, last-closed, before-closed, first-line, later-lines, last-line}
+use Rattle.lines.specs.Parts.{firstPart, laterParts, lastPart}
+use Rattle.lines.proofs.PartLaws.{first-into, later-into, first-kept, later-kept, lastThen, countBefore, countThen, last-open, before-open, last-closed, before-closed, first-line, later-lines, last-line}
 
 -- the row of a state that there is
 pub row-of : (s : ℕ) (X : ℕ → ℕ → Bool) (q : ℕ) → q < s → s ≤ 32 → getD (rowsOf s X) q 0 ≡ word s (X q)
 row-of s X q h l = tabled-at (λ q. cond (ltb q s) (word s (X q)) 0) 32 q (omega arith) ∙ rw (lt-ltb q s h) refl
+
+-- the rows of a run without a line end: where it leads from each state
+abbrev pub runRows : Pattern → List ℕ → List ℕ
+runRows t w = rowsOf (states t) (λ q p. leads t q w p)
+
+-- the states from which a line is accepted
+abbrev pub headsOf : Pattern → List ℕ → ℕ
+headsOf t l = word (states t) (λ q. acceptedFrom t q l)
 
 -- rows with the same states are the same
 pub rows-same : (s : ℕ) (X Y : ℕ → ℕ → Bool) → ((q p : ℕ) → q < s → p < s → X q p ≡ Y q p) → rowsOf s X ≡ rowsOf s Y
@@ -74,37 +81,41 @@ flag-set n = go (leb n most)
     go false = refl
 
 module _ (t : Pattern) (few : atomCount t ≤ 29) where
+  -- the states in word x are those of X
+  abbrev IsSet : ℕ → (ℕ → Bool) → Type 0
+  IsSet x X = (r : ℕ) → r < states t → bit x r ≡ X r
+
   -- what the rows of a run lead to
-  onward-is : (x : ℕ) (X : ℕ → Bool) → ((r : ℕ) → r < states t → bit x r ≡ X r) → (v : List ℕ) (p : ℕ) → p < states t → onward (states t) x (rowsOf (states t) (λ q p. leads t q v p)) p ≡ anyBelow (states t) (λ r. X r && leads t r v p)
+  onward-is : (x : ℕ) (X : ℕ → Bool) → IsSet x X → (v : List ℕ) (p : ℕ) → p < states t → onward (states t) x (runRows t v) p ≡ anyBelow (states t) (λ r. X r && leads t r v p)
   onward-is x X e v p h =
-      any-ext (states t) (λ r. bit x r && bit (getD (rowsOf (states t) (λ q p. leads t q v p)) r 0) p) (λ r. X r && leads t r v p)
+      any-ext (states t) (λ r. bit x r && bit (getD (runRows t v) r 0) p) (λ r. X r && leads t r v p)
       (λ r l. rw (e r l, row-of (states t) (λ q p. leads t q v p) r l (omega arith), bit-word (states t) (λ p. leads t r v p) p h) refl)
 
-  common-is : (x y : ℕ) (X Y : ℕ → Bool) → ((r : ℕ) → r < states t → bit x r ≡ X r) → ((r : ℕ) → r < states t → bit y r ≡ Y r) → common (states t) x y ≡ anyBelow (states t) (λ r. X r && Y r)
+  common-is : (x y : ℕ) (X Y : ℕ → Bool) → IsSet x X → IsSet y Y → common (states t) x y ≡ anyBelow (states t) (λ r. X r && Y r)
   common-is x y X Y e f = any-ext (states t) (λ r. bit x r && bit y r) (λ r. X r && Y r) (λ r l. rw (e r l, f r l) refl)
 
-  row-bit : (u : List ℕ) (q : ℕ) → q < states t → (r : ℕ) → r < states t → bit (getD (rowsOf (states t) (λ q p. leads t q u p)) q 0) r ≡ leads t q u r
+  row-bit : (u : List ℕ) (q : ℕ) → q < states t → IsSet (getD (runRows t u) q 0) (leads t q u)
   row-bit u q h r l = rw (row-of (states t) (λ q p. leads t q u p) q h (omega arith)) (bit-word (states t) (λ p. leads t q u p) r l)
 
   -- no line end in either
-  rows-join : (u v : List ℕ) (q p : ℕ) → q < states t → p < states t → onward (states t) (getD (rowsOf (states t) (λ q p. leads t q u p)) q 0) (rowsOf (states t) (λ q p. leads t q v p)) p ≡ leads t q (u ++ v) p
-  rows-join u v q p h l = onward-is (getD (rowsOf (states t) (λ q p. leads t q u p)) q 0) (leads t q u) (row-bit u q h) v p l ∙ sym (leads-append t u v q p h)
+  rows-join : (u v : List ℕ) (q p : ℕ) → q < states t → p < states t → onward (states t) (getD (runRows t u) q 0) (runRows t v) p ≡ leads t q (u ++ v) p
+  rows-join u v q p h l = onward-is (getD (runRows t u) q 0) (leads t q u) (row-bit u q h) v p l ∙ sym (leads-append t u v q p h)
 
   -- one in the second
-  heads-join : (u v : List ℕ) → laterParts u ≡ [] → (q : ℕ) → q < states t → common (states t) (getD (rowsOf (states t) (λ q p. leads t q u p)) q 0) (word (states t) (λ q. acceptedFrom t q (firstPart v))) ≡ acceptedFrom t q (firstPart (u ++ v))
+  heads-join : (u v : List ℕ) → laterParts u ≡ [] → (q : ℕ) → q < states t → common (states t) (getD (runRows t u) q 0) (headsOf t (firstPart v)) ≡ acceptedFrom t q (firstPart (u ++ v))
   heads-join u v e q h =
-      common-is (getD (rowsOf (states t) (λ q p. leads t q u p)) q 0) (word (states t) (λ q. acceptedFrom t q (firstPart v))) (leads t q u) (λ r. acceptedFrom t r (firstPart v)) (row-bit u q h) (λ r l. bit-word (states t) (λ q. acceptedFrom t q (firstPart v)) r l)
+      common-is (getD (runRows t u) q 0) (headsOf t (firstPart v)) (leads t q u) (λ r. acceptedFrom t r (firstPart v)) (row-bit u q h) (λ r l. bit-word (states t) (λ q. acceptedFrom t q (firstPart v)) r l)
       ∙ sym (accepted-append t u (firstPart v) q h)
       ∙ ap (acceptedFrom t q) (sym (first-into u v e))
 
   -- the states of a set, kept
-  kept : (X : ℕ → Bool) (p : ℕ) → p < states t → bit (word (states t) X) p ≡ X p
+  kept : (X : ℕ → Bool) → IsSet (word (states t) X) X
   kept X p l = bit-word (states t) X p l
 
   -- the line across the join
-  across : (l m : List ℕ) → isLine l ≡ true → isLine m ≡ true → common (states t) (word (states t) (leads t 0 l)) (word (states t) (λ q. acceptedFrom t q m)) ≡ matches t (l ++ m)
+  across : (l m : List ℕ) → isLine l ≡ true → isLine m ≡ true → common (states t) (word (states t) (leads t 0 l)) (headsOf t m) ≡ matches t (l ++ m)
   across l m g h =
-      common-is (word (states t) (leads t 0 l)) (word (states t) (λ q. acceptedFrom t q m)) (leads t 0 l) (λ q. acceptedFrom t q m) (kept (leads t 0 l)) (kept (λ q. acceptedFrom t q m))
+      common-is (word (states t) (leads t 0 l)) (headsOf t m) (leads t 0 l) (λ q. acceptedFrom t q m) (kept (leads t 0 l)) (kept (λ q. acceptedFrom t q m))
       ∙ sym (accepted-append t l m 0 (omega arith))
       ∙ states-match t (l ++ m) (line-append l m g h)
 
@@ -114,12 +125,12 @@ module _ (t : Pattern) (few : atomCount t ≤ 29) where
     join-with [] [] e f =
         rw (later-into u v e, f)
         (ap (λ (rows : List ℕ). record { s = states t; rows = rows; flag = 0; heads = 0; closed = 0; tail = 0 })
-        (rows-same (states t) (λ q. onward (states t) (getD (rowsOf (states t) (λ q p. leads t q u p)) q 0) (rowsOf (states t) (λ q p. leads t q v p))) (λ q p. leads t q (u ++ v) p) (rows-join u v)))
+        (rows-same (states t) (λ q. onward (states t) (getD (runRows t u) q 0) (runRows t v)) (λ q p. leads t q (u ++ v) p) (rows-join u v)))
     join-with [] (m ∷ ms) e f =
-        let n = countIn (matches t) (partsBefore m ms) in
+        let n = countBefore (matches t) m ms in
         rw (later-into u v e, f, flag-set n)
         (withEnd-same (states t)
-        (λ q. common (states t) (getD (rowsOf (states t) (λ q p. leads t q u p)) q 0) (word (states t) (λ q. acceptedFrom t q (firstPart v))))
+        (λ q. common (states t) (getD (runRows t u) q 0) (headsOf t (firstPart v)))
         (λ q. acceptedFrom t q (firstPart (u ++ v)))
         (capped n)
         n
@@ -129,15 +140,15 @@ module _ (t : Pattern) (few : atomCount t ≤ 29) where
         (capped-shown n)
         (kept (leads t 0 (lastPart m ms))))
     join-with (l ∷ ls) [] e f =
-        let n = countIn (matches t) (partsBefore l ls) in
+        let n = countBefore (matches t) l ls in
         rw (later-kept u v e, flag-set n)
         (withEnd-same (states t)
-        (bit (word (states t) (λ q. acceptedFrom t q (firstPart u))))
+        (bit (headsOf t (firstPart u)))
         (λ q. acceptedFrom t q (firstPart (u ++ v)))
         (capped n)
-        (countIn (matches t) (partsBefore (firstThen l ls v) (laterThen ls v)))
-        (onward (states t) (word (states t) (leads t 0 (lastPart l ls))) (rowsOf (states t) (λ q p. leads t q v p)))
-        (leads t 0 (lastPart (firstThen l ls v) (laterThen ls v)))
+        (countThen (matches t) l ls v)
+        (onward (states t) (word (states t) (leads t 0 (lastPart l ls))) (runRows t v))
+        (leads t 0 (lastThen l ls v))
         (λ q h. kept (λ q. acceptedFrom t q (firstPart u)) q h ∙ ap (acceptedFrom t q) (sym (first-kept u v e)))
         (rw (before-open l ls v (matches t) f) (capped-shown n))
         (λ p h.
@@ -145,16 +156,16 @@ module _ (t : Pattern) (few : atomCount t ≤ 29) where
         ∙ sym (leads-append t (lastPart l ls) v 0 p (omega arith))
         ∙ ap (λ (w : List ℕ). leads t 0 w p) (sym (last-open l ls v f))))
     join-with (l ∷ ls) (m ∷ ms) e f =
-        let n = countIn (matches t) (partsBefore l ls) in
-        let k = countIn (matches t) (partsBefore m ms) in
+        let n = countBefore (matches t) l ls in
+        let k = countBefore (matches t) m ms in
         rw (later-kept u v e, flag-set n, flag-set k)
         (withEnd-same (states t)
-        (bit (word (states t) (λ q. acceptedFrom t q (firstPart u))))
+        (bit (headsOf t (firstPart u)))
         (λ q. acceptedFrom t q (firstPart (u ++ v)))
-        (capped n + capped k + cond (common (states t) (word (states t) (leads t 0 (lastPart l ls))) (word (states t) (λ q. acceptedFrom t q (firstPart v)))) 1 0)
-        (countIn (matches t) (partsBefore (firstThen l ls v) (laterThen ls v)))
+        (capped n + capped k + cond (common (states t) (word (states t) (leads t 0 (lastPart l ls))) (headsOf t (firstPart v))) 1 0)
+        (countThen (matches t) l ls v)
         (bit (word (states t) (leads t 0 (lastPart m ms))))
-        (leads t 0 (lastPart (firstThen l ls v) (laterThen ls v)))
+        (leads t 0 (lastThen l ls v))
         (λ q h. kept (λ q. acceptedFrom t q (firstPart u)) q h ∙ ap (acceptedFrom t q) (sym (first-kept u v e)))
         (rw (before-closed l ls v (matches t) f, across (lastPart l ls) (firstPart v) (last-line l ls (rw e at (later-lines u runs-u))) (first-line v runs-v)) (sum-shown n k (cond (matches t (lastPart l ls ++ firstPart v)) 1 0)))
         (λ p h. kept (leads t 0 (lastPart m ms)) p h ∙ ap (λ (w : List ℕ). leads t 0 w p) (sym (last-closed l ls v f))))

@@ -6,11 +6,9 @@ use mathlib.Core.Bool.{Bool, true, false, cond}
 use mathlib.Core.List.{List, [], _∷_, _++_}
 use lib.Dec.{ltb, eqb}
 use borrow.Author.Tests.{ltb-true, lt-ltb, eq-eqb, le-leb}
-use Rattle.refusal.specs.declared.Refusal.the-variants.{ReportMismatch}
-use Rattle.refusal.specs.Number.{number}
-use Rattle.reports.specs.Answers.{joinResult}
+use Rattle.reports.specs.Answers.{joinedIf, joinResult}
 use Rattle.runs.specs.Keys.{isRun}
-use Rattle.reports.specs.Reports.{alike, noReport}
+use Rattle.reports.specs.Reports.{alike}
 use native.Mathlib.Nat.{zero-add, mul-le-mul-left}
 use Rattle.pattern.proofs.Leading.{leads-none}
 use Rattle.stateset.proofs.Gathering.{begun, begun-more}
@@ -20,7 +18,6 @@ use Rattle.stateset.proofs.Sets.{word-one, word-ext}
 use Rattle.stateset.proofs.Counts.{count-word}
 use Rattle.pattern.specs.Meaning.{matches}
 use Rattle.pattern.specs.Moves.{states, leads}
-use Rattle.reports.specs.declared.report.Joined.{Joined}
 use Rattle.reports.specs.declared.report.Report.{Report}
 use Rattle.lines.specs.Lines.{countIn}
 use Rattle.reports.specs.Reports.{rowsOf, reportWith, report, joinedWith, joinedReports, emptyReport}
@@ -90,7 +87,7 @@ joined-size a b = go (eqb (a .flag) 0) (eqb (b .flag) 0)
 pub join-small : (a b : Report) → a .s ≤ 32 → joinResult a b .report .s ≤ 32
 join-small a b h = go (alike a b)
   where
-    go : (x : Bool) → cond {A = Joined} x (record { refused = 0; report = joinedReports a b }) (record { refused = number ReportMismatch; report = noReport }) .report .s ≤ 32
+    go : (x : Bool) → joinedIf x (joinedReports a b) .report .s ≤ 32
     go true = rw (joined-size a b) h
     go false = omega arith
 
@@ -104,7 +101,7 @@ join-runs t few u v g h = go (alike (report t u) (report t v)) fits
         let big : 3 ≤ states t = omega arith in
         rw (report-size t u, report-size t v, eq-eqb (states t) (states t) refl, le-leb 3 (states t) big, le-leb (states t) 32 small) refl
 
-    go : (x : Bool) → x ≡ true → cond {A = Joined} x (record { refused = 0; report = joinedReports (report t u) (report t v) }) (record { refused = number ReportMismatch; report = noReport }) .report ≡ report t (u ++ v)
+    go : (x : Bool) → x ≡ true → joinedIf x (joinedReports (report t u) (report t v)) .report ≡ report t (u ++ v)
     go true e = join-reports t few u v g h
     go false e = torn false e refl
 

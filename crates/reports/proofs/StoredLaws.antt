@@ -12,7 +12,7 @@ use lib.Seq.{take-at, getD-at, getD-append-add}
 use Rattle.pattern.specs.Moves.{states, leads}
 use Rattle.reports.specs.declared.report.Report.{Report}
 use Rattle.reports.specs.Reports.{rowsOf, noRows, reportWith, report}
-use Rattle.reports.specs.Words.{reportWords, loaded, loadedAt, storedAt}
+use Rattle.reports.specs.Words.{reportWords, loaded, loadedAt, wordsWith, storedAt}
 use Rattle.pattern.specs.Form.{Pattern, atomCount}
 use Rattle.stateset.proofs.Tabled.{tabled-length, tabled-at}
 use Rattle.lines.specs.Parts.{laterParts}
@@ -49,13 +49,17 @@ zeros-padded s h = padded-list noRows s h (λ i g k. zeros-at 32 i)
 
 -- the words of a report, and the report of its words
 module _ (s : ℕ) (rows : List ℕ) (f h c e : ℕ) (small : s ≤ 32) (long : length rows ≡ 32) where
+  -- the report of these
+  abbrev made : Report
+  made = record { s = s; rows = rows; flag = f; heads = h; closed = c; tail = e }
+
   taken-length : length (take s rows) ≡ s
   taken-length = rw (length-take, long) (omega arith)
 
-  made-length : length (reportWords (record { s = s; rows = rows; flag = f; heads = h; closed = c; tail = e })) ≡ s + 4
+  made-length : length (reportWords made) ≡ s + 4
   made-length = rw (length-append, taken-length) refl
 
-  made-loaded : (rest : List ℕ) → take s rows ++ replicate (32 - s) 0 ≡ rows → loaded s (reportWords (record { s = s; rows = rows; flag = f; heads = h; closed = c; tail = e }) ++ rest) ≡ record { s = s; rows = rows; flag = f; heads = h; closed = c; tail = e }
+  made-loaded : (rest : List ℕ) → take s rows ++ replicate (32 - s) 0 ≡ rows → loaded s (reportWords made ++ rest) ≡ made
   made-loaded rest p =
       rw (append-assoc (take s rows) (f ∷ h ∷ c ∷ e ∷ []) rest)
       (same (ap (λ (l : List ℕ). l ++ replicate (32 - s) 0) (take-at (take s rows) words s taken-length) ∙ p) (getD-at (take s rows) f (h ∷ c ∷ e ∷ rest) 0 s taken-length) (entry 1) (entry 2) (entry 3))
@@ -66,7 +70,7 @@ module _ (s : ℕ) (rows : List ℕ) (f h c e : ℕ) (small : s ≤ 32) (long : 
       entry : (k : ℕ) → getD (take s rows ++ words) (s + k) 0 ≡ getD words k 0
       entry k = ap (λ (n : ℕ). getD (take s rows ++ words) (n + k) 0) (sym taken-length) ∙ getD-append-add (take s rows) words k 0
 
-      same : {x : List ℕ} {a b d i : ℕ} → x ≡ rows → a ≡ f → b ≡ h → d ≡ c → i ≡ e → _≡_ {A = Report} (record { s = s; rows = x; flag = a; heads = b; closed = d; tail = i }) (record { s = s; rows = rows; flag = f; heads = h; closed = c; tail = e })
+      same : {x : List ℕ} {a b d i : ℕ} → x ≡ rows → a ≡ f → b ≡ h → d ≡ c → i ≡ e → _≡_ {A = Report} (record { s = s; rows = x; flag = a; heads = b; closed = d; tail = i }) made
       same g j k l m = rw (g, j, k, l, m) refl
 
 module _ (t : Pattern) (few : atomCount t ≤ 29) (w : List ℕ) where
@@ -95,5 +99,5 @@ module _ (t : Pattern) (few : atomCount t ≤ 29) (w : List ℕ) where
       rw (le-leb (states t) 32 small, le-leb (at + (states t + 4)) (length work) room) (ap (loaded (states t)) e ∙ loaded-words behind)
 
 -- a report that there is room for is stored
-pub stored-there : (work : List ℕ) (at : ℕ) (r : Report) → r .s ≤ 32 → at + (r .s + 4) ≤ length work → storedAt work at r ≡ take at work ++ (reportWords r ++ drop (at + (r .s + 4)) work)
+pub stored-there : (work : List ℕ) (at : ℕ) (r : Report) → r .s ≤ 32 → at + (r .s + 4) ≤ length work → storedAt work at r ≡ wordsWith work at r
 stored-there work at r h l = rw (le-leb (r .s) 32 h, le-leb (at + (r .s + 4)) (length work) l) refl

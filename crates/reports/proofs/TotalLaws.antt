@@ -1,5 +1,5 @@
 -- The count of a run from its report.
-use Prim.Native.Nat.{ℕ, _+_, _-_, _%_, _^_, _<_, _≤_}
+use Prim.Native.Nat.{ℕ, _+_, _-_, _<_, _≤_}
 use native.Mathlib.Omega.{arith}
 use mathlib.Core.Path.{_≡_, refl, sym, ap, _∙_}
 use mathlib.Core.Bool.{Bool, true, false, not, cond, _&&_, and-comm, false≢true}
@@ -19,17 +19,18 @@ use Rattle.pattern.proofs.Leading.{leads-none, leads-start}
 use Rattle.pattern.specs.Meaning.{matches}
 use Rattle.reports.specs.declared.report.Report.{Report}
 use Rattle.reports.specs.declared.total.Total.{Total}
-use Rattle.lines.specs.Lines.{countIn, matching, isOpen}
-use Rattle.reports.specs.Reports.{most, withoutEnd, withEnd, reportWith, report}
-use Rattle.reports.specs.Promises.{LastLine, Totals, totalOf}
+use Rattle.lines.specs.Lines.{matching, isOpen}
+use Rattle.reports.specs.Reports.{most, withoutEnd, reportWith, report}
+use Rattle.reports.specs.Promises.{LastLine, Tells, Totals, totalOf}
 use Rattle.reports.proofs.JoinLaw.{row-of, flag-set}
 use Rattle.lines.proofs.Tallying.{at-most-one}
-use Rattle.reports.proofs.Extending.{row-accepts}
+use Rattle.reports.proofs.Extending.{row-accepts, reportAfter}
 use Rattle.pattern.specs.Form.{Pattern, atomCount}
 use Rattle.runs.specs.Keys.{isLine, isRun}
 use Rattle.pattern.specs.declared.automaton.Accepting.{Accepting}
-use Rattle.lines.specs.Parts.{firstPart, laterParts, lastPart, partsBefore}
-use Rattle.lines.proofs.PartLaws.{first-whole, first-line, later-lines, last-line, matching-parts, matching-whole}
+use Rattle.lines.specs.Parts.{firstPart, laterParts, lastPart}
+use Rattle.lines.specs.Moving.{startSet, accepts}
+use Rattle.lines.proofs.PartLaws.{countBefore, first-whole, first-line, later-lines, last-line, matching-parts, matching-whole}
 
 -- Words.
 
@@ -53,7 +54,7 @@ module _ (t : Pattern) (few : atomCount t ≤ 29) where
       go (c ∷ l) = leads-start t l c 0
 
 -- the last part of a run
-pub last-told : {c : Accepting} {tail z : ℕ} {m k : Bool} {x : ℕ} → z ≡ 2 ^ 0 % 2 ^ 64 → m ≡ common 64 tail z → k ≡ common 64 tail (c .accepting) → x ≡ cond (not m && k) 1 0 → LastLine c tail x
+pub last-told : {c : Accepting} {tail z : ℕ} {m k : Bool} {x : ℕ} → z ≡ startSet → m ≡ common 64 tail z → k ≡ accepts c tail → x ≡ cond (not m && k) 1 0 → LastLine c tail x
 last-told {c} {tail} {z} {m} {k} {x} one start a f =
     record {
       small = at-most-one (not m && k) f;
@@ -95,7 +96,7 @@ module _ (c : Accepting) (r : Report) where
   WithoutEnd P = (t : Pattern) → atomCount t ≤ 29 → c .accepting ≡ word 32 (accepting t) → (w : List ℕ) → isLine w ≡ true → isOpen w ≡ true → laterParts w ≡ [] → r ≡ withoutEnd (states t) (λ q p. leads t q w p) → P t w
 
   abbrev WithEnd : (Pattern → List ℕ → Type 0) → Type 0
-  WithEnd P = (t : Pattern) → atomCount t ≤ 29 → c .accepting ≡ word 32 (accepting t) → (w : List ℕ) → isRun w ≡ true → (l : List ℕ) (ls : List (List ℕ)) → laterParts w ≡ l ∷ ls → r ≡ withEnd (states t) (λ q. acceptedFrom t q (firstPart w)) (countIn (matches t) (partsBefore l ls)) (leads t 0 (lastPart l ls)) → P t w
+  WithEnd P = (t : Pattern) → atomCount t ≤ 29 → c .accepting ≡ word 32 (accepting t) → (w : List ℕ) → isRun w ≡ true → (l : List ℕ) (ls : List (List ℕ)) → laterParts w ≡ l ∷ ls → r ≡ reportAfter t w (countBefore (matches t) l ls) (lastPart l ls) → P t w
 
   by-parts : (x : Total) → WithoutEnd (λ t w. x ≡ totalOf (matching t w)) → WithEnd (λ t w. x ≡ totalOf (matching t w)) → Totals c r x
   unfolding Totals report
@@ -109,7 +110,7 @@ module _ (c : Accepting) (r : Report) where
   flag-of : (n : ℕ) → r .flag ≡ cond (leb n most) 1 2 → r .flag ≡ 0 → ⊥
   flag-of n j z = false≢true (sym (flag-set n) ∙ eq-eqb (cond (leb n most) 1 2) 0 (sym j ∙ z))
 
-  pub total-open : {m : Bool} {x : ℕ} → r .flag ≡ 0 → m ≡ common 64 (getD (r .rows) 0 0) (c .accepting) → x ≡ cond m 1 0 → Totals c r (Total.Lines x)
+  pub total-open : {m : Bool} {x : ℕ} → r .flag ≡ 0 → m ≡ accepts c (getD (r .rows) 0 0) → x ≡ cond m 1 0 → Totals c r (Total.Lines x)
   total-open {m} {x} z a f =
       by-parts (Total.Lines x)
       (λ t few e w h o d j.
@@ -117,7 +118,7 @@ module _ (c : Accepting) (r : Report) where
       let same : m ≡ matches t w = a ∙ rw (row, e) (tail-accepts t few w h) in
       let all : x ≡ matching t w = f ∙ rw (same, matching-whole t w d, o) refl in
       lines-shown all (omega (arith, at-most-one m f)))
-      (λ t few e w h l ls d j. absurd (flag-of (countIn (matches t) (partsBefore l ls)) (ap (λ (a : Report). a .flag) j) z))
+      (λ t few e w h l ls d j. absurd (flag-of (countBefore (matches t) l ls) (ap (λ (a : Report). a .flag) j) z))
 
   pub total-over : 1 < r .flag → Totals c r Total.TooMany
   total-over z =
@@ -126,13 +127,13 @@ module _ (c : Accepting) (r : Report) where
       (λ t few e w h l ls d j.
       many-shown (matching t w)
       (omega
-      (arith, flag-over (countIn (matches t) (partsBefore l ls)) (rw (ap (λ (a : Report). a .flag) j) at z), matching-parts t w d)))
+      (arith, flag-over (countBefore (matches t) l ls) (rw (ap (λ (a : Report). a .flag) j) at z), matching-parts t w d)))
 
   -- flag 1: the first line, those between, and the last part
-  module _ {k : Bool} {x y z : ℕ} (some : r .flag ≡ 0 → ⊥) (fine : r .flag ≤ 1) (one : z ≡ 2 ^ 0 % 2 ^ 64) (head : k ≡ common 64 (r .heads) z) (first : x ≡ cond k 1 0) (last : LastLine c (r .tail) y) where
+  module _ {k : Bool} {x y z : ℕ} (some : r .flag ≡ 0 → ⊥) (fine : r .flag ≤ 1) (one : z ≡ startSet) (head : k ≡ common 64 (r .heads) z) (first : x ≡ cond k 1 0) (last : LastLine c (r .tail) y) where
     sum-of : WithEnd (λ t w. (r .closed + (x + y) ≡ matching t w) × (r .closed ≤ most))
     sum-of t few e w h l ls d j =
-        let n = countIn (matches t) (partsBefore l ls) in
+        let n = countBefore (matches t) l ls in
         let kept = flag-fine n (rw (ap (λ (a : Report). a .flag) j) at fine) in
         let shut : r .closed ≡ n = ap (λ (a : Report). a .closed) j ∙ rw (le-leb n most kept) refl in
         let front : k ≡ matches t (firstPart w) = head ∙ ap (common 64 (r .heads)) one ∙ common-start (r .heads) ∙ rw (ap (λ (a : Report). a .heads) j) (bit-word (states t) (λ q. acceptedFrom t q (firstPart w)) 0 (omega arith)) ∙ states-match t (firstPart w) (first-line w h) in
@@ -153,6 +154,6 @@ module _ (c : Accepting) (r : Report) where
         (λ t few e w h l ls d j. let a = sum-of t few e w h l ls d j in many-shown (matching t w) (omega arith))
 
 -- the count of a run from its report, where the tables are those of a pattern
-pub totals-are : {t : Pattern} {keys enter : List ℕ} {p : Accepting} → Automaton t keys enter p → {r : Report} {x : Total} → Totals p r x → (w : List ℕ) → isRun w ≡ true → isOpen w ≡ true → r ≡ report t w → x ≡ totalOf (matching t w)
+pub totals-are : {t : Pattern} {keys enter : List ℕ} {p : Accepting} → Automaton t keys enter p → {r : Report} {x : Total} → Totals p r x → Tells t r x
 unfolding Totals
 totals-are {t} d z w h o e = z t (d .few) (accepting-of d) w h o e

@@ -18,7 +18,8 @@ use lib.ListN.{length, getD, take, drop, set, replicate, length-set, length-drop
 use lib.Seq.{length-take-le, take-suc, append-snoc, set-at, getD-drop, drop-drop, paste, paste-zero, paste-suc, length-paste, take-paste, drop-paste, sets-eq}
 use Rattle.stateset.specs.Set.{bit}
 use Rattle.reports.specs.declared.report.Report.{Report}
-use Rattle.reports.specs.Words.{reportWords, loaded, pairsIn, roomFor, loadedAt, storedAt}
+use Rattle.reports.specs.Promises.{rowsUsed}
+use Rattle.reports.specs.Words.{loaded, pairsIn, roomFor, loadedAt, wordsWith, storedAt}
 use Rattle.runs.specs.Counts.{countBelow, sumBelow}
 use Rattle.runs.proofs.CountLaws.{count-le, count-none, sum-le, sum-more, sum-none, sum-widen}
 use Rattle.runs.proofs.Tests.{and-fst, and-snd, neither, or-cases, tests-ext}
@@ -61,8 +62,12 @@ module _ {work : List ℕ} {at s : ℕ} where
 word-at : (work : List ℕ) (at s k : ℕ) → getD work (at + s + k) 0 ≡ getD (drop at work) (s + k) 0
 word-at work at s k = rw (add-assoc at s k) (sym (getD-drop at work (s + k) 0))
 
--- the rows and the four words behind them make the report
-pub loaded-all : (work : List ℕ) (at s : ℕ) {rows : List ℕ} → rows ≡ padded s (drop at work) → _≡_ {A = Report} (record { s = s; rows = rows; flag = getD work (at + s) 0; heads = getD work (at + s + 1) 0; closed = getD work (at + s + 2) 0; tail = getD work (at + s + 3) 0 }) (loaded s (drop at work))
+-- the report of some rows and of the four words behind them
+abbrev pub rowsAndWords : List ℕ → ℕ → ℕ → List ℕ → Report
+rowsAndWords work at s rows = record { s = s; rows = rows; flag = getD work (at + s) 0; heads = getD work (at + s + 1) 0; closed = getD work (at + s + 2) 0; tail = getD work (at + s + 3) 0 }
+
+-- they are the report that stands there
+pub loaded-all : (work : List ℕ) (at s : ℕ) {rows : List ℕ} → rows ≡ padded s (drop at work) → _≡_ {A = Report} (rowsAndWords work at s rows) (loaded s (drop at work))
 loaded-all work at s e = rw (e, word-at work at s 1, word-at work at s 2, word-at work at s 3, getD-drop at work s 0) refl
 
 -- Storing rows.
@@ -92,8 +97,20 @@ module _ {old : List ℕ} {at : ℕ} {rows : List ℕ} {s : ℕ} where
     pub storing-done : s ≤ q → work ≡ paste old at rows s
     storing-done h = let e : q ≡ s = omega (arith, i .inside) in rw e at (i .stored)
 
+-- n words hold those of a report of s states from `at` on
+abbrev pub Holds : ℕ → ℕ → ℕ → Type 0
+Holds n at s = (s ≤ 32) × (at + (s + 4) ≤ n)
+
+-- the rows of a report stored over some words
+abbrev pub RowsOver : List ℕ → ℕ → Report → List ℕ → Type 0
+RowsOver old at r work = work ≡ paste old at (r .rows) (r .s)
+
+-- the four words of a report set behind its rows
+abbrev pub fourSet : List ℕ → ℕ → Report → List ℕ
+fourSet work n r = set (set (set (set work n (r .flag)) (n + 1) (r .heads)) (n + 2) (r .closed)) (n + 3) (r .tail)
+
 -- the rows stored, and the four words behind them
-pub stored-all : (old : List ℕ) (at : ℕ) (r : Report) {work : List ℕ} → work ≡ paste old at (r .rows) (r .s) → (r .s ≤ 32) × (at + (r .s + 4) ≤ length old) → length (r .rows) ≡ 32 → set (set (set (set work (at + r .s) (r .flag)) (at + r .s + 1) (r .heads)) (at + r .s + 2) (r .closed)) (at + r .s + 3) (r .tail) ≡ take at old ++ (reportWords r ++ drop (at + (r .s + 4)) old)
+pub stored-all : (old : List ℕ) (at : ℕ) (r : Report) {work : List ℕ} → RowsOver old at r work → Holds (length old) at (r .s) → length (r .rows) ≡ 32 → fourSet work (at + r .s) r ≡ wordsWith old at r
 stored-all old at r {work} e p l =
     let n = at + r .s in
     let one : n + 1 ≡ suc n = omega arith in
@@ -144,7 +161,7 @@ module _ {rows : List ℕ} {s : ℕ} where
     summing-done h = let e : q ≡ s = omega (arith, i .inside) in rw e at (i .counted)
 
 -- a report without a line end shows the pairs of its rows
-pub pairs-rows : (r : Report) {n u : ℕ} → length (r .rows) ≡ 32 → r .flag ≡ 0 → u ≡ cond (ltb (r .s) 32) (r .s) 32 → n ≡ sizesOf (r .rows) u → n ≡ pairsIn r
+pub pairs-rows : (r : Report) {n u : ℕ} → length (r .rows) ≡ 32 → r .flag ≡ 0 → u ≡ rowsUsed (r .s) → n ≡ sizesOf (r .rows) u → n ≡ pairsIn r
 pairs-rows r {n} {u} long e g f = rw e (f ∙ ap (sizesOf (r .rows)) g ∙ all (ltb (r .s) 32) refl)
   where
     -- there is no row from 32 on
@@ -197,7 +214,7 @@ module _ (work : List ℕ) (at : ℕ) {b : Bool} where
   pub load-none : (s : ℕ) → b ≡ roomFor (length work) at s → b ≡ false → noReport ≡ loadedAt work at s
   load-none s e f = rw (← e, f) refl
 
-  pub store-there : (r : Report) {after : List ℕ} → b ≡ roomFor (length work) at (r .s) → b ≡ true → after ≡ take at work ++ (reportWords r ++ drop (at + (r .s + 4)) work) → after ≡ storedAt work at r
+  pub store-there : (r : Report) {after : List ℕ} → b ≡ roomFor (length work) at (r .s) → b ≡ true → after ≡ wordsWith work at r → after ≡ storedAt work at r
   store-there r e f g = rw (← e, f) g
 
   pub store-none : (r : Report) → b ≡ roomFor (length work) at (r .s) → b ≡ false → work ≡ storedAt work at r

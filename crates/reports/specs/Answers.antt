@@ -1,5 +1,5 @@
 -- What each operation of the counter answers.
-use mathlib.Core.Bool.{cond}
+use mathlib.Core.Bool.{Bool, cond}
 use Rattle.refusal.specs.declared.Refusal.the-variants.{ReportMismatch}
 use Rattle.refusal.specs.Number.{number}
 use Rattle.pattern.specs.Reader.{refused}
@@ -7,6 +7,10 @@ use Rattle.reports.specs.declared.report.Joined.{Joined}
 use Rattle.reports.specs.declared.report.Report.{Report}
 use Rattle.reports.specs.Reports.{alike, joinedReports, noReport}
 
+-- a joined report, or 13 and a report of zeros
+abbrev pub joinedIf : Bool → Report → Joined
+joinedIf b r = cond b (record { refused = 0; report = r }) (record { refused = number ReportMismatch; report = noReport })
+
 -- the joining of two reports: 13 where they are "unlike reports", and then a report of zeros
 abbrev pub joinResult : Report → Report → Joined
-joinResult a b = cond (alike a b) (record { refused = 0; report = joinedReports a b }) (record { refused = number ReportMismatch; report = noReport })
+joinResult a b = joinedIf (alike a b) (joinedReports a b)

@@ -21,6 +21,10 @@ use Rattle.reports.specs.declared.report.Report.{Report}
 use Rattle.reports.specs.declared.total.Total.{Total}
 use Rattle.reports.specs.Reports.{most, noRows, report}
 
+-- how many rows a report of s states uses
+abbrev pub rowsUsed : ℕ → ℕ
+rowsUsed s = cond (ltb s 32) s 32
+
 -- the first n rows move by look-up, and there are no others
 unfoldable pub rowsAdvanced : List ℕ → List ℕ → Accepting → List ℕ → ℕ → ℕ → List ℕ
 rowsAdvanced keys enter p rows n k = tabled (λ q. cond (ltb q n) (lookedUp keys enter p (getD rows q 0) k) 0) 32 0
@@ -43,9 +47,13 @@ pub record LastLine (p : Accepting) (tail n : ℕ) : Type 0 where
 abbrev pub totalOf : ℕ → Total
 totalOf n = cond (leb n most) (Total.Lines n) Total.TooMany
 
+-- x is the count of every run that has a key and of which r is the report
+abbrev pub Tells : Pattern → Report → Total → Type 0
+Tells t r x = (w : List ℕ) → isRun w ≡ true → isOpen w ≡ true → r ≡ report t w → x ≡ totalOf (matching t w)
+
 -- the count of a run that has a key, from its report
 unfoldable pub Totals : Accepting → Report → Total → Type 0
-Totals p r x = (t : Pattern) → atomCount t ≤ 29 → p .accepting ≡ word 32 (accepting t) → (w : List ℕ) → isRun w ≡ true → isOpen w ≡ true → r ≡ report t w → x ≡ totalOf (matching t w)
+Totals p r x = (t : Pattern) → atomCount t ≤ 29 → p .accepting ≡ word 32 (accepting t) → Tells t r x
 
 -- n closed lines
 abbrev pub closedOf : ℕ → Closed

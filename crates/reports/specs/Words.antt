@@ -37,9 +37,13 @@ roomFor n at s = leb s 32 && leb (at + (s + 4)) n
 abbrev pub loadedAt : List ℕ → ℕ → ℕ → Report
 loadedAt w at s = cond (roomFor (length w) at s) (loaded s (drop at w)) noReport
 
--- the words with those of a report from a place on, or as they were where there is no room for all of them
+-- the words with those of a report from a place on
+abbrev pub wordsWith : List ℕ → ℕ → Report → List ℕ
+wordsWith w at r = take at w ++ (reportWords r ++ drop (at + (r .s + 4)) w)
+
+-- the same, or the words as they were where there is no room for all of them
 abbrev pub storedAt : List ℕ → ℕ → Report → List ℕ
-storedAt w at r = cond (roomFor (length w) at (r .s)) (take at w ++ (reportWords r ++ drop (at + (r .s + 4)) w)) w
+storedAt w at r = cond (roomFor (length w) at (r .s)) (wordsWith w at r) w
 
 -- the pairs of states that a report shows
 abbrev pub pairsIn : Report → ℕ

@@ -4,13 +4,13 @@ use native.Mathlib.Omega.{arith}
 use mathlib.Core.Path.{_≡_, refl}
 use borrow.Author.Needs.{needs}
 use Rattle.stateset.specs.Set.{word}
-use Rattle.reports.proofs.Extending.{rowMeets, row-gathered}
+use Rattle.reports.proofs.Extending.{rowsMeeting, row-gathered}
 use Rattle.stateset.proofs.Gathering.{gathered-none}
 use Rattle.reports.proofs.extend.accepting_rows.Statement.{statement}
 use Rattle.reports.proofs.extend.accepting_rows.Tie as tie
 
 abbrev Inv-loop : tie.InvT-loop
-Inv-loop rows n accepting states₀ q₀ states q = (q ≤ n) × (states ≡ word q (rowMeets rows accepting))
+Inv-loop rows n accepting states₀ q₀ states q = (q ≤ n) × (states ≡ rowsMeeting rows accepting q)
 
 abbrev μ-loop : tie.MeasureT-loop
 μ-loop rows n accepting states₀ q₀ states q = n - q
