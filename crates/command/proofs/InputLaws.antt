@@ -17,10 +17,9 @@ use Rattle.book.specs.Reading.{Reading, got, refused, readBook}
 use Rattle.book.specs.Answer.{checkedFigures, checkResult}
 use Rattle.book.specs.declared.layout.Checked.{Checked}
 use Rattle.book.proofs.Offsets.{whole}
-use Rattle.counter.specs.Counting.{Outcome, stopped, countResult, mostWords}
+use Rattle.counter.specs.Counting.{Outcome, stopped, bookResult, mostWords}
 use Rattle.counter.specs.Answers.{outcome}
 use Rattle.counter.specs.declared.counting.BookCount.{BookCount}
-use Rattle.pattern.specs.Reader.{readPattern}
 use Rattle.refusal.specs.declared.Refusal.the-variants.{InputTooLong}
 use Rattle.command.specs.Input.{patternEnd, lastMacro, lastResult, programResult, told, toldBy, programAnswer, macroAnswer, lastAnswer}
 use Rattle.runs.specs.Keys.{lineEnd}
@@ -77,29 +76,35 @@ module _ {w : List ℕ} {at : ℕ} (x : Searched w at) where
       omega (arith, x .rest)
 
 -- The whole.
-pub last-counted : (book pattern before : List ℕ) {m : ℕ} {o : Outcome} → m ≡ lastMacro (readBook book) → o ≡ countResult (readBook book) (readPattern pattern) m before → o ≡ lastResult book pattern before
+pub last-counted : (book pattern before : List ℕ) {m : ℕ} {o : Outcome} → m ≡ lastMacro (readBook book) → o ≡ bookResult book pattern m before → o ≡ lastResult book pattern before
 unfolding lastResult
-last-counted book pattern before e k = k ∙ ap (λ (n : ℕ). countResult (readBook book) (readPattern pattern) n before) e
+last-counted book pattern before e k = k ∙ ap (λ (n : ℕ). bookResult book pattern n before) e
 
 pub answer-long : (w work : List ℕ) → 8192 < length w → stopped InputTooLong work ≡ programResult w work
 unfolding programResult
 answer-long w work h = rw (lt-ltb 8192 (length w) h) refl
 
-pub answer-book : (w before after : List ℕ) (r : BookCount) {end start : ℕ} → length w ≤ 8192 → end ≡ patternEnd w → start ≡ min (end + 1) (length w) → outcome r after ≡ lastResult (take (length w - start) (drop start w)) (take end w) before → outcome r after ≡ programResult w before
-unfolding programResult
-answer-book w before after r {end} {start} h e f k =
-    let book : take (length w - start) (drop start w) ≡ drop (suc (patternEnd w)) w = take-all (length w - start) (drop start w) (rw length-drop (omega arith)) ∙ ap (λ (n : ℕ). drop n w) f ∙ behind (end + 1) ∙ ap (λ (n : ℕ). drop n w) (add-one end ∙ ap suc e) in
-    rw (le-ltb 8192 (length w) h) (k ∙ rw (book, e) refl)
-  where
-    behind : (n : ℕ) → drop (min n (length w)) w ≡ drop n w
-    behind n = go (ltb n (length w)) refl
-      where
-        go : (b : Bool) → ltb n (length w) ≡ b → drop (min n (length w)) w ≡ drop n w
-        go true i = let l = ltb-true n (length w) i in let same : min n (length w) ≡ n = omega arith in rw same refl
-        go false i =
-            let l = ltb-false n (length w) i in
-            let same : min n (length w) ≡ length w = omega arith in
-            rw same (drop-length w ∙ sym (drop-of-length-le w l))
+-- the book: the input from a place on
+abbrev pub bookFrom : List ℕ → ℕ → List ℕ
+bookFrom w start = take (length w - start) (drop start w)
+
+-- an input that is not too long, where its pattern ends, and where its book starts
+module _ (w : List ℕ) {end start : ℕ} (h : length w ≤ 8192) (e : end ≡ patternEnd w) (f : start ≡ min (end + 1) (length w)) where
+  pub answer-book : (before after : List ℕ) (r : BookCount) → outcome r after ≡ lastResult (bookFrom w start) (take end w) before → outcome r after ≡ programResult w before
+  unfolding programResult
+  answer-book before after r k =
+      let book : bookFrom w start ≡ drop (suc (patternEnd w)) w = take-all (length w - start) (drop start w) (rw length-drop (omega arith)) ∙ ap (λ (n : ℕ). drop n w) f ∙ behind (end + 1) ∙ ap (λ (n : ℕ). drop n w) (add-one end ∙ ap suc e) in
+      rw (le-ltb 8192 (length w) h) (k ∙ rw (book, e) refl)
+    where
+      behind : (n : ℕ) → drop (min n (length w)) w ≡ drop n w
+      behind n = go (ltb n (length w)) refl
+        where
+          go : (b : Bool) → ltb n (length w) ≡ b → drop (min n (length w)) w ≡ drop n w
+          go true i = let l = ltb-true n (length w) i in let same : min n (length w) ≡ n = omega arith in rw same refl
+          go false i =
+              let l = ltb-false n (length w) i in
+              let same : min n (length w) ≡ length w = omega arith in
+              rw same (drop-length w ∙ sym (drop-of-length-le w l))
 
 -- What is told does not rest on the work words afterwards.
 module _ (r : BookCount) (after : List ℕ) where
@@ -114,7 +119,7 @@ module _ (r : BookCount) (after : List ℕ) where
   unfolding programAnswer
   program-told w e = told-of e
 
-  pub macro-told : (book pattern : List ℕ) (m : ℕ) → outcome r after ≡ countResult (readBook book) (readPattern pattern) m (replicate mostWords 0) → toldBy r ≡ macroAnswer book pattern m
+  pub macro-told : (book pattern : List ℕ) (m : ℕ) → outcome r after ≡ bookResult book pattern m (replicate mostWords 0) → toldBy r ≡ macroAnswer book pattern m
   unfolding macroAnswer
   macro-told book pattern m e = told-of e
 

@@ -19,10 +19,9 @@ use Rattle.book.proofs.Coding.{encode-read}
 use Rattle.book.proofs.Reach.{expansion-alike}
 use Rattle.pattern.specs.Moves.{states}
 use Rattle.pattern.specs.Reader as reader
-use Rattle.lines.specs.Lines.{matching}
 use Rattle.reports.specs.Reports.{most}
 use Rattle.reports.specs.Words.{pairs}
-use Rattle.counter.specs.Counting.{itemSteps, stepsWithin, steps, itemsTo, Outcome, finished, stopped, filled, needed, mostWords, countOf, countResult}
+use Rattle.counter.specs.Counting.{itemSteps, stepsWithin, steps, itemsTo, Outcome, matchingLines, finished, stopped, finishedIf, filled, needed, mostWords, countOf, countResult, bookResult}
 use Rattle.runs.proofs.CountLaws.{sum-le, sum-scale}
 use Rattle.pattern.specs.Form.{Pattern}
 use Rattle.book.proofs.LayoutLaws.{macros-few}
@@ -39,33 +38,41 @@ pub record Countable (b p work : List ℕ) (ms : List Macro) (t : Pattern) (m : 
 
 module _ {b p work : List ℕ} {ms : List Macro} {t : Pattern} {m : ℕ} (a : Countable b p work ms t m) where
   -- what is answered then
-  answer : countResult (readBook b) (reader.readPattern p) m work ≡ countOf t ms m work
+  answer : bookResult b p m work ≡ countOf t ms m work
   unfolding countResult
   answer =
       rw (a .book, encode-read ms (a .well), a .pattern, lt-ltb m (length ms) (a .inside), le-ltb (length work) (needed t m) (a .enough)) refl
 
   -- "the count given equals the number of lines of the macro's written-out run that match"
-  pub count-equals : matching t (expansion ms m) ≤ most → countResult (readBook b) (reader.readPattern p) m work ≡ finished (matching t (expansion ms m)) (steps t ms m) (filled t ms m work)
-  count-equals h = answer ∙ rw (le-leb (matching t (expansion ms m)) most h) refl
+  pub count-equals : matchingLines t ms m ≤ most → bookResult b p m work ≡ finished (matchingLines t ms m) (steps t ms m) (filled t ms m work)
+  count-equals h = answer ∙ rw (le-leb (matchingLines t ms m) most h) refl
 
   -- "It is refused exactly when that number passes 2^64 − 1."
-  pub count-refused : most < matching t (expansion ms m) → countResult (readBook b) (reader.readPattern p) m work ≡ stopped CountOverflow (filled t ms m work)
-  count-refused h = answer ∙ rw (lt-leb (matching t (expansion ms m)) most h) refl
+  pub count-refused : most < matchingLines t ms m → bookResult b p m work ≡ stopped CountOverflow (filled t ms m work)
+  count-refused h = answer ∙ rw (lt-leb (matchingLines t ms m) most h) refl
 
-  pub refused-exactly : (0 < countResult (readBook b) (reader.readPattern p) m work .refusal) ↔ (most < matching t (expansion ms m))
-  refused-exactly = (λ h. go (leb (matching t (expansion ms m)) most) refl (rw answer at h), λ h. rw (count-refused h) (omega arith))
+  pub refused-exactly : (0 < bookResult b p m work .refusal) ↔ (most < matchingLines t ms m)
+  refused-exactly = (λ h. go (leb (matchingLines t ms m) most) refl (rw answer at h), λ h. rw (count-refused h) (omega arith))
     where
-      go : (x : Bool) → leb (matching t (expansion ms m)) most ≡ x → 0 < cond x (finished (matching t (expansion ms m)) (steps t ms m) (filled t ms m work)) (stopped CountOverflow (filled t ms m work)) .refusal → most < matching t (expansion ms m)
+      go : (x : Bool) → leb (matchingLines t ms m) most ≡ x → 0 < finishedIf x (matchingLines t ms m) (steps t ms m) (filled t ms m work) .refusal → most < matchingLines t ms m
       go true e h = absurd (omega arith)
-      go false e h = leb-false (matching t (expansion ms m)) most e
+      go false e h = leb-false (matchingLines t ms m) most e
+
+-- "alike in every macro that the one named reaches"
+abbrev pub AlikeReached : List Macro → List Macro → ℕ → Type 0
+AlikeReached ms ns m = (j : ℕ) → Reaches ms m j → Alike ms ns j
+
+-- "give the same count .. or are both refused", and for the same reason
+abbrev pub SameCount : Outcome → Outcome → Type 0
+SameCount x y = (x .refusal ≡ y .refusal) × (x .lines ≡ y .lines)
 
 -- "Two sound books alike in every macro that the one named reaches, whatever their other macros hold, give the same count for it
 -- under the same pattern, each with such work space, or are both refused."
-module _ {b c p work space : List ℕ} {ms ns : List Macro} {t : Pattern} {m : ℕ} (x : Countable b p work ms t m) (y : Countable c p space ns t m) (alike : (j : ℕ) → Reaches ms m j → Alike ms ns j) where
-  pub alike-counts : (countResult (readBook b) (reader.readPattern p) m work .refusal ≡ countResult (readBook c) (reader.readPattern p) m space .refusal) × (countResult (readBook b) (reader.readPattern p) m work .lines ≡ countResult (readBook c) (reader.readPattern p) m space .lines)
-  alike-counts = rw (answer x, answer y, expansion-alike ms ns m alike) (go (leb (matching t (expansion ns m)) most) (matching t (expansion ns m)) (steps t ms m) (steps t ns m) (filled t ms m work) (filled t ns m space))
+module _ {b c p work space : List ℕ} {ms ns : List Macro} {t : Pattern} {m : ℕ} (x : Countable b p work ms t m) (y : Countable c p space ns t m) (alike : AlikeReached ms ns m) where
+  pub alike-counts : SameCount (bookResult b p m work) (bookResult c p m space)
+  alike-counts = rw (answer x, answer y, expansion-alike ms ns m alike) (go (leb (matchingLines t ns m) most) (matchingLines t ns m) (steps t ms m) (steps t ns m) (filled t ms m work) (filled t ns m space))
     where
-      go : (z : Bool) (n k j : ℕ) (v w : List ℕ) → (cond z (finished n k v) (stopped CountOverflow v) .refusal ≡ cond z (finished n j w) (stopped CountOverflow w) .refusal) × (cond z (finished n k v) (stopped CountOverflow v) .lines ≡ cond z (finished n j w) (stopped CountOverflow w) .lines)
+      go : (z : Bool) (n k j : ℕ) (v w : List ℕ) → SameCount (finishedIf z n k v) (finishedIf z n j w)
       go true n k j v w = (refl, refl)
       go false n k j v w = (refl, refl)
 
@@ -104,7 +111,7 @@ module _ (m : ℕ) (work : List ℕ) where
   abbrev Left : Outcome → Type 0
   Left o = 0 < o .refusal → (o .lines ≡ 0) × (o .steps ≡ 0) × ((o .refusal ≡ 12 → ⊥) → o .work ≡ work)
 
-  left-with : (x y z : Bool) (n k : ℕ) (v : List ℕ) → Left (cond x (cond y (stopped InsufficientSpace work) (cond z (finished n k v) (stopped CountOverflow v))) (stopped NoSuchMacro work))
+  left-with : (x y z : Bool) (n k : ℕ) (v : List ℕ) → Left (cond x (cond y (stopped InsufficientSpace work) (finishedIf z n k v)) (stopped NoSuchMacro work))
   left-with true true z n k v h = (refl, refl, λ e. refl)
   left-with true false true n k v h = absurd (omega arith)
   left-with true false false n k v h = (refl, refl, λ e. absurd (e refl))
@@ -115,4 +122,4 @@ module _ (m : ℕ) (work : List ℕ) where
   refused-left (refused q) r h = (refl, refl, λ e. refl)
   refused-left (got ms rest) (reader.refused q) h = (refl, refl, λ e. refl)
   refused-left (got ms rest) (reader.accepted t) h =
-      left-with (ltb m (length ms)) (ltb (length work) (needed t m)) (leb (matching t (expansion ms m)) most) (matching t (expansion ms m)) (steps t ms m) (filled t ms m work) h
+      left-with (ltb m (length ms)) (ltb (length work) (needed t m)) (leb (matchingLines t ms m) most) (matchingLines t ms m) (steps t ms m) (filled t ms m work) h

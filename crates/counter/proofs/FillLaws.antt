@@ -4,13 +4,12 @@ use native.Mathlib.Omega.{arith}
 use native.Mathlib.Nat.{mul-le-mul-right, lt-of-le-of-lt}
 use mathlib.Core.Path.{_≡_, refl, sym, ap, _∙_}
 use mathlib.Core.Bool.{true}
-use mathlib.Core.List.{List, [], _++_, List·Memᴰ}
+use mathlib.Core.List.{List, [], _++_}
 use lib.ListN.{length, getD, take, drop}
 use Rattle.runs.specs.Kept.{firstWords}
 use Rattle.runs.specs.Counts.{sumBelow}
 use Rattle.runs.proofs.KeptLaws.{words-none, words-at, words-stored}
 use Rattle.runs.proofs.CountLaws.{sum-none, sum-more}
-use Rattle.book.specs.declared.item.Item.{Item}
 use Rattle.book.specs.declared.item.Item.the-variants.{Key, Call}
 use Rattle.book.specs.declared.macro_items.Items.{Items}
 use Rattle.book.specs.Format.{Macro, wellFormed}
@@ -30,8 +29,8 @@ use Rattle.reports.specs.Words.{loadedAt, storedAt}
 use Rattle.reports.proofs.ReportLaws.{report-size}
 use Rattle.reports.proofs.StoredLaws.{words-length, loaded-from, stored-there}
 use Rattle.counter.specs.declared.items.MacroCount.{MacroCount}
-use Rattle.counter.specs.Counting.{mostWords, stepsWithin, steps, macroWords}
-use Rattle.counter.specs.Promises.{Served, ItemsFit, ItemsCounted, MacroFits, Filled}
+use Rattle.counter.specs.Counting.{mostWords, stepsWithin, steps, macroWords, reportsOver}
+use Rattle.counter.specs.Promises.{placeOf, AllServed, ItemsFit, ItemsCounted, MacroFits, Filled}
 
 module _ (t : Pattern) (few : atomCount t ≤ 29) (ms : List Macro) where
   -- the report of macro j, where those of the first n stand in front
@@ -41,7 +40,7 @@ module _ (t : Pattern) (few : atomCount t ≤ 29) (ms : List Macro) where
       loaded-from t few (expansion ms j) work behind (j * (states t + 4)) (ap (drop (j * (states t + 4))) e ∙ there)
 
   -- a macro's items are served by the reports of those below it
-  pub served : wellFormed ms ≡ true → (i : ℕ) (work rest : List ℕ) → work ≡ firstWords (macroWords t ms) i ++ rest → (item : Item) → List·Memᴰ item (getD ms i []) → Served t (λ j. expansion ms j) work item
+  pub served : wellFormed ms ≡ true → (i : ℕ) (work rest : List ℕ) → work ≡ firstWords (macroWords t ms) i ++ rest → AllServed t (λ j. expansion ms j) work (getD ms i [])
   served well i work rest e (Key k) m = well-key ms well i m
   served well i work rest e (Call j) m = (reports-at i j (calls-lower ms well m) work rest e, expansion-run ms well j)
 
@@ -50,7 +49,7 @@ pub record FillSoFar (keys enter : List ℕ) (p : Accepting) (ms : List Macro) (
   pub inside : i ≤ suc m
   pub long : length after ≡ length before
   pub few : n ≤ i * 131072
-  pub counts : (t : Pattern) → Automaton t keys enter p → (after ≡ firstWords (macroWords t ms) i ++ drop (i * (states t + 4)) before) × (n ≡ sumBelow i (stepsWithin t ms))
+  pub counts : (t : Pattern) → Automaton t keys enter p → (after ≡ reportsOver t ms i before) × (n ≡ sumBelow i (stepsWithin t ms))
 
 module _ {keys enter : List ℕ} {p : Accepting} {ms : List Macro} {m : ℕ} {before : List ℕ} where
   pub fill-start : FillSoFar keys enter p ms m before before 0 0
@@ -73,46 +72,49 @@ module _ {keys enter : List ℕ} {p : Accepting} {ms : List Macro} {m : ℕ} {be
 pub items-fit : (book offsets : List ℕ) (i : ℕ) {p : Accepting} {items : Items} → p .states ≤ 32 → items ≡ itemsFrom book offsets i → ItemsFit items p
 items-fit book offsets i h e = record { few = count-few book offsets i e; there = count-fits book offsets i e; small = h }
 
-module _ {keys enter : List ℕ} {p : Accepting} {book offsets : List ℕ} {m : ℕ} {before : List ℕ} {work : List ℕ} {n i : ℕ} (x : FillSoFar keys enter p (macrosIn book) m before work n i) (g : MacroFits book offsets m p before) (below : i ≤ m) where
-  -- a place is small: a book has at most 1,024 macros
-  pub place-small : i * (p .states + 4) ≤ mostWords
-  place-small =
-      let low : i ≤ 1024 = omega (arith, g .inside, macros-few book) in
-      let thin : p .states + 4 ≤ 36 = omega (arith, g .small) in
-      omega (arith, mul-le-mul-right (p .states + 4) low)
+module _ {keys enter : List ℕ} {p : Accepting} {book : List ℕ} {m : ℕ} {before work : List ℕ} {n i : ℕ} (x : FillSoFar keys enter p (macrosIn book) m before work n i) where
+  module _ {offsets : List ℕ} (g : MacroFits book offsets m p before) (below : i ≤ m) where
+    -- a place is small: a book has at most 1,024 macros
+    pub place-small : placeOf p i ≤ mostWords
+    place-small =
+        let low : i ≤ 1024 = omega (arith, g .inside, macros-few book) in
+        let thin : p .states + 4 ≤ 36 = omega (arith, g .small) in
+        omega (arith, mul-le-mul-right (p .states + 4) low)
 
-  pub fill-on : {items : Items} {a : MacroCount} {after : List ℕ} → items ≡ itemsFrom book offsets i → ItemsCounted keys enter p work (decoded items) a → length after ≡ length work → after ≡ storedAt work (i * (p .states + 4)) (a .report) → FillSoFar keys enter p (macrosIn book) m before after (n + a .steps) (i + 1)
-  fill-on {items} {a} {after} f h l e =
-      record {
-        inside = omega arith;
-        long = l ∙ x .long;
-        few = omega (arith, x .few, h .few);
-        counts = λ t d.
-            let done = x .counts t d in
-            let one = h .counts t d (λ k. expansion ms k) (rw its (served t (d .few) ms well i work (drop (i * (states t + 4)) before) (done .0))) in
-            let whole : a .report ≡ report t (expansion ms i) = one .0 ∙ rw its (ap (report t) (sym (expansion-law ms well i))) in
-            (next t d (done .0) whole, ap (λ (k : ℕ). k + a .steps) (done .1) ∙ ap (λ (k : ℕ). sumBelow i (stepsWithin t ms) + k) (one .1 ∙ rw its refl) ∙ sym (sum-more i (stepsWithin t ms)));
-      }
-    where
-      ms : List Macro
-      ms = macrosIn book
+    -- macro i, whose items are counted
+    module _ {items : Items} (f : items ≡ itemsFrom book offsets i) {a : MacroCount} (h : ItemsCounted keys enter p work (decoded items) a) where
+      pub fill-on : {after : List ℕ} → length after ≡ length work → after ≡ storedAt work (placeOf p i) (a .report) → FillSoFar keys enter p (macrosIn book) m before after (n + a .steps) (i + 1)
+      fill-on {after} l e =
+          record {
+            inside = omega arith;
+            long = l ∙ x .long;
+            few = omega (arith, x .few, h .few);
+            counts = λ t d.
+                let done = x .counts t d in
+                let one = h .counts t d (λ k. expansion ms k) (rw its (served t (d .few) ms well i work (drop (i * (states t + 4)) before) (done .0))) in
+                let whole : a .report ≡ report t (expansion ms i) = one .0 ∙ rw its (ap (report t) (sym (expansion-law ms well i))) in
+                (next t d (done .0) whole, ap (λ (k : ℕ). k + a .steps) (done .1) ∙ ap (λ (k : ℕ). sumBelow i (stepsWithin t ms) + k) (one .1 ∙ rw its refl) ∙ sym (sum-more i (stepsWithin t ms)));
+          }
+        where
+          ms : List Macro
+          ms = macrosIn book
 
-      well : wellFormed ms ≡ true
-      well = well-in book (g .inside)
+          well : wellFormed ms ≡ true
+          well = well-in book (g .inside)
 
-      its : decoded items ≡ getD ms i []
-      its = ap decoded (f ∙ ap (λ (o : List ℕ). itemsFrom book o i) (g .table)) ∙ items-sound book i (lt-of-le-of-lt below (g .inside))
+          its : decoded items ≡ getD ms i []
+          its = ap decoded (f ∙ ap (λ (o : List ℕ). itemsFrom book o i) (g .table)) ∙ items-sound book i (lt-of-le-of-lt below (g .inside))
 
-      next : (t : Pattern) → Automaton t keys enter p → work ≡ firstWords (macroWords t ms) i ++ drop (i * (states t + 4)) before → a .report ≡ report t (expansion ms i) → after ≡ firstWords (macroWords t ms) (i + 1) ++ drop ((i + 1) * (states t + 4)) before
-      next t d j w =
-          let k = states t + 4 in
-          let size : report t (expansion ms i) .s ≡ states t = report-size t (expansion ms i) in
-          let room : suc m * k ≤ length before = rw (states-of d) at (g .room) in
-          let low : suc i ≤ suc m = omega arith in
-          let there : i * k + k ≤ length work = omega (arith, mul-le-mul-right k low, x .long, room) in
-          let run = expansion ms i in
-          let put : storedAt work (i * k) (report t run) ≡ take (i * k) work ++ (macroWords t ms i ++ drop (i * k + k) work) =
-          stored-there work (i * k) (report t run) (rw size (omega (arith, d .few))) (rw size there) ∙ ap (λ (z : ℕ). take (i * k) work ++ (macroWords t ms i ++ drop (i * k + (z + 4)) work)) size in
-          let all : after ≡ take (i * k) work ++ (macroWords t ms i ++ drop (i * k + k) work) =
-          e ∙ ap (λ (z : ℕ). storedAt work (i * (z + 4)) (a .report)) (states-of d) ∙ ap (storedAt work (i * k)) w ∙ put in
-          words-stored (macroWords t ms) k (λ q. words-length t (d .few) (expansion ms q)) i before work after j all
+          next : (t : Pattern) → Automaton t keys enter p → work ≡ reportsOver t ms i before → a .report ≡ report t (expansion ms i) → after ≡ reportsOver t ms (i + 1) before
+          next t d j w =
+              let k = states t + 4 in
+              let size : report t (expansion ms i) .s ≡ states t = report-size t (expansion ms i) in
+              let room : suc m * k ≤ length before = rw (states-of d) at (g .room) in
+              let low : suc i ≤ suc m = omega arith in
+              let there : i * k + k ≤ length work = omega (arith, mul-le-mul-right k low, x .long, room) in
+              let run = expansion ms i in
+              let put : storedAt work (i * k) (report t run) ≡ take (i * k) work ++ (macroWords t ms i ++ drop (i * k + k) work) =
+              stored-there work (i * k) (report t run) (rw size (omega (arith, d .few))) (rw size there) ∙ ap (λ (z : ℕ). take (i * k) work ++ (macroWords t ms i ++ drop (i * k + (z + 4)) work)) size in
+              let all : after ≡ take (i * k) work ++ (macroWords t ms i ++ drop (i * k + k) work) =
+              e ∙ ap (λ (z : ℕ). storedAt work (i * (z + 4)) (a .report)) (states-of d) ∙ ap (storedAt work (i * k)) w ∙ put in
+              words-stored (macroWords t ms) k (λ q. words-length t (d .few) (expansion ms q)) i before work after j all

@@ -79,12 +79,16 @@ run-of-item : (t : Pattern) (called : ℕ → List ℕ) (work : List ℕ) (i : I
 run-of-item t called work (Key k) h = run-cons k [] h run-none
 run-of-item t called work (Call j) h = h .1
 
+-- a and n are the report and the steps of some items, whose keys are a run
+abbrev pub ReportAndSteps : Pattern → (ℕ → List ℕ) → List Item → Report → ℕ → Type 0
+ReportAndSteps t called items a n = (a ≡ report t (expand called items)) × (isRun (expand called items) ≡ true) × (n ≡ itemSteps t called items)
+
 -- All items: after k of them.
 pub record ItemsSoFar (keys enter : List ℕ) (p : Accepting) (work : List ℕ) (items : Items) (a : Report) (n k : ℕ) : Type 0 where
   pub inside : k ≤ items .count
   pub small : a .s ≤ 32
   pub few : n ≤ k * 2048
-  pub counts : (t : Pattern) → Automaton t keys enter p → (called : ℕ → List ℕ) → AllServed t called work (decoded items) → (a ≡ report t (expand called (take k (decoded items)))) × (isRun (expand called (take k (decoded items))) ≡ true) × (n ≡ itemSteps t called (take k (decoded items)))
+  pub counts : (t : Pattern) → Automaton t keys enter p → (called : ℕ → List ℕ) → AllServed t called work (decoded items) → ReportAndSteps t called (take k (decoded items)) a n
 
 module _ {keys enter : List ℕ} {p : Accepting} {work : List ℕ} {items : Items} (fits : ItemsFit items p) where
   pub items-start : {a : Report} → a ≡ emptyReport (p .states) → ItemsSoFar keys enter p work items a 0 0

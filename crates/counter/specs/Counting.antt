@@ -1,21 +1,21 @@
 -- Document 01, "States and steps", "Reports" and "Refused": the count over a book, its steps and its work words.
 use Prim.Native.Nat.{ℕ, suc, _+_, _*_}
-use mathlib.Core.Bool.{cond}
-use mathlib.Core.List.{List, [], _++_}
+use mathlib.Core.Bool.{Bool, cond}
+use mathlib.Core.List.{List, []}
 use lib.Dec.{leb, ltb}
-use lib.ListN.{length, getD, take, drop}
+use lib.ListN.{length, getD, take}
 use Rattle.refusal.specs.declared.Refusal.{Refusal}
 use Rattle.refusal.specs.declared.Refusal.the-variants.{NoSuchMacro, InsufficientSpace, CountOverflow}
 use Rattle.refusal.specs.Number.{number}
 use Rattle.book.specs.Format.{Macro}
 use Rattle.book.specs.Expansion.{expand, expansion}
-use Rattle.book.specs.Reading.{Reading, got, refused}
+use Rattle.book.specs.Reading.{Reading, got, refused, readBook}
 use Rattle.pattern.specs.Moves.{states}
 use Rattle.pattern.specs.Reader as reader
 use Rattle.lines.specs.Lines.{matching}
 use Rattle.reports.specs.Reports.{most, report}
 use Rattle.reports.specs.Words.{pairs, reportWords}
-use Rattle.runs.specs.Kept.{firstWords}
+use Rattle.runs.specs.Kept.{wordsOver}
 use Rattle.pattern.specs.Form.{Pattern}
 use Rattle.runs.specs.Counts.{sumBelow}
 
@@ -51,9 +51,13 @@ mostWords = 1024 * (32 + 4)
 abbrev pub macroWords : Pattern → List Macro → ℕ → List ℕ
 macroWords t ms i = reportWords (report t (expansion ms i))
 
+-- the reports of the first n macros stored over the front of the work words
+abbrev pub reportsOver : Pattern → List Macro → ℕ → List ℕ → List ℕ
+reportsOver t ms n work = wordsOver (macroWords t ms) (states t + 4) n work
+
 -- "After it these first words hold the reports of macros 0 to m .. Later words are not touched."
 abbrev pub filled : Pattern → List Macro → ℕ → List ℕ → List ℕ
-filled t ms m work = firstWords (macroWords t ms) (suc m) ++ drop (needed t m) work
+filled t ms m work = reportsOver t ms (suc m) work
 
 -- The answer: the refusal's number, or 0 with the lines and the steps; and the work words.
 pub record Outcome : Type 0 where
@@ -68,12 +72,17 @@ stopped r work = record { refusal = number r; lines = 0; steps = 0; work = work 
 abbrev pub finished : ℕ → ℕ → List ℕ → Outcome
 finished n k work = record { refusal = 0; lines = n; steps = k; work = work }
 
+-- "the number of lines of the macro's written-out run that match"
+abbrev pub matchingLines : Pattern → List Macro → ℕ → ℕ
+matchingLines t ms m = matching t (expansion ms m)
+
+-- n lines and k steps where b says that the lines are within the largest count, or 12
+abbrev pub finishedIf : Bool → ℕ → ℕ → List ℕ → Outcome
+finishedIf b n k work = cond b (finished n k work) (stopped CountOverflow work)
+
 -- 12: "over 2^64 − 1", which "leaves the reports written"
 abbrev pub countOf : Pattern → List Macro → ℕ → List ℕ → Outcome
-countOf t ms m work =
-    cond (leb (matching t (expansion ms m)) most)
-    (finished (matching t (expansion ms m)) (steps t ms m) (filled t ms m work))
-    (stopped CountOverflow (filled t ms m work))
+countOf t ms m work = finishedIf (leb (matchingLines t ms m) most) (matchingLines t ms m) (steps t ms m) (filled t ms m work)
 
 -- 10: "m not below M"; 11: "fewer words .. than stated"; "other lent memory is unchanged"
 abbrev pub countWith : List Macro → Pattern → ℕ → List ℕ → Outcome
@@ -87,3 +96,7 @@ unfoldable pub countResult : Reading (List Macro) → reader.Read → ℕ → Li
 countResult (refused r) p m work = stopped r work
 countResult (got ms rest) (reader.refused r) m work = stopped r work
 countResult (got ms rest) (reader.accepted t) m work = countWith ms t m work
+
+-- what the count of macro m answers, of a book and under a pattern as they are lent
+abbrev pub bookResult : List ℕ → List ℕ → ℕ → List ℕ → Outcome
+bookResult book pattern m work = countResult (readBook book) (reader.readPattern pattern) m work

@@ -44,6 +44,14 @@ pub record ItemsFit (items : Items) (p : Accepting) : Type 0 where
   pub there : items .count ≤ length (items .codes)
   pub small : p .states ≤ 32
 
+-- how many work words a count of macro m takes
+abbrev pub wordsFor : Accepting → ℕ → ℕ
+wordsFor p m = (m + 1) * (p .states + 4)
+
+-- the place of macro i's report in the work words
+abbrev pub placeOf : Accepting → ℕ → ℕ
+placeOf p i = i * (p .states + 4)
+
 -- the report of the run of some items, and their steps; each item has at most 32 × 64 pairs
 pub record ItemsCounted (keys enter : List ℕ) (p : Accepting) (work : List ℕ) (items : List Item) (r : MacroCount) : Type 0 where
   pub few : r .steps ≤ 131072
@@ -78,3 +86,7 @@ pub record PatternFits (p : Accepting) : Type 0 where
 -- the count of macro m of a sound book under an accepted pattern
 unfoldable pub PatternCounted : List ℕ → List ℕ → Accepting → List Macro → ℕ → List ℕ → List ℕ → BookCount → Type 0
 PatternCounted keys enter p ms m before after r = (t : Pattern) → Automaton t keys enter p → outcome r after ≡ countWith ms t m before
+
+-- the same of a book as it is lent
+abbrev pub CountedIn : List ℕ → List ℕ → Accepting → List ℕ → ℕ → List ℕ → List ℕ → BookCount → Type 0
+CountedIn keys enter p book m before after r = PatternCounted keys enter p (macrosIn book) m before after r
