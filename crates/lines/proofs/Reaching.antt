@@ -21,17 +21,24 @@ use Rattle.pattern.proofs.Moving.{advanced}
 use Rattle.pattern.proofs.Readings.{always-of, ends-of, accepting-of}
 use Rattle.pattern.proofs.AcceptedLines.{states-match}
 use Rattle.pattern.proofs.Leading.{leads-none, accepted-is, leads-append, leads-one, leads-below}
-use Rattle.lines.specs.Moving.{moved, reached, accepts, lookedUp}
+use Rattle.lines.specs.Moving.{moved, startSet, reached, accepts, lookedUp}
 
--- a move, from what each word of it is
-pub made : (keys enter : List ℕ) (a : Accepting) (x k : ℕ) {start mid found i e u on always ended near far r : ℕ} {m n o : Bool} →
-    start ≡ 2 ^ 0 % 2 ^ 64 → mid ≡ 2 ^ 1 % 2 ^ 64 → found ≡ 2 ^ 2 % 2 ^ 64 → i ≡ imageOf enter x → e ≡ bitAnd i (getD keys k 0) →
-    u ≡ bitOr start mid → m ≡ common 64 x u → on ≡ cond m mid 0 → n ≡ common 64 x (a .always) → always ≡ cond n found 0 →
-    o ≡ common 64 e (a .ends) → ended ≡ cond o found 0 → near ≡ bitOr e on → far ≡ bitOr always ended → r ≡ bitOr near far → r ≡ lookedUp keys enter a x k
-unfolding lookedUp
-made keys enter a x k s d f i e u m on n al o en near far r = rw (r, far, near, en, o, al, n, on, m, u, e, i, f, d, s) refl
+-- A move, from what each word of it is.
+module _ (keys enter : List ℕ) (a : Accepting) (x k : ℕ) where
+  -- line-start, mid-line and found alone
+  module _ {start mid found : ℕ} (s : start ≡ startSet) (d : mid ≡ 2 ^ 1 % 2 ^ 64) (f : found ≡ 2 ^ 2 % 2 ^ 64) where
+    -- the atoms that are entered
+    module _ {i e : ℕ} (p : i ≡ imageOf enter x) (q : e ≡ bitAnd i (getD keys k 0)) where
+      -- mid-line, from line-start and mid-line
+      module _ {u on : ℕ} {m : Bool} (b : u ≡ bitOr start mid) (c : m ≡ common 64 x u) (g : on ≡ cond m mid 0) where
+        -- found, from the states that every key leads there, and by the atoms entered
+        module _ {always ended : ℕ} {n o : Bool} (h : n ≡ common 64 x (a .always)) (j : always ≡ cond n found 0) (l : o ≡ common 64 e (a .ends)) (v : ended ≡ cond o found 0) where
+          -- and all of them together
+          pub made : {near far r : ℕ} → near ≡ bitOr e on → far ≡ bitOr always ended → r ≡ bitOr near far → r ≡ lookedUp keys enter a x k
+          unfolding lookedUp
+          made w y z = rw (z, y, w, v, l, j, h, g, c, b, q, p, f, d, s) refl
 
--- it leads to the states that the pattern's moves lead to
+-- a move by look-up leads to the states that the pattern's moves lead to
 pub looked-up : {t : Pattern} {keys enter : List ℕ} {a : Accepting} → Automaton t keys enter a → (x k : ℕ) → lineKey k ≡ true → lookedUp keys enter a x k ≡ moved t x k
 unfolding lookedUp moved
 looked-up {t} d x k l = rw (d .keyed, d .entered, always-of d, ends-of d) (advanced t (d .few) x k l)

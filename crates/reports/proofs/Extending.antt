@@ -207,9 +207,11 @@ module _ (t : Pattern) (w : List ℕ) where
         rw (later-kept w v e, first-kept w v e, before-open l ls v (matches t) (key-part k f), last-open l ls v (key-part k f)) refl
 
 -- two reports with the same words
-same-report : {s s' : ℕ} {rows rows' : List ℕ} {flag flag' heads heads' closed closed' tail tail' : ℕ} → s ≡ s' → rows ≡ rows' → flag ≡ flag' → heads ≡ heads' → closed ≡ closed' → tail ≡ tail' →
-    _≡_ {A = Report} (record { s = s; rows = rows; flag = flag; heads = heads; closed = closed; tail = tail }) (record { s = s'; rows = rows'; flag = flag'; heads = heads'; closed = closed'; tail = tail' })
-same-report e f g h i j = rw (e, f, g, h, i, j) refl
+same-report : {a b : Report} → a .s ≡ b .s → a .rows ≡ b .rows → a .flag ≡ b .flag → a .heads ≡ b .heads → a .closed ≡ b .closed → a .tail ≡ b .tail → a ≡ b
+same-report {a} {b} e f g h i j = all
+  where
+    all : record { s = a .s; rows = a .rows; flag = a .flag; heads = a .heads; closed = a .closed; tail = a .tail } ≡ b
+    all = rw (e, f, g, h, i, j) refl
 
 -- a is the report of run w, whose later parts are l and ls
 pub record HasEnds (t : Pattern) (a : Report) (w l : List ℕ) (ls : List (List ℕ)) : Type 0 where

@@ -20,11 +20,11 @@ use Rattle.pattern.specs.Meaning.{matches}
 use Rattle.reports.specs.declared.report.Report.{Report}
 use Rattle.reports.specs.declared.total.Total.{Total}
 use Rattle.lines.specs.Lines.{matching, isOpen}
-use Rattle.reports.specs.Reports.{most, withoutEnd, reportWith, report}
+use Rattle.reports.specs.Reports.{most, reportWith, report}
 use Rattle.reports.specs.Promises.{LastLine, Tells, Totals, totalOf}
 use Rattle.reports.proofs.JoinLaw.{row-of, flag-set}
 use Rattle.lines.proofs.Tallying.{at-most-one}
-use Rattle.reports.proofs.Extending.{row-accepts, reportAfter}
+use Rattle.reports.proofs.Extending.{row-accepts}
 use Rattle.pattern.specs.Form.{Pattern, atomCount}
 use Rattle.runs.specs.Keys.{isLine, isRun}
 use Rattle.pattern.specs.declared.automaton.Accepting.{Accepting}
@@ -93,10 +93,10 @@ flag-fine n = go (leb n most) refl
 module _ (c : Accepting) (r : Report) where
   -- the report of a run without a line end, and of one with line ends
   abbrev WithoutEnd : (Pattern → List ℕ → Type 0) → Type 0
-  WithoutEnd P = (t : Pattern) → atomCount t ≤ 29 → c .accepting ≡ word 32 (accepting t) → (w : List ℕ) → isLine w ≡ true → isOpen w ≡ true → laterParts w ≡ [] → r ≡ withoutEnd (states t) (λ q p. leads t q w p) → P t w
+  WithoutEnd P = (t : Pattern) → atomCount t ≤ 29 → c .accepting ≡ word 32 (accepting t) → (w : List ℕ) → isLine w ≡ true → isOpen w ≡ true → laterParts w ≡ [] → r ≡ reportWith t w [] → P t w
 
   abbrev WithEnd : (Pattern → List ℕ → Type 0) → Type 0
-  WithEnd P = (t : Pattern) → atomCount t ≤ 29 → c .accepting ≡ word 32 (accepting t) → (w : List ℕ) → isRun w ≡ true → (l : List ℕ) (ls : List (List ℕ)) → laterParts w ≡ l ∷ ls → r ≡ reportAfter t w (countBefore (matches t) l ls) (lastPart l ls) → P t w
+  WithEnd P = (t : Pattern) → atomCount t ≤ 29 → c .accepting ≡ word 32 (accepting t) → (w : List ℕ) → isRun w ≡ true → (l : List ℕ) (ls : List (List ℕ)) → laterParts w ≡ l ∷ ls → r ≡ reportWith t w (l ∷ ls) → P t w
 
   by-parts : (x : Total) → WithoutEnd (λ t w. x ≡ totalOf (matching t w)) → WithEnd (λ t w. x ≡ totalOf (matching t w)) → Totals c r x
   unfolding Totals report
