@@ -24,9 +24,9 @@ use Rattle.reports.specs.Reports.{most, reportWith, report}
 use Rattle.reports.specs.Promises.{LastLine, Tells, Totals, totalOf}
 use Rattle.reports.proofs.JoinLaw.{row-of, flag-set}
 use Rattle.lines.proofs.Tallying.{at-most-one}
-use Rattle.reports.proofs.Extending.{row-accepts}
+use Rattle.reports.proofs.Extending.{row-accepts, HasEnds}
 use Rattle.pattern.specs.Form.{Pattern, atomCount}
-use Rattle.runs.specs.Keys.{isLine, isRun}
+use Rattle.runs.specs.Keys.{isLine}
 use Rattle.pattern.specs.declared.automaton.Accepting.{Accepting}
 use Rattle.lines.specs.Parts.{firstPart, laterParts, lastPart}
 use Rattle.lines.specs.Moving.{startSet, accepts}
@@ -96,7 +96,7 @@ module _ (c : Accepting) (r : Report) where
   WithoutEnd P = (t : Pattern) → atomCount t ≤ 29 → c .accepting ≡ word 32 (accepting t) → (w : List ℕ) → isLine w ≡ true → isOpen w ≡ true → laterParts w ≡ [] → r ≡ reportWith t w [] → P t w
 
   abbrev WithEnd : (Pattern → List ℕ → Type 0) → Type 0
-  WithEnd P = (t : Pattern) → atomCount t ≤ 29 → c .accepting ≡ word 32 (accepting t) → (w : List ℕ) → isRun w ≡ true → (l : List ℕ) (ls : List (List ℕ)) → laterParts w ≡ l ∷ ls → r ≡ reportWith t w (l ∷ ls) → P t w
+  WithEnd P = (t : Pattern) → atomCount t ≤ 29 → c .accepting ≡ word 32 (accepting t) → (w l : List ℕ) (ls : List (List ℕ)) → HasEnds t r w l ls → P t w
 
   by-parts : (x : Total) → WithoutEnd (λ t w. x ≡ totalOf (matching t w)) → WithEnd (λ t w. x ≡ totalOf (matching t w)) → Totals c r x
   unfolding Totals report
@@ -104,7 +104,7 @@ module _ (c : Accepting) (r : Report) where
     where
       go : (ls : List (List ℕ)) → laterParts w ≡ ls → r ≡ reportWith t w ls → x ≡ totalOf (matching t w)
       go [] d j = f t few e w (rw (first-whole w d) at (first-line w h)) o d j
-      go (l ∷ ls) d j = g t few e w h l ls d j
+      go (l ∷ ls) d j = g t few e w l ls (record { run = h; parts = d; same = j })
 
   -- a report with line ends has a flag
   flag-of : (n : ℕ) → r .flag ≡ cond (leb n most) 1 2 → r .flag ≡ 0 → ⊥
@@ -118,40 +118,42 @@ module _ (c : Accepting) (r : Report) where
       let same : m ≡ matches t w = a ∙ rw (row, e) (tail-accepts t few w h) in
       let all : x ≡ matching t w = f ∙ rw (same, matching-whole t w d, o) refl in
       lines-shown all (omega (arith, at-most-one m f)))
-      (λ t few e w h l ls d j. absurd (flag-of (countBefore (matches t) l ls) (ap (λ (a : Report). a .flag) j) z))
+      (λ t few e w l ls d. absurd (flag-of (countBefore (matches t) l ls) (ap (λ (a : Report). a .flag) (d .same)) z))
 
   pub total-over : 1 < r .flag → Totals c r Total.TooMany
   total-over z =
       by-parts Total.TooMany
       (λ t few e w h o d j. let none : r .flag ≡ 0 = ap (λ (a : Report). a .flag) j in absurd (omega arith))
-      (λ t few e w h l ls d j.
+      (λ t few e w l ls d.
       many-shown (matching t w)
       (omega
-      (arith, flag-over (countBefore (matches t) l ls) (rw (ap (λ (a : Report). a .flag) j) at z), matching-parts t w d)))
+      (arith, flag-over (countBefore (matches t) l ls) (rw (ap (λ (a : Report). a .flag) (d .same)) at z), matching-parts t w (d .parts))))
 
   -- flag 1: the first line, those between, and the last part
   module _ {k : Bool} {x y z : ℕ} (some : r .flag ≡ 0 → ⊥) (fine : r .flag ≤ 1) (one : z ≡ startSet) (head : k ≡ common 64 (r .heads) z) (first : x ≡ cond k 1 0) (last : LastLine c (r .tail) y) where
     sum-of : WithEnd (λ t w. (r .closed + (x + y) ≡ matching t w) × (r .closed ≤ most))
-    sum-of t few e w h l ls d j =
+    sum-of t few e w l ls d =
+        let h = d .run in
+        let j = d .same in
         let n = countBefore (matches t) l ls in
         let kept = flag-fine n (rw (ap (λ (a : Report). a .flag) j) at fine) in
         let shut : r .closed ≡ n = ap (λ (a : Report). a .closed) j ∙ rw (le-leb n most kept) refl in
         let front : k ≡ matches t (firstPart w) = head ∙ ap (common 64 (r .heads)) one ∙ common-start (r .heads) ∙ rw (ap (λ (a : Report). a .heads) j) (bit-word (states t) (λ q. acceptedFrom t q (firstPart w)) 0 (omega arith)) ∙ states-match t (firstPart w) (first-line w h) in
-        let back = last .counts t few e (lastPart l ls) (last-line l ls (rw d at (later-lines w h))) (ap (λ (a : Report). a .tail) j) in
+        let back = last .counts t few e (lastPart l ls) (last-line l ls (rw (d .parts) at (later-lines w h))) (ap (λ (a : Report). a .tail) j) in
         let ahead : x ≡ cond (matches t (firstPart w)) 1 0 = first ∙ rw front refl in
-        (omega (arith, matching-parts t w d), omega arith)
+        (omega (arith, matching-parts t w (d .parts)), omega arith)
 
     pub total-lines : x + y ≤ most - r .closed → Totals c r (Total.Lines (r .closed + (x + y)))
     total-lines b =
         by-parts (Total.Lines (r .closed + (x + y)))
         (λ t few e w h o d j. absurd (some (ap (λ (a : Report). a .flag) j)))
-        (λ t few e w h l ls d j. let a = sum-of t few e w h l ls d j in lines-shown (a .0) (omega arith))
+        (λ t few e w l ls d. let a = sum-of t few e w l ls d in lines-shown (a .0) (omega arith))
 
     pub total-many : most - r .closed < x + y → Totals c r Total.TooMany
     total-many b =
         by-parts Total.TooMany
         (λ t few e w h o d j. absurd (some (ap (λ (a : Report). a .flag) j)))
-        (λ t few e w h l ls d j. let a = sum-of t few e w h l ls d j in many-shown (matching t w) (omega arith))
+        (λ t few e w l ls d. let a = sum-of t few e w l ls d in many-shown (matching t w) (omega arith))
 
 -- the count of a run from its report, where the tables are those of a pattern
 pub totals-are : {t : Pattern} {keys enter : List ℕ} {p : Accepting} → Automaton t keys enter p → {r : Report} {x : Total} → Totals p r x → Tells t r x

@@ -3,7 +3,6 @@ use Prim.Native.Nat.{_-_, _<_, _≤_}
 use native.Mathlib.Omega.{arith}
 use mathlib.Core.Path.{_≡_, refl}
 use borrow.Author.Needs.{needs}
-use Rattle.stateset.specs.Set.{word}
 use Rattle.reports.proofs.Extending.{rowsMeeting, row-gathered}
 use Rattle.stateset.proofs.Gathering.{gathered-none}
 use Rattle.reports.proofs.extend.accepting_rows.Statement.{statement}
