@@ -10,7 +10,7 @@ use mathlib.Core.Option.{none, some}
 use lib.Dec.{leb}
 use lib.ListN.{length, getD, drop, replicate, drop-of-length-le}
 use lib.Seq.{drop-cons}
-use borrow.Author.Tests.{leb-true, leb-false, le-leb, lt-leb, not-true, not-false}
+use borrow.Author.Tests.{leb-true, leb-false, not-true, not-false}
 use Rattle.book.specs.Format.{Macro}
 use Rattle.book.specs.Reading.{readBook}
 use Rattle.pattern.specs.Reader as reader
@@ -25,14 +25,6 @@ never : {A : Type 0} → false ≡ true → A
 never e = clash (ap (λ (b : Bool). cond b 1 0) e)
 
 -- Digits.
-pub digit-low : {c : ℕ} → c < 48 → false ≡ isDigit c
-unfolding isDigit
-digit-low {c} h = rw (lt-leb 48 c h) refl
-
-pub digit-high : {c : ℕ} → 48 ≤ c → leb c 57 ≡ isDigit c
-unfolding isDigit
-digit-high {c} h = rw (le-leb 48 c h) refl
-
 pub digit-least : {c : ℕ} {b : Bool} → b ≡ isDigit c → not b ≡ false → 48 ≤ c
 unfolding isDigit
 digit-least {c} {b} e t = go (leb 48 c) refl (sym e ∙ not-false b t)

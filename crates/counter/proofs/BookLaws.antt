@@ -22,12 +22,11 @@ use Rattle.book.proofs.Expansion.{expansion-nonempty, expansion-run}
 use Rattle.pattern.specs.Form.{Pattern}
 use Rattle.pattern.specs.Moves.{states}
 use Rattle.pattern.specs.Reader as reader
-use Rattle.pattern.specs.Automata.{Automaton}
+use Rattle.pattern.specs.Automata.{Automaton, VerdictOn, KeysFrom, EnterFrom}
 use Rattle.pattern.specs.declared.automaton.Accepting.{Accepting}
 use Rattle.pattern.specs.declared.automaton.Verdict.{Verdict}
 use Rattle.pattern.proofs.Readings.{read-accepted, read-refused, states-of}
 use Rattle.lines.specs.Lines.{matching, isOpen}
-use Rattle.lines.specs.Promises.{VerdictOn, KeysFrom, EnterFrom}
 use Rattle.reports.specs.declared.report.Report.{Report}
 use Rattle.reports.specs.declared.total.Total.{Total}
 use Rattle.reports.specs.Reports.{most}

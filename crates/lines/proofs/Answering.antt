@@ -6,14 +6,14 @@ use Rattle.refusal.specs.declared.Refusal.{Refusal}
 use Rattle.refusal.specs.Figures.{Figures, refusedFor}
 use Rattle.pattern.specs.Form.{Pattern}
 use Rattle.pattern.specs.Reader.{Read, accepted, refused, readPattern}
-use Rattle.pattern.specs.Automata.{Automaton}
+use Rattle.pattern.specs.Automata.{Automaton, VerdictOn, KeysFrom, EnterFrom}
 use Rattle.pattern.specs.declared.automaton.Accepting.{Accepting}
 use Rattle.pattern.specs.declared.automaton.Verdict.{Verdict}
 use Rattle.pattern.proofs.Readings.{read-accepted, read-refused}
 use Rattle.lines.specs.declared.line.LineTest.{LineTest}
 use Rattle.lines.specs.declared.run.RunCount.{RunCount}
 use Rattle.lines.specs.Answers.{lineFigures, runFigures, lineResult, runResult}
-use Rattle.lines.specs.Promises.{VerdictOn, KeysFrom, EnterFrom, TestsLine, CountsRun}
+use Rattle.lines.specs.Promises.{TestsLine, CountsRun}
 
 module _ (p keys enter keys' enter' : List ℕ) {v : Verdict} (figures : VerdictOn p v) (keyed : KeysFrom p keys keys') (entered : EnterFrom p enter enter') where
   -- a refused pattern, whatever else is asked

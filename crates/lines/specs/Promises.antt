@@ -7,25 +7,14 @@ use lib.Dec.{eqb}
 use Rattle.runs.specs.Keys.{isLine, lineEnd}
 use Rattle.pattern.specs.Form.{Pattern}
 use Rattle.pattern.specs.Meaning.{matches}
-use Rattle.pattern.specs.Reader.{accepted, readPattern}
+use Rattle.pattern.specs.Reader.{accepted}
 use Rattle.pattern.specs.declared.automaton.Accepting.{Accepting}
-use Rattle.pattern.specs.declared.automaton.Verdict.{Verdict}
-use Rattle.pattern.specs.Automata.{Automaton, verdictFigures, readFigures, keysRead, enterRead}
+use Rattle.pattern.specs.Automata.{Automaton}
 use Rattle.lines.specs.declared.line.LineTest.{LineTest}
 use Rattle.lines.specs.declared.run.RunCount.{RunCount}
 use Rattle.lines.specs.declared.run.Tally.{Tally}
 use Rattle.lines.specs.Answers.{lineFigures, runFigures, lineResult, runResult}
 use Rattle.lines.specs.Moving.{reached}
-
--- what reading pattern p answers: the verdict on it, and the tables of keys and of entering, which may have been filled
-abbrev pub VerdictOn : List ℕ → Verdict → Type 0
-VerdictOn p v = verdictFigures v ≡ readFigures (readPattern p)
-
-abbrev pub KeysFrom : List ℕ → List ℕ → List ℕ → Type 0
-KeysFrom p keys keys' = keys' ≡ keysRead (readPattern p) keys
-
-abbrev pub EnterFrom : List ℕ → List ℕ → List ℕ → Type 0
-EnterFrom p enter enter' = enter' ≡ enterRead (readPattern p) enter
 
 -- a line's test
 unfoldable pub TestsLine : List ℕ → List ℕ → Accepting → List ℕ → LineTest → Type 0

@@ -14,7 +14,7 @@ use Rattle.pattern.specs.declared.automaton.Accepting.{Accepting}
 use Rattle.pattern.specs.Reader.{Read, accepted, refused, counted, readBranches, readPattern}
 use Rattle.brackets.specs.Brackets.{Parsed, parsed, fault}
 use Rattle.refusal.specs.Figures.{Figures, answered}
-use Rattle.pattern.specs.Automata.{Automaton, refusedPattern, verdictFigures, readFigures, keysRead, enterRead, accepts}
+use Rattle.pattern.specs.Automata.{Automaton, refusedPattern, verdictFigures, readFigures, keysRead, enterRead, accepts, VerdictOn, KeysFrom, EnterFrom}
 use Rattle.pattern.specs.declared.automaton.Verdict.{Verdict}
 use Rattle.pattern.specs.States.{endsFree, atomWord}
 use Rattle.pattern.specs.Moves.{states, jumps, accepting}
@@ -47,12 +47,8 @@ pub record AcceptedAs (p : List ℕ) (a : Accepting) (keys enter : List ℕ) : T
   pub reading : readPattern p ≡ accepted tree
   pub tables : Automaton tree keys enter a
 
--- v is the answer for the pattern p
-abbrev pub AnswersFor : List ℕ → Verdict → Type 0
-AnswersFor p v = verdictFigures v ≡ readFigures (readPattern p)
-
 -- what `read_pattern` promises
-module _ (p keys enter keys' enter' : List ℕ) {v : Verdict} (f : AnswersFor p v) (k : keys' ≡ keysRead (readPattern p) keys) (n : enter' ≡ enterRead (readPattern p) enter) where
+module _ (p keys enter keys' enter' : List ℕ) {v : Verdict} (f : VerdictOn p v) (k : KeysFrom p keys keys') (n : EnterFrom p enter enter') where
   pub read-accepted : {a : Accepting} → v ≡ Verdict.Accepted a → AcceptedAs p a keys' enter'
   read-accepted {a} h = go (readPattern p) refl (sym (ap verdictFigures h) ∙ f) k n
     where

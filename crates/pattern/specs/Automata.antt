@@ -11,7 +11,7 @@ use Rattle.refusal.specs.Figures.{Figures, answered, refusedWith}
 use Rattle.pattern.specs.declared.automaton.Accepting.{Accepting}
 use Rattle.pattern.specs.declared.automaton.Verdict.{Verdict}
 use Rattle.pattern.specs.declared.summary.Summary.{Summary}
-use Rattle.pattern.specs.Reader.{Read, accepted, refused}
+use Rattle.pattern.specs.Reader.{Read, accepted, refused, readPattern}
 use Rattle.pattern.specs.States.{endsFree, holdsKey, atomWord}
 use Rattle.pattern.specs.Moves.{states, enters, jumps, accepting}
 use Rattle.pattern.specs.Form.{Pattern, atomCount}
@@ -63,6 +63,16 @@ keysRead (refused r) keys = keys
 abbrev pub enterRead : Read → List ℕ → List ℕ
 enterRead (accepted t) enter = enterTable t
 enterRead (refused r) enter = enter
+
+-- what reading pattern p answers: the verdict on it, and the tables of keys and of entering, which may have been filled
+abbrev pub VerdictOn : List ℕ → Verdict → Type 0
+VerdictOn p v = verdictFigures v ≡ readFigures (readPattern p)
+
+abbrev pub KeysFrom : List ℕ → List ℕ → List ℕ → Type 0
+KeysFrom p keys keys' = keys' ≡ keysRead (readPattern p) keys
+
+abbrev pub EnterFrom : List ℕ → List ℕ → List ℕ → Type 0
+EnterFrom p enter enter' = enter' ≡ enterRead (readPattern p) enter
 
 -- what the branches come to: the states in which a line always matches, and those in which it does at its end
 abbrev pub alwaysOf : Summary → ℕ

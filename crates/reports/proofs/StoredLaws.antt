@@ -16,6 +16,7 @@ use Rattle.reports.specs.Words.{reportWords, loaded, loadedAt, wordsWith
 use Rattle.pattern.specs.Form.{Pattern, atomCount}
 use Rattle.stateset.proofs.Tabled.{tabled-length, tabled-at}
 use Rattle.lines.specs.Parts.{laterParts}
+use Rattle.runs.proofs.KeptLaws.{zeros-at}
 
 -- a list that ends in zeros
 padded-list : (l : List ℕ) (s : ℕ) → s ≤ length l → ((i : ℕ) → s ≤ i → i < length l → getD l i 0 ≡ 0) → take s l ++ replicate (length l - s) 0 ≡ l
@@ -38,11 +39,6 @@ rows-padded s X h =
     rw (rows-long s X) at
     (padded-list (rowsOf s X) s (rw (rows-long s X) h)
     (λ i g k. tabled-at (λ q. cond (ltb q s) (word s (X q)) 0) 32 i (rw (rows-long s X) at k) ∙ rw (le-ltb i s g) refl))
-
-zeros-at : (n i : ℕ) → _≡_ {A = ℕ} (getD (replicate n 0) i 0) 0
-zeros-at zero i = refl
-zeros-at (suc n) zero = refl
-zeros-at (suc n) (suc i) = zeros-at n i
 
 zeros-padded : (s : ℕ) → s ≤ 32 → take s noRows ++ replicate (32 - s) 0 ≡ noRows
 zeros-padded s h = padded-list noRows s h (λ i g k. zeros-at 32 i)

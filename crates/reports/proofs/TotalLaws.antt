@@ -2,7 +2,7 @@
 use Prim.Native.Nat.{ℕ, _+_, _-_, _<_, _≤_}
 use native.Mathlib.Omega.{arith}
 use mathlib.Core.Path.{_≡_, refl, sym, ap, _∙_}
-use mathlib.Core.Bool.{Bool, true, false, not, cond, _&&_, and-comm, false≢true}
+use mathlib.Core.Bool.{Bool, true, false, not, cond, _&&_, and-comm, Bool·not-not, false≢true}
 use mathlib.Core.List.{List, [], _∷_}
 use lib.Dec.{leb, eqb}
 use lib.ListN.{getD}
@@ -61,12 +61,8 @@ last-told {c} {tail} {z} {m} {k} {x} one start a f =
       counts = λ t few e l i g.
           let shut : m ≡ not (isOpen l) = start ∙ rw (one, g) (tail-start t few l) in
           let same : k ≡ matches t l = a ∙ rw (g, e) (tail-accepts t few l i) in
-          rw (f, shut, same, not-not (isOpen l)) refl;
+          rw (f, shut, same, Bool·not-not (isOpen l)) refl;
     }
-  where
-    not-not : (b : Bool) → not (not b) ≡ b
-    not-not true = refl
-    not-not false = refl
 
 -- a count within the limit, and one beyond
 lines-shown : {x n : ℕ} → x ≡ n → x ≤ most → Total.Lines x ≡ totalOf n
