@@ -26,7 +26,7 @@ use Rattle.pattern.specs.Automata.{Automaton, VerdictOn, KeysFrom, EnterFrom}
 use Rattle.pattern.specs.declared.automaton.Accepting.{Accepting}
 use Rattle.pattern.specs.declared.automaton.Verdict.{Verdict}
 use Rattle.pattern.proofs.Readings.{read-accepted, read-refused, states-of}
-use Rattle.lines.specs.Lines.{matching, isOpen}
+use Rattle.lines.specs.Lines.{isOpen}
 use Rattle.reports.specs.declared.report.Report.{Report}
 use Rattle.reports.specs.declared.total.Total.{Total}
 use Rattle.reports.specs.Reports.{most}
@@ -58,7 +58,7 @@ module _ {book offsets : List ℕ} {m : ℕ} {p : Accepting} {before : List ℕ}
   module _ {keys enter after : List ℕ} {n : ℕ} (f : Filled keys enter p (macrosIn book) m before after n) where
     module _ {r : Report} {x : Total} (l : r ≡ loadedAt after (placeOf p m) (p .states)) (z : Totals p r x) where
       -- the count is that of the run
-      counted : (t : Pattern) → Automaton t keys enter p → x ≡ totalOf (matching t (expansion (macrosIn book) m))
+      counted : (t : Pattern) → Automaton t keys enter p → x ≡ totalOf (matchingLines t (macrosIn book) m)
       counted t d =
           let ms = macrosIn book in
           let well = well-in book (g .inside) in
