@@ -1,0 +1,11 @@
+-- `is_digit`: the two comparisons are the definition's.
+use Rattle.command.specs.Asked.{isDigit}
+use Rattle.command.proofs.asked.is_digit.Statement.{statement}
+use Rattle.command.proofs.asked.is_digit.Tie as tie
+
+returns : tie.Need-returns
+unfolding isDigit
+returns c = search
+
+pub is-digit-spec : {M : Type 1} → statement M
+is-digit-spec = tie.close (tie.spec returns)
