@@ -21,7 +21,7 @@ use Rattle.pattern.proofs.Moving.{advanced}
 use Rattle.pattern.proofs.Readings.{always-of, ends-of, accepting-of}
 use Rattle.pattern.proofs.AcceptedLines.{states-match}
 use Rattle.pattern.proofs.Leading.{leads-none, accepted-is, leads-append, leads-one, leads-below}
-use Rattle.lines.specs.Moving.{moved, startSet, reached, accepts, lookedUp}
+use Rattle.lines.specs.Moving.{moved, startSet, reached, hasAccepting, lookedUp}
 
 -- A move, from what each word of it is.
 module _ (keys enter : List ℕ) (a : Accepting) (x k : ℕ) where
@@ -87,5 +87,5 @@ module _ (t : Pattern) (few : atomCount t ≤ 29) (w : List ℕ) where
   reached-accepts = leads-accepts t few 0 (omega arith) w
 
 -- a set of states accepts exactly if the keys that lead to it match
-pub reached-matches : {t : Pattern} {keys enter : List ℕ} {a : Accepting} → Automaton t keys enter a → (x : ℕ) (w : List ℕ) → x ≡ reached t w → isLine w ≡ true → accepts a x ≡ matches t w
+pub reached-matches : {t : Pattern} {keys enter : List ℕ} {a : Accepting} → Automaton t keys enter a → (x : ℕ) (w : List ℕ) → x ≡ reached t w → isLine w ≡ true → hasAccepting a x ≡ matches t w
 reached-matches {t} d x w e l = rw (e, accepting-of d) (reached-accepts t (d .few) w ∙ states-match t w l)

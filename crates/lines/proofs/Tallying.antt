@@ -25,7 +25,7 @@ use Rattle.runs.specs.Keys.{member, lineKey, isLine, lineEnd}
 use Rattle.runs.proofs.KeyLaws.{key-test, line-more, line-without, member-at, member-more}
 use Rattle.pattern.specs.declared.automaton.Accepting.{Accepting}
 use Rattle.pattern.specs.Automata.{Automaton}
-use Rattle.lines.specs.Moving.{startSet, accepts, reached, lookedUp}
+use Rattle.lines.specs.Moving.{startSet, hasAccepting, reached, lookedUp}
 
 -- a tally of closed lines
 abbrev pub closedTally : ℕ → ℕ → Tally
@@ -51,7 +51,7 @@ last-small false m e = omega arith
 
 -- One more key.
 module _ {keys enter : List ℕ} {p : Accepting} {a : Tally} {k : ℕ} where
-  pub after-end : {z x : ℕ} {m : Bool} → k ≡ lineEnd → z ≡ startSet → m ≡ accepts p (a .set) → x ≡ cond m 1 0 → AfterKey keys enter p a k (closedTally z (a .lines + x))
+  pub after-end : {z x : ℕ} {m : Bool} → k ≡ lineEnd → z ≡ startSet → m ≡ hasAccepting p (a .set) → x ≡ cond m 1 0 → AfterKey keys enter p a k (closedTally z (a .lines + x))
   unfolding tallyAfter
   after-end {z} {x} {m} e y f g =
       record {
@@ -149,7 +149,7 @@ module _ {keys enter : List ℕ} {p : Accepting} {run : List ℕ} where
               count = longer t w (ap (λ (d : Tally). d .lines) f) (u .count);
             }
 
-    pub run-done : {m : Bool} {y : ℕ} → length run ≤ at → m ≡ accepts p (a .set) → y ≡ cond (a .pending && m) 1 0 → CountsRun keys enter p run (RunCount.Lines (a .lines + y))
+    pub run-done : {m : Bool} {y : ℕ} → length run ≤ at → m ≡ hasAccepting p (a .set) → y ≡ cond (a .pending && m) 1 0 → CountsRun keys enter p run (RunCount.Lines (a .lines + y))
     unfolding runResult CountsRun
     run-done {m} {y} h e g t i = rw none (ap answered total)
       where

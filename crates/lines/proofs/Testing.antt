@@ -22,7 +22,7 @@ use Rattle.pattern.specs.Automata.{Automaton}
 use Rattle.pattern.specs.declared.automaton.Accepting.{Accepting}
 use Rattle.lines.specs.declared.line.LineTest.{LineTest}
 use Rattle.lines.specs.Answers.{lineResult}
-use Rattle.lines.specs.Moving.{moved, startSet, reached, accepts, lookedUp}
+use Rattle.lines.specs.Moving.{moved, startSet, reached, hasAccepting, lookedUp}
 use Rattle.lines.specs.Promises.{TestsLine}
 use Rattle.lines.proofs.Reaching.{looked-up, reached-none, reached-more, reached-matches}
 
@@ -68,7 +68,7 @@ module _ {keys enter : List ℕ} {a : Accepting} {line : List ℕ} where
         go (inr z) = or-right (member 0 line) (member lineEnd line) (member-at lineEnd line at h (eqb-true _ 10 z))
 
     -- the whole line
-    line-whole : length line ≤ at → (m : Bool) → m ≡ accepts a set → (t : Pattern) → Automaton t keys enter a → lineResult (accepted t) line ≡ answered (cond m 1 0)
+    line-whole : length line ≤ at → (m : Bool) → m ≡ hasAccepting a set → (t : Pattern) → Automaton t keys enter a → lineResult (accepted t) line ≡ answered (cond m 1 0)
     unfolding lineResult
     line-whole h m e t d =
         rw (line-without line 0 refl whole, line-without line lineEnd refl whole, found) refl
@@ -82,10 +82,10 @@ module _ {keys enter : List ℕ} {a : Accepting} {line : List ℕ} where
         found : matches t line ≡ m
         found = sym (e ∙ reached-matches d set line (s .leads t d ∙ ap (reached t) all) whole)
 
-    pub line-matches : length line ≤ at → {m : Bool} → m ≡ accepts a set → m ≡ true → TestsLine keys enter a line LineTest.Matches
+    pub line-matches : length line ≤ at → {m : Bool} → m ≡ hasAccepting a set → m ≡ true → TestsLine keys enter a line LineTest.Matches
     unfolding TestsLine
     line-matches h e f t d = sym (line-whole h _ e t d ∙ rw f refl)
 
-    pub line-differs : length line ≤ at → {m : Bool} → m ≡ accepts a set → m ≡ false → TestsLine keys enter a line LineTest.NoMatch
+    pub line-differs : length line ≤ at → {m : Bool} → m ≡ hasAccepting a set → m ≡ false → TestsLine keys enter a line LineTest.NoMatch
     unfolding TestsLine
     line-differs h e f t d = sym (line-whole h _ e t d ∙ rw f refl)

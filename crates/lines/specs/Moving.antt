@@ -22,8 +22,8 @@ abbrev pub startSet : ℕ
 startSet = 2 ^ 0 % 2 ^ 64
 
 -- a set of states has an accepting one
-abbrev pub accepts : Accepting → ℕ → Bool
-accepts a x = common 64 x (a .accepting)
+abbrev pub hasAccepting : Accepting → ℕ → Bool
+hasAccepting a x = common 64 x (a .accepting)
 
 -- the atoms that are entered on key k
 abbrev pub entered : List ℕ → List ℕ → ℕ → ℕ → ℕ

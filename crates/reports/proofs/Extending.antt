@@ -29,7 +29,7 @@ use Rattle.runs.proofs.KeyLaws.{key-of-line}
 use Rattle.pattern.specs.declared.automaton.Accepting.{Accepting}
 use Rattle.lines.specs.Parts.{firstPart, laterParts, lastPart}
 use Rattle.pattern.specs.Automata.{Automaton}
-use Rattle.lines.specs.Moving.{moved, startSet, accepts, lookedUp}
+use Rattle.lines.specs.Moving.{moved, startSet, hasAccepting, lookedUp}
 use Rattle.pattern.proofs.Readings.{accepting-of}
 use Rattle.pattern.proofs.Leading.{leads-none}
 use Rattle.lines.proofs.PartLaws.{countOne, countBefore, first-into, later-into, first-kept, later-kept, last-open, before-open, last-closed, before-closed, later-lines, last-line, end-part, key-part, end-first, last-one, before-none}
@@ -239,7 +239,7 @@ module _ (c : Accepting) (a : Report) where
       go t m w [] i f = same-report (ap (λ (b : Report). b .s) f) refl refl (heads t m w f) refl v ∙ sym (first-end t w i)
       go t m w (l ∷ ls) i f = absurd (flag-of (countBefore (matches t) l ls) (sym (ap (λ (b : Report). b .flag) f) ∙ z))
 
-  module _ {m : Bool} {x : ℕ} (e : m ≡ accepts c (a .tail)) (f : x ≡ cond m 1 0) where
+  module _ {m : Bool} {x : ℕ} (e : m ≡ hasAccepting c (a .tail)) (f : x ≡ cond m 1 0) where
     module _ {t : Pattern} {keys enter : List ℕ} (h : Automaton t keys enter c) {w l : List ℕ} {ls : List (List ℕ)} (d : HasEnds t a w l ls) where
       -- the line that is closed
       line-closed : x ≡ countOne (matches t) (lastPart l ls)

@@ -29,7 +29,7 @@ use Rattle.pattern.specs.Form.{Pattern, atomCount}
 use Rattle.runs.specs.Keys.{isLine}
 use Rattle.pattern.specs.declared.automaton.Accepting.{Accepting}
 use Rattle.lines.specs.Parts.{firstPart, laterParts, lastPart}
-use Rattle.lines.specs.Moving.{startSet, accepts}
+use Rattle.lines.specs.Moving.{startSet, hasAccepting}
 use Rattle.lines.proofs.PartLaws.{countBefore, first-whole, first-line, later-lines, last-line, matching-parts, matching-whole}
 
 -- Words.
@@ -54,7 +54,7 @@ module _ (t : Pattern) (few : atomCount t ≤ 29) where
       go (c ∷ l) = leads-start t l c 0
 
 -- the last part of a run
-pub last-told : {c : Accepting} {tail z : ℕ} {m k : Bool} {x : ℕ} → z ≡ startSet → m ≡ common 64 tail z → k ≡ accepts c tail → x ≡ cond (not m && k) 1 0 → LastLine c tail x
+pub last-told : {c : Accepting} {tail z : ℕ} {m k : Bool} {x : ℕ} → z ≡ startSet → m ≡ common 64 tail z → k ≡ hasAccepting c tail → x ≡ cond (not m && k) 1 0 → LastLine c tail x
 last-told {c} {tail} {z} {m} {k} {x} one start a f =
     record {
       small = at-most-one (not m && k) f;
@@ -106,7 +106,7 @@ module _ (c : Accepting) (r : Report) where
   flag-of : (n : ℕ) → r .flag ≡ cond (leb n most) 1 2 → r .flag ≡ 0 → ⊥
   flag-of n j z = false≢true (sym (flag-set n) ∙ eq-eqb (cond (leb n most) 1 2) 0 (sym j ∙ z))
 
-  pub total-open : {m : Bool} {x : ℕ} → r .flag ≡ 0 → m ≡ accepts c (getD (r .rows) 0 0) → x ≡ cond m 1 0 → Totals c r (Total.Lines x)
+  pub total-open : {m : Bool} {x : ℕ} → r .flag ≡ 0 → m ≡ hasAccepting c (getD (r .rows) 0 0) → x ≡ cond m 1 0 → Totals c r (Total.Lines x)
   total-open {m} {x} z a f =
       by-parts (Total.Lines x)
       (λ t few e w h o d j.
