@@ -1,4 +1,4 @@
--- What each operation of the counter answers.
+-- What the count over a book answers.
 use Prim.Native.Nat.{ℕ}
 use mathlib.Core.List.{List}
 use Rattle.counter.specs.declared.counting.BookCount.{BookCount}

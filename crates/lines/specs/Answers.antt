@@ -1,4 +1,4 @@
--- What each operation of the counter answers.
+-- What the one-line test and the count over a plain run answer.
 use Prim.Native.Nat.{ℕ}
 use mathlib.Core.Bool.{cond, _||_}
 use mathlib.Core.List.{List}

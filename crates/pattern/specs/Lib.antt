@@ -1,4 +1,4 @@
--- The patterns of document 01: form, sets, meaning, reader, states, moves and tables; and what private functions promise each other.
+-- The patterns of document 01: form, meaning, reader, states, moves and tables; and what private functions promise each other.
 pub mod Form
 pub mod Meaning
 pub mod Reader

@@ -1,4 +1,4 @@
--- What each operation of the counter answers.
+-- What joining answers.
 use mathlib.Core.Bool.{Bool, cond}
 use Rattle.refusal.specs.declared.Refusal.the-variants.{ReportMismatch}
 use Rattle.refusal.specs.Number.{number}
