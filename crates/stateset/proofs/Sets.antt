@@ -2,12 +2,12 @@
 use Prim.Native.Nat.{ℕ, zero, suc, _+_, _-_, _*_, _/_, _%_, _^_, _<_, _≤_, suc-le-suc, min, max}
 use native.Mathlib.Omega.{arith}
 use native.Mathlib.Numerals.{add-one}
-use native.Mathlib.Nat.{pow-suc, le-of-suc-le-suc, lt-of-lt-of-le, le-add-right, le-add-left, mul-mod-left}
+use native.Mathlib.Nat.{pow-suc, le-of-suc-le-suc, lt-of-lt-of-le, le-add-right, le-add-left, mul-mod-left, mod-lt, mod-eq-of-lt}
 use mathlib.Core.Path.{_≡_, refl, sym, _∙_}
 use mathlib.Core.Bool.{Bool, true, false, cond, _&&_, _||_}
 use lib.Dec.{eqb, eqb·zero-suc, eqb·suc-zero, eqb·suc-suc}
 use lib.Pow.{pow-add, pow-lt, pow-pos, pow-mono, mod-pow-add}
-use lib.Bits.{bitAnd, bitOr, and-step, or-step, and-lt, or-lt}
+use lib.Bits.{bitAnd, bitOr, and-step, or-step, and-lt, or-lt, and-mask}
 use borrow.Author.Tests.{eqb-true, eqb-false}
 use Rattle.stateset.specs.Set.{bit, word}
 
@@ -200,3 +200,20 @@ bit-mod (suc s) w (suc p) h =
 pub bit-chosen : (b : Bool) (k p : ℕ) → bit (cond b (2 ^ k) 0) p ≡ (b && eqb k p)
 bit-chosen true k p = bit-one k p
 bit-chosen false k p = bit-zero p
+
+-- The members below s.
+
+-- a power of two that a word holds, by a shift
+pub shifted : (s : ℕ) → s < 64 → 1 * 2 ^ s % 2 ^ 64 ≡ 2 ^ s
+shifted s h = let l : 2 ^ s < 2 ^ 64 = pow-lt {i = s} {j = 64} h in let e : 1 * 2 ^ s ≡ 2 ^ s = omega arith in rw e (mod-eq-of-lt l)
+
+pub shifted-some : (s : ℕ) → s < 64 → 1 ≤ 1 * 2 ^ s % 2 ^ 64
+shifted-some s h = rw (shifted s h) (pow-pos s)
+
+-- a mask keeps them
+pub masked : (s x : ℕ) → s < 64 → bitAnd x (1 * 2 ^ s % 2 ^ 64 - 1) ≡ word s (bit x)
+masked s x h = rw (shifted s h, and-mask x s) (word-unique s (x % 2 ^ s) (bit x) (mod-lt x (pow-pos s)) (λ p l. bit-mod s x p l))
+
+-- a word has no others from its width on
+pub word-whole : (s x : ℕ) → x < 2 ^ 64 → 64 ≤ s → x ≡ word s (bit x)
+word-whole s x h l = word-unique s x (bit x) (lt-of-lt-of-le h (pow-mono l)) (λ p g. refl)

@@ -3,7 +3,7 @@ ghost use mathlib.Core.Path.{_≡_};
 ghost use mathlib.Core.Bool.{cond};
 ghost use Prim.Native.Nat.{_%_, _^_};
 ghost use lib.Bits.{bitAnd, bitOr};
-ghost use Rattle.stateset.specs.Set.{bit, common, imageOf};
+ghost use Rattle.stateset.specs.Set.{bit, common, imageOf, word};
 ghost use Rattle.runs.specs.Counts.{countBelow};
 
 // The set of p alone; a p that no word holds gives the empty set.
@@ -37,6 +37,13 @@ pub fn size(a: u64) -> u64
     ensures { λ r. ⌜ r ≡ countBelow 64 (bit a) ⌝ }
 {
     u64::count_ones(a) as u64
+}
+
+// The members of a set below s.
+pub fn within(s: u64, a: u64) -> u64
+    ensures { λ r. ⌜ r ≡ word s (bit a) ⌝ }
+{
+    if s < 64 { a & ((1 << s) - 1) } else { a }
 }
 
 // The set if t holds, or else the empty one.
