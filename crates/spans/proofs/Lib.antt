@@ -1,0 +1,4 @@
+-- Laws.
+pub mod RowLaws
+pub mod Made
+pub mod SpanLaws

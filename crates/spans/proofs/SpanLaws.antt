@@ -1,0 +1,2 @@
+-- Laws of spans.
+use Prim.Native.Nat.{ℕ}

@@ -1,0 +1,3 @@
+-- The span of a run, closed lines, joining, what a span's ends count, and the pairs of states that it shows.
+pub mod Spans
+pub mod Pairs
