@@ -1,2 +1,85 @@
--- Laws of spans.
-use Prim.Native.Nat.{ℕ}
+-- Laws of the span of a run: of the empty one, its rows, and the closed lines of a run without a line end.
+use Prim.Native.Nat.{ℕ, zero, suc, _-_, _<_, _≤_}
+use native.Mathlib.Omega.{arith}
+use mathlib.Core.Path.{_≡_, refl, sym, ap, _∙_}
+use mathlib.Core.Bool.{Bool, true, false, cond}
+use mathlib.Core.List.{List, [], _∷_, _++_}
+use lib.Dec.{ltb, eqb}
+use lib.ListN.{length, getD, take, replicate}
+use borrow.Author.Tests.{le-ltb}
+use Rattle.runs.proofs.KeptLaws.{zeros-at}
+use Rattle.runs.proofs.Tests.{torn}
+use Rattle.stateset.specs.Set.{word}
+use Rattle.stateset.proofs.Tabled.{tabled-length, tabled-at}
+use Rattle.pattern.specs.Form.{Pattern, atomCount}
+use Rattle.pattern.specs.Moves.{states, leads}
+use Rattle.pattern.proofs.Leading.{leads-none}
+use Rattle.lines.specs.Parts.{laterParts}
+use Rattle.lines.proofs.PartLaws.{later-none}
+use Rattle.spans.specs.declared.span.Span.{Span}
+use Rattle.spans.specs.Spans.{stateCount, rowsOf, noRows, emptySpan, spanWith, span, closedWith, closedLines}
+use Rattle.spans.proofs.RowLaws.{count-all}
+use Rattle.spans.proofs.JoinLaw.{rows-same}
+
+-- the empty run
+pub empty-span : (t : Pattern) → atomCount t ≤ 29 → emptySpan (states t) ≡ span t []
+unfolding span
+empty-span t few =
+    rw (later-none, count-all (states t) (omega arith))
+    (ap (λ (rows : List ℕ). record { s = states t; rows = rows; ended = false; heads = 0; tail = 0 })
+    (rows-same (states t) (λ q p. eqb q p) (λ q p. leads t q [] p) (λ q p h l. sym (leads-none t q p))))
+
+pub closed-empty : (t : Pattern) → closedLines t [] ≡ 0
+unfolding closedLines
+closed-empty t = rw later-none refl
+
+-- a run without a line end has no closed line
+pub closed-none : (t : Pattern) (w : List ℕ) → span t w .ended ≡ false → closedLines t w ≡ 0
+unfolding span closedLines
+closed-none t w = go (laterParts w)
+  where
+    go : (ls : List (List ℕ)) → spanWith t w ls .ended ≡ false → closedWith t ls ≡ 0
+    go [] e = refl
+    go (l ∷ ls) e = torn false (sym e) refl
+
+-- a list that ends in zeros
+padded-list : (l : List ℕ) (s : ℕ) → s ≤ length l → ((i : ℕ) → s ≤ i → i < length l → getD l i 0 ≡ 0) → take s l ++ replicate (length l - s) 0 ≡ l
+padded-list [] zero h e = refl
+padded-list [] (suc s) h e = absurd (omega arith)
+padded-list (x ∷ l) zero h e =
+    let more : length (x ∷ l) - 0 ≡ suc (length l) = omega arith in
+    let less : length l - 0 ≡ length l = omega arith in
+    rw (more, e 0 (omega arith) (omega arith)) (ap (λ (k : List ℕ). 0 ∷ k) (rw less at (padded-list l zero (omega arith) (λ i g k. e (suc i) (omega arith) (omega arith)))))
+padded-list (x ∷ l) (suc s) h e =
+    let same : length (x ∷ l) - suc s ≡ length l - s = omega arith in
+    rw same (ap (λ (k : List ℕ). x ∷ k) (padded-list l s (omega arith) (λ i g k. e (suc i) (omega arith) (omega arith))))
+
+-- rows of s states end in zeros
+rows-long : (s : ℕ) (X : ℕ → ℕ → Bool) → length (rowsOf s X) ≡ 32
+rows-long s X = tabled-length (λ q. cond (ltb q s) (word s (X q)) 0) 32 0
+
+rows-padded : (s : ℕ) (X : ℕ → ℕ → Bool) → s ≤ 32 → take s (rowsOf s X) ++ replicate (32 - s) 0 ≡ rowsOf s X
+rows-padded s X h =
+    rw (rows-long s X) at
+    (padded-list (rowsOf s X) s (rw (rows-long s X) h)
+    (λ i g k. tabled-at (λ q. cond (ltb q s) (word s (X q)) 0) 32 i (rw (rows-long s X) at k) ∙ rw (le-ltb i s g) refl))
+
+zeros-padded : (s : ℕ) → s ≤ 32 → take s noRows ++ replicate (32 - s) 0 ≡ noRows
+zeros-padded s h = padded-list noRows s h (λ i g k. zeros-at 32 i)
+
+-- the rows of a run's span: 32, and zeros from the number of states on
+pub span-rows : (t : Pattern) (w : List ℕ) → length (span t w .rows) ≡ 32
+unfolding span
+span-rows t w = go (laterParts w)
+  where
+    go : (ls : List (List ℕ)) → length (spanWith t w ls .rows) ≡ 32
+    go [] = rows-long (states t) (λ q p. leads t q w p)
+    go (l ∷ ls) = refl
+
+pub span-padded : (t : Pattern) → atomCount t ≤ 29 → (w : List ℕ) → take (states t) (span t w .rows) ++ replicate (32 - states t) 0 ≡ span t w .rows
+unfolding span
+span-padded t few w = go (laterParts w)
+  where
+    go : (ls : List (List ℕ)) → take (states t) (spanWith t w ls .rows) ++ replicate (32 - states t) 0 ≡ spanWith t w ls .rows
+    go [] = rows-padded (states t) (λ q p. leads t q w p) (omega arith)
+    go (l ∷ ls) = zeros-padded (states t) (omega arith)
