@@ -1,8 +1,6 @@
 -- Laws.
-pub mod Joins
-pub mod JoinLaw
-pub mod WordLaws
 pub mod TotalLaws
-pub mod Extending
+pub mod Made
 pub mod ReportLaws
+pub mod WordLaws
 pub mod StoredLaws

@@ -1,4 +1,4 @@
--- Laws of the work words of reports: rows read and stored one by one, and the members of rows counted.
+-- Laws of the work words of reports: rows read and stored one by one.
 use Prim.Native.Nat.{ℕ, suc, _+_, _*_, _-_, _<_, _≤_}
 use native.Mathlib.Omega.{arith}
 use native.Mathlib.Nat.{add-assoc}
@@ -8,20 +8,14 @@ use mathlib.Core.List.{List, [], _∷_, _++_, append-assoc}
 use lib.Dec.{leb, ltb}
 use mathlib.Core.Logic.{_⊎_, inl, inr}
 use mathlib.Core.Bool.{Bool, true, false, cond, _||_, and-false}
-use borrow.Author.Tests.{ne-eqb, ltb-true, ltb-false, leb-true, le-leb, lt-leb}
-use Rattle.stateset.proofs.Sets.{bit-zero}
+use borrow.Author.Tests.{ltb-true, ltb-false, leb-true, le-leb, lt-leb}
 use Rattle.reports.specs.Reports.{noReport}
-use lib.ListN.{List·getD-eq-default}
 use mir.Val.{Fits}
 use mir.Syntax.{w64}
 use lib.ListN.{length, getD, take, drop, set, replicate, length-set, length-drop}
 use lib.Seq.{length-take-le, take-suc, append-snoc, set-at, getD-drop, drop-drop, paste, paste-zero, paste-suc, length-paste, take-paste, drop-paste, sets-eq}
-use Rattle.stateset.specs.Set.{bit}
 use Rattle.reports.specs.declared.report.Report.{Report}
-use Rattle.reports.specs.Promises.{rowsUsed}
-use Rattle.reports.specs.Words.{loaded, pairsIn, roomFor, loadedAt, wordsWith, storedAt}
-use Rattle.runs.specs.Counts.{countBelow, sumBelow}
-use Rattle.runs.proofs.CountLaws.{count-le, count-none, sum-le, sum-more, sum-none, sum-widen}
+use Rattle.reports.specs.Words.{loaded, roomFor, loadedAt, wordsWith, storedAt}
 use Rattle.runs.proofs.Tests.{and-fst, and-snd, neither, or-cases, tests-ext}
 
 -- Reading rows.
@@ -126,56 +120,6 @@ stored-all old at r {work} e p l =
     rw (one, two, three, far)
     (sets-eq (r .flag ∷ r .heads ∷ r .closed ∷ r .tail ∷ []) work n (omega arith) ∙ rw (head, rest) (simp append-assoc))
 
--- Counting members.
-
--- how many members the first n rows have together
-abbrev pub sizesOf : List ℕ → ℕ → ℕ
-sizesOf rows n = sumBelow n (λ q. countBelow 64 (bit (getD rows q 0)))
-
--- a row has no more than 64 members
-pub sizes-le : (rows : List ℕ) (n : ℕ) → sizesOf rows n ≤ 64 * n
-sizes-le rows n = omega (arith, sum-le n 64 (λ q. countBelow 64 (bit (getD rows q 0))) (λ q h. count-le 64 (bit (getD rows q 0))))
-
--- the members of the first q of s rows are counted
-pub record Summing (rows : List ℕ) (s sum q : ℕ) : Type 0 where
-  pub inside : q ≤ s
-  pub counted : sum ≡ sizesOf rows q
-
-module _ {rows : List ℕ} {s : ℕ} where
-  -- no row counted yet
-  pub summing-none : Summing rows s 0 0
-  summing-none = record { inside = omega arith; counted = sym (sum-none (λ q. countBelow 64 (bit (getD rows q 0)))) }
-
-  module _ {sum q : ℕ} (i : Summing rows s sum q) where
-    -- the sum fits a word
-    pub summing-room : {n : ℕ} → q < s → s ≤ 32 → n ≡ countBelow 64 (bit (getD rows q 0)) → Fits w64 (sum + n)
-    summing-room h l e = omega (arith, i .counted, sizes-le rows q, count-le 64 (bit (getD rows q 0)))
-
-    -- one more row counted
-    pub summing-more : {n : ℕ} → q < s → n ≡ countBelow 64 (bit (getD rows q 0)) → Summing rows s (sum + n) (q + 1)
-    summing-more h e =
-        record { inside = omega arith; counted = rw (i .counted, e) (sym (sum-more q (λ k. countBelow 64 (bit (getD rows k 0))))) }
-
-    -- all rows counted
-    pub summing-done : s ≤ q → sum ≡ sizesOf rows s
-    summing-done h = let e : q ≡ s = omega (arith, i .inside) in rw e at (i .counted)
-
--- a report without a line end shows the pairs of its rows
-pub pairs-rows : (r : Report) {n u : ℕ} → length (r .rows) ≡ 32 → r .flag ≡ 0 → u ≡ rowsUsed (r .s) → n ≡ sizesOf (r .rows) u → n ≡ pairsIn r
-pairs-rows r {n} {u} long e g f = rw e (f ∙ ap (sizesOf (r .rows)) g ∙ all (ltb (r .s) 32) refl)
-  where
-    -- there is no row from 32 on
-    beyond : (q : ℕ) → 32 ≤ q → countBelow 64 (bit (getD (r .rows) q 0)) ≡ 0
-    beyond q h = let far : length (r .rows) ≤ q = rw long h in rw (List·getD-eq-default (r .rows) 0 far) (count-none 64 (bit 0) bit-zero)
-
-    all : (b : Bool) → ltb (r .s) 32 ≡ b → sizesOf (r .rows) (cond b (r .s) 32) ≡ sizesOf (r .rows) (r .s)
-    all true i = refl
-    all false i = sym (sum-widen 32 (r .s) (λ q. countBelow 64 (bit (getD (r .rows) q 0))) (ltb-false (r .s) 32 i) beyond)
-
--- and one with a line end those from line-start
-pub pairs-tail : (r : Report) {n : ℕ} → (r .flag ≡ 0 → ⊥) → n ≡ countBelow 64 (bit (r .tail)) → n ≡ pairsIn r
-pairs-tail r e f = rw (ne-eqb (r .flag) 0 e) f
-
 -- Whether there is room.
 
 module _ (n at s : ℕ) where
@@ -211,8 +155,8 @@ module _ (work : List ℕ) (at : ℕ) {b : Bool} where
   pub load-there : (s : ℕ) {r : Report} → b ≡ roomFor (length work) at s → b ≡ true → r ≡ loaded s (drop at work) → r ≡ loadedAt work at s
   load-there s e f g = rw (← e, f) g
 
-  pub load-none : (s : ℕ) → b ≡ roomFor (length work) at s → b ≡ false → noReport ≡ loadedAt work at s
-  load-none s e f = rw (← e, f) refl
+  pub load-none : (s : ℕ) {r : Report} → b ≡ roomFor (length work) at s → b ≡ false → r ≡ noReport → r ≡ loadedAt work at s
+  load-none s e f g = rw (← e, f) g
 
   pub store-there : (r : Report) {after : List ℕ} → b ≡ roomFor (length work) at (r .s) → b ≡ true → after ≡ wordsWith work at r → after ≡ storedAt work at r
   store-there r e f g = rw (← e, f) g

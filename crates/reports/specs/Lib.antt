@@ -1,5 +1,5 @@
--- The report of a run, joining, the words of a report, what the operations answer, and what private functions promise each other.
+-- How many lines within the limit, the report of a run, joining, the words of a report, and what joining answers.
+pub mod Totals
 pub mod Reports
 pub mod Words
 pub mod Answers
-pub mod Promises

@@ -1,25 +1,11 @@
--- Document 01, "States and steps" and "Reports": the pairs of states of a run, and the work words of a report.
+-- Document 01, "Reports": the work words of a report.
 use Prim.Native.Nat.{ℕ, _+_, _-_}
 use mathlib.Core.Bool.{Bool, _&&_, cond}
 use mathlib.Core.List.{List, [], _∷_, _++_}
-use lib.Dec.{leb, eqb}
+use lib.Dec.{leb}
 use lib.ListN.{length, getD, take, drop, replicate}
-use Rattle.runs.specs.Counts.{countBelow, sumBelow}
-use Rattle.stateset.specs.Set.{bit}
-use Rattle.pattern.specs.Form.{Pattern}
-use Rattle.pattern.specs.Moves.{states, leads}
-use Rattle.lines.specs.Parts.{laterParts, lastPart}
 use Rattle.reports.specs.declared.report.Report.{Report}
 use Rattle.reports.specs.Reports.{noReport}
-
--- "the pairs of states (q, p) such that the items before it in that macro lead from q to p", where w is the run of those items:
--- "Before any LF in them q is every state; after one, q is line-start alone, moving since the last LF."
-abbrev pub pairsWith : Pattern → List ℕ → List (List ℕ) → ℕ
-pairsWith t w [] = sumBelow (states t) (λ q. countBelow (states t) (leads t q w))
-pairsWith t w (l ∷ ls) = countBelow (states t) (leads t 0 (lastPart l ls))
-
-unfoldable pub pairs : Pattern → List ℕ → ℕ
-pairs t w = pairsWith t w (laterParts w)
 
 -- "rows, flag, heads, closed, tail"
 abbrev pub reportWords : Report → List ℕ
@@ -44,7 +30,3 @@ wordsWith w at r = take at w ++ (reportWords r ++ drop (at + (r .s + 4)) w)
 -- the same, or the words as they were where there is no room for all of them
 abbrev pub storedAt : List ℕ → ℕ → Report → List ℕ
 storedAt w at r = cond (roomFor (length w) at (r .s)) (wordsWith w at r) w
-
--- the pairs of states that a report shows
-abbrev pub pairsIn : Report → ℕ
-pairsIn r = cond (eqb (r .flag) 0) (sumBelow (r .s) (λ q. countBelow 64 (bit (getD (r .rows) q 0)))) (countBelow 64 (bit (r .tail)))

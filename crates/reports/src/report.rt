@@ -1,16 +1,13 @@
 // Reports of runs.
-ghost use Prim.Native.Nat.{_≤_};
+use crate::total::Total;
+use spans::Span;
 ghost use mathlib.Core.Path.{_≡_};
-ghost use mathlib.Core.Bool.{cond};
-ghost use lib.Dec.{ltb};
-
-// The largest count.
-pub(crate) const MOST: u64 = 0xffff_ffff_ffff_ffff;
+ghost use Rattle.reports.specs.Reports.{closedIn, noReport, reportOf, spanIn};
 
 // The work words of a report behind its rows: flag, heads, closed, tail.
 pub const BEHIND_ROWS: usize = 4;
 
-// What a run does to the states of a pattern (document 01, "Reports").
+// What a run does to the states of a pattern (document 01, "Reports"): a span and the number of closed lines, flat.
 pub struct Report {
     // How many states there are.
     pub s: u64,
@@ -32,10 +29,72 @@ pub struct Joined {
     pub report: Report,
 }
 
-// How many of the 32 rows are used where there are s states.
-pub(crate) fn rows_used(s: u64) -> usize
-    ensures used { λ r. ⌜ r ≡ cond (ltb s 32) s 32 ⌝ }
-    ensures few { λ r. ⌜ r ≤ 32 ⌝ }
+// The report of zeros.
+pub(crate) fn no_report() -> Report
+    ensures { λ r. ⌜ r ≡ noReport ⌝ }
 {
-    if s < 32 { s as usize } else { 32 }
+    let rows = [0; 32];
+    Report {
+        s: 0,
+        rows: rows,
+        flag: 0,
+        heads: 0,
+        closed: 0,
+        tail: 0,
+    }
+}
+
+// The span in a report.
+pub fn span_of(a: Report) -> Span
+    ensures { λ r. ⌜ r ≡ spanIn a ⌝ }
+{
+    let rows = a.rows;
+    Span {
+        s: a.s,
+        rows: rows,
+        ended: a.flag != 0,
+        heads: a.heads,
+        tail: a.tail,
+    }
+}
+
+// The closed lines in it; a flag over 2 is read as 2.
+pub fn closed_of(a: Report) -> Total
+    ensures { λ r. ⌜ r ≡ closedIn a ⌝ }
+{
+    if a.flag == 0 {
+        return Total::Lines(0);
+    }
+    if 2 <= a.flag {
+        return Total::TooMany;
+    }
+    Total::Lines(a.closed)
+}
+
+// A span and the number of closed lines.
+pub fn report_of(a: Span, closed: Total) -> Report
+    ensures { λ r. ⌜ r ≡ reportOf a closed ⌝ }
+{
+    let rows = a.rows;
+    let mut flag = 0;
+    let mut lines = 0;
+    if a.ended {
+        match closed {
+            Total::Lines(n) => {
+                flag = 1;
+                lines = n;
+            }
+            Total::TooMany => {
+                flag = 2;
+            }
+        }
+    }
+    Report {
+        s: a.s,
+        rows: rows,
+        flag: flag,
+        heads: a.heads,
+        closed: lines,
+        tail: a.tail,
+    }
 }

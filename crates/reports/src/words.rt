@@ -1,16 +1,13 @@
 // The work words of reports (document 01, "Reports"): rows, flag, heads, closed, tail.
 use crate::report::BEHIND_ROWS;
 use crate::report::Report;
-use crate::report::rows_used;
-use stateset::size;
+use crate::report::no_report;
 ghost use Prim.Native.Nat.{_+_, _-_, _≤_};
 ghost use mathlib.Core.Path.{_≡_};
 ghost use mathlib.Core.List.{_++_};
-ghost use lib.ListN.{length, getD, take, drop, replicate};
+ghost use lib.ListN.{length, take, drop, replicate};
 ghost use lib.Seq.{paste};
-ghost use Rattle.runs.specs.Counts.{countBelow, sumBelow};
-ghost use Rattle.stateset.specs.Set.{bit};
-ghost use Rattle.reports.specs.Words.{loaded, loadedAt, pairsIn, reportWords, roomFor, storedAt};
+ghost use Rattle.reports.specs.Words.{loaded, loadedAt, reportWords, roomFor, storedAt};
 
 // Whether n words hold those of a report of s states from `at` on.
 fn room_for(n: usize, at: usize, s: u64) -> bool
@@ -60,15 +57,7 @@ pub fn load(work: &[u64], at: usize, s: u64) -> Report
     if room_for(work.len(), at, s) {
         return load_words(work, at, s as usize);
     }
-    let rows = [0; 32];
-    Report {
-        s: 0,
-        rows: rows,
-        flag: 0,
-        heads: 0,
-        closed: 0,
-        tail: 0,
-    }
+    no_report()
 }
 
 // Writes the first s rows from `at` on.
@@ -106,30 +95,4 @@ pub fn store(work: &mut [u64], at: usize, r: Report)
     if room_for(work.len(), at, r.s) {
         store_words(work, at, r);
     }
-}
-
-// How many members the first s rows have together.
-fn sizes(rows: &[u64; 32], s: usize) -> u64
-    requires { ⌜ s ≤ 32 ⌝ }
-    ensures { λ r. ⌜ r ≡ sumBelow s (λ q. countBelow 64 (bit (getD (now (rows .entry)) q 0))) ⌝ }
-{
-    let all: &[u64] = rows;
-    let mut sum = 0;
-    let mut q = 0;
-    while q < s {
-        sum += size(all[q]);
-        q += 1;
-    }
-    sum
-}
-
-// How many pairs of states a report shows.
-pub fn pairs_in(r: Report) -> u64
-    ensures { λ n. ⌜ n ≡ pairsIn r ⌝ }
-{
-    if r.flag == 0 {
-        let rows = r.rows;
-        return sizes(&rows, rows_used(r.s));
-    }
-    size(r.tail)
 }

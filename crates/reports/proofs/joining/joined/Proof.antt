@@ -1,42 +1,38 @@
--- `joining::joined`: the case that the two flags say.
-use Rattle.reports.proofs.Joins.{joined-whole, joined-opening, joined-ending, joined-across}
+-- `joining::joined`: the joined spans, the closed lines of both, and the line between.
+use Rattle.reports.proofs.Made.{joined-made}
 use borrow.Author.Needs.{needs}
 use Rattle.reports.proofs.joining.joined.Statement.{statement}
 use Rattle.reports.proofs.joining.joined.Tie as tie
 
-whole-join-requires : tie.Need-whole-join-requires
-whole-join-requires c κs = search needs
+span-of-requires : tie.Need-span-of-requires
+span-of-requires c κs = search needs
+
+span-of-requires-2 : tie.Need-span-of-requires-2
+span-of-requires-2 c κs = search needs
+
+join-spans-requires : tie.Need-join-spans-requires
+join-spans-requires c κs = search needs
+
+chosen-requires : tie.Need-chosen-requires
+chosen-requires c κs = search needs
+
+closed-of-requires : tie.Need-closed-of-requires
+closed-of-requires c κs = search needs
+
+closed-of-requires-2 : tie.Need-closed-of-requires-2
+closed-of-requires-2 c κs = search needs
+
+sum-requires : tie.Need-sum-requires
+sum-requires c κs = search needs
+
+sum-requires-2 : tie.Need-sum-requires-2
+sum-requires-2 c κs = search needs
+
+report-of-requires : tie.Need-report-of-requires
+report-of-requires c κs = search needs
 
 returns : tie.Need-returns
-returns c = search (joined-whole)
-
-opening-join-requires : tie.Need-opening-join-requires
-opening-join-requires c κs = search needs
-
-returns-2 : tie.Need-returns-2
-returns-2 c = search (joined-opening)
-
-ending-join-requires : tie.Need-ending-join-requires
-ending-join-requires c κs = search needs
-
-returns-3 : tie.Need-returns-3
-returns-3 c = search (joined-ending)
-
-across-join-requires : tie.Need-across-join-requires
-across-join-requires c κs = search needs
-
-returns-4 : tie.Need-returns-4
-returns-4 c = search (joined-across)
+returns c = search (joined-made)
 
 pub joined-spec : {M : Type 1} → statement M
-joined-spec =
-    tie.close
-    (tie.spec
-    whole-join-requires
-    returns
-    opening-join-requires
-    returns-2
-    ending-join-requires
-    returns-3
-    across-join-requires
-    returns-4)
+joined-spec = tie.close (tie.spec span-of-requires span-of-requires-2 join-spans-requires chosen-requires closed-of-requires closed-of-requires-2 sum-requires sum-requires-2 report-of-requires returns)

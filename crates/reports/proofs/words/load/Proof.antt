@@ -13,8 +13,11 @@ load-words-requires c κs = (search (room-small), search (room-there))
 returns : tie.Need-returns
 returns c = search (load-there)
 
+no-report-requires : tie.Need-no-report-requires
+no-report-requires c κs = search needs
+
 returns-2 : tie.Need-returns-2
 returns-2 c = search (load-none)
 
 pub load-spec : {M : Type 1} → statement M
-load-spec = tie.close (tie.spec room-for-requires load-words-requires returns returns-2)
+load-spec = tie.close (tie.spec room-for-requires load-words-requires returns no-report-requires returns-2)
