@@ -2,5 +2,6 @@
 pub mod TotalLaws
 pub mod Made
 pub mod ReportLaws
+pub mod FlatLaws
 pub mod WordLaws
 pub mod StoredLaws

@@ -17,7 +17,7 @@ use Rattle.pattern.proofs.Leading.{leads-none}
 use Rattle.lines.specs.Parts.{laterParts}
 use Rattle.lines.proofs.PartLaws.{later-none}
 use Rattle.spans.specs.declared.span.Span.{Span}
-use Rattle.spans.specs.Spans.{stateCount, rowsOf, noRows, emptySpan, spanWith, span, closedWith, closedLines}
+use Rattle.spans.specs.Spans.{stateCount, rowsOf, noRows, emptySpan, spanWith, span, closedWith, closedLines, joinedWith, joinedSpans}
 use Rattle.spans.proofs.RowLaws.{count-all}
 use Rattle.spans.proofs.JoinLaw.{rows-same}
 
@@ -83,3 +83,18 @@ span-padded t few w = go (laterParts w)
     go : (ls : List (List ℕ)) → take (states t) (spanWith t w ls .rows) ++ replicate (32 - states t) 0 ≡ spanWith t w ls .rows
     go [] = rows-padded (states t) (λ q p. leads t q w p) (omega arith)
     go (l ∷ ls) = zeros-padded (states t) (omega arith)
+
+-- The fields of a run's span, by the parts behind its line ends.
+module _ (t : Pattern) (w : List ℕ) where
+  pub span-by : span t w ≡ spanWith t w (laterParts w)
+  unfolding span
+  span-by = refl
+
+  pub closed-by : closedLines t w ≡ closedWith t (laterParts w)
+  unfolding closedLines
+  closed-by = refl
+
+-- The joining of two spans, by whether they have a line end.
+pub joined-by : (a b : Span) → joinedSpans a b ≡ joinedWith (stateCount (a .s)) (a .ended) (b .ended) a b
+unfolding joinedSpans
+joined-by a b = refl

@@ -1,7 +1,6 @@
 // Spans of runs.
 use crate::rows::state_count;
 use stateset::only;
-
 ghost use mathlib.Core.Path.{_≡_};
 ghost use mathlib.Core.Bool.{false, true};
 ghost use Rattle.spans.specs.Spans.{emptySpan, noRows};

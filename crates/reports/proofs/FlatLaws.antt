@@ -1,0 +1,133 @@
+-- A report and the joining of two reports, field by field, as document 01 lists them.
+use Prim.Native.Nat.{ℕ, suc, _+_, _≤_}
+use native.Mathlib.Omega.{arith}
+use native.Mathlib.Nat.{add-zero, zero-add}
+use mathlib.Core.Path.{_≡_, refl, sym, ap, _∙_}
+use mathlib.Core.Bool.{Bool, true, false, not, cond, _&&_}
+use mathlib.Core.List.{List, [], _∷_}
+use lib.Dec.{leb, eqb}
+use lib.ListN.{getD}
+use borrow.Author.Tests.{le-leb, leb-true, leb-false}
+use Rattle.stateset.specs.Set.{bit, word, common}
+use Rattle.pattern.specs.Form.{Pattern}
+use Rattle.pattern.specs.Meaning.{matches}
+use Rattle.pattern.specs.Moves.{states, leads, acceptedFrom}
+use Rattle.lines.specs.Lines.{countIn}
+use Rattle.lines.specs.Parts.{firstPart, laterParts, partsBefore, lastPart}
+use Rattle.spans.specs.declared.span.Span.{Span}
+use Rattle.spans.specs.declared.span.JoinedSpan.{JoinedSpan}
+use Rattle.spans.specs.Spans.{stateCount, rowsOf, noRows, openSpan, endedSpan, onward, spanWith, span, closedWith, closedLines, joinedWith}
+use Rattle.spans.proofs.RowLaws.{count-all}
+use Rattle.spans.proofs.SpanLaws.{span-by, closed-by, joined-by}
+use Rattle.reports.specs.declared.report.Report.{Report}
+use Rattle.reports.specs.declared.total.Total.{Total}
+use Rattle.reports.specs.Totals.{most, totalOf, bothTotals, lineIf}
+use Rattle.reports.specs.Reports.{flagOf, shownOf, reportOf, report, spanIn, closedIn, reportWith, joinedReports}
+use Rattle.reports.proofs.TotalLaws.{few-lines, many-lines, total-sum}
+
+-- flag 0, "without LF": "heads, closed, tail are 0"
+abbrev pub withoutEnd : ℕ → (ℕ → ℕ → Bool) → Report
+withoutEnd s X = record { s = s; rows = rowsOf s X; flag = 0; heads = 0; closed = 0; tail = 0 }
+
+-- flag "1 with one, 2 with one and closed lines beyond 2^64 − 1"; "Flag 1 or 2: rows are 0. Flag 2: closed is 0"
+abbrev pub withEnd : ℕ → (ℕ → Bool) → ℕ → (ℕ → Bool) → Report
+withEnd s H n T = record { s = s; rows = noRows; flag = cond (leb n most) 1 2; heads = word s H; closed = cond (leb n most) n 0; tail = word s T }
+
+-- a span without a line end
+open-flat : (s : ℕ) (X : ℕ → ℕ → Bool) (n : Total) → reportOf (openSpan s X) n ≡ withoutEnd s X
+unfolding reportOf
+open-flat s X n = refl
+
+-- one with a line end, and n closed lines
+ended-flat : (s : ℕ) (H T : ℕ → Bool) (n : ℕ) → reportOf (endedSpan s H T) (totalOf n) ≡ withEnd s H n T
+unfolding reportOf
+ended-flat s H T n = go (leb n most)
+  where
+    fields : ℕ → ℕ → Report
+    fields flag closed = record { s = s; rows = noRows; flag = flag; heads = word s H; closed = closed; tail = word s T }
+
+    go : (b : Bool) → fields (flagOf true (cond b (Total.Lines n) Total.TooMany)) (shownOf true (cond b (Total.Lines n) Total.TooMany)) ≡ fields (cond b 1 2) (cond b n 0)
+    go true = refl
+    go false = refl
+
+-- the report of a run
+abbrev pub runFields : Pattern → List ℕ → List (List ℕ) → Report
+runFields t w [] = withoutEnd (states t) (λ q p. leads t q w p)
+runFields t w (l ∷ ls) = withEnd (states t) (λ q. acceptedFrom t q (firstPart w)) (countIn (matches t) (partsBefore l ls)) (leads t 0 (lastPart l ls))
+
+pub report-fields : (t : Pattern) (w : List ℕ) → report t w ≡ runFields t w (laterParts w)
+unfolding report
+report-fields t w = rw (span-by t w, closed-by t w) (go (laterParts w))
+  where
+    go : (ls : List (List ℕ)) → reportOf (spanWith t w ls) (totalOf (closedWith t ls)) ≡ runFields t w ls
+    go [] = open-flat (states t) (λ q p. leads t q w p) (totalOf 0)
+    go (l ∷ ls) = ended-flat (states t) (λ q. acceptedFrom t q (firstPart w)) (leads t 0 (lastPart l ls)) (countIn (matches t) (partsBefore l ls))
+
+-- the closed lines of a report with a line end; beyond the largest count where its flag says so
+abbrev pub closedNumber : Report → ℕ
+closedNumber a = cond (leb 2 (a .flag)) (suc most) (a .closed)
+
+-- joining, by whether the left report has flag 0 and whether the right one has
+abbrev pub joinedFields : ℕ → Bool → Bool → Report → Report → Report
+joinedFields s true true a b = withoutEnd s (λ q. onward s (getD (a .rows) q 0) (b .rows))
+joinedFields s true false a b = withEnd s (λ q. common s (getD (a .rows) q 0) (b .heads)) (closedNumber b) (bit (b .tail))
+joinedFields s false true a b = withEnd s (bit (a .heads)) (closedNumber a) (onward s (a .tail) (b .rows))
+joinedFields s false false a b =
+    withEnd s (bit (a .heads)) (closedNumber a + closedNumber b + cond (common s (a .tail) (b .heads)) 1 0) (bit (b .tail))
+
+-- the number of closed lines in a report whose flag is 0, or is not
+module _ (a : Report) (small : a .closed ≤ most) where
+  number : (x : Bool) → eqb (a .flag) 0 ≡ x → closedIn a ≡ totalOf (cond x 0 (closedNumber a))
+  unfolding closedIn
+  number true e = rw e refl
+  number false e = rw e (go (leb 2 (a .flag)))
+    where
+      go : (b : Bool) → cond b Total.TooMany (Total.Lines (a .closed)) ≡ totalOf (cond b (suc most) (a .closed))
+      go true = sym (many-lines (suc most) (omega arith))
+      go false = sym (few-lines (a .closed) small)
+
+-- a line, or none
+line-number : (c : Bool) → lineIf c ≡ totalOf (cond c 1 0)
+line-number true = refl
+line-number false = refl
+
+pub joined-fields : (a b : Report) → a .s ≤ 32 → a .closed ≤ most → b .closed ≤ most → joinedReports a b ≡ joinedFields (a .s) (eqb (a .flag) 0) (eqb (b .flag) 0) a b
+unfolding joinedReports reportOf
+joined-fields a b small f g = go (eqb (a .flag) 0) (eqb (b .flag) 0) refl refl
+  where
+    s : ℕ
+    s = a .s
+
+    -- from the numbers of both
+    sums : (j : JoinedSpan) (m n : ℕ) → closedIn a ≡ totalOf m → closedIn b ≡ totalOf n → reportWith j (bothTotals (closedIn a) (closedIn b)) ≡ reportOf (j .span) (totalOf (m + n + cond (j .closes) 1 0))
+    sums j m n e h =
+        let both : bothTotals (closedIn a) (closedIn b) ≡ totalOf (m + n) = rw (e, h) (total-sum m n) in
+        ap (reportOf (j .span))
+        (ap (λ (x : Total). bothTotals x (lineIf (j .closes))) both
+        ∙ ap (bothTotals (totalOf (m + n))) (line-number (j .closes))
+        ∙ total-sum (m + n) (cond (j .closes) 1 0))
+
+    go : (x y : Bool) → eqb (a .flag) 0 ≡ x → eqb (b .flag) 0 ≡ y → joinedReports a b ≡ joinedFields s x y a b
+    go x y d e =
+        let m : ℕ = cond x 0 (closedNumber a) in
+        let n : ℕ = cond y 0 (closedNumber b) in
+        let same =
+        joined-by (spanIn a) (spanIn b)
+        ∙ ap (λ (k : ℕ). joinedWith k (not (eqb (a .flag) 0)) (not (eqb (b .flag) 0)) (spanIn a) (spanIn b)) (count-all s small)
+        ∙ ap (λ (z : Bool). joinedWith s (not z) (not (eqb (b .flag) 0)) (spanIn a) (spanIn b)) d
+        ∙ ap (λ (z : Bool). joinedWith s (not x) (not z) (spanIn a) (spanIn b)) e in
+        ap (λ (j : JoinedSpan). reportWith j (bothTotals (closedIn a) (closedIn b))) same
+        ∙ sums (joinedWith s (not x) (not y) (spanIn a) (spanIn b)) m n (number a f x d) (number b g y e)
+        ∙ by x y
+      where
+        by : (x y : Bool) → reportOf (joinedWith s (not x) (not y) (spanIn a) (spanIn b) .span) (totalOf (cond x 0 (closedNumber a) + cond y 0 (closedNumber b) + cond (joinedWith s (not x) (not y) (spanIn a) (spanIn b) .closes) 1 0)) ≡ joinedFields s x y a b
+        by true true = refl
+        by true false =
+            let k = closedNumber b in
+            let all : 0 + k + 0 ≡ k = omega arith in
+            rw all (ended-flat s (λ q. common s (getD (a .rows) q 0) (b .heads)) (bit (b .tail)) k)
+        by false true =
+            let k = closedNumber a in
+            let all : k + 0 + 0 ≡ k = omega arith in
+            rw all (ended-flat s (bit (a .heads)) (onward s (a .tail) (b .rows)) k)
+        by false false = ended-flat s (bit (a .heads)) (bit (b .tail)) (closedNumber a + closedNumber b + cond (common s (a .tail) (b .heads)) 1 0)
