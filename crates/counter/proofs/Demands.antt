@@ -3,7 +3,7 @@
 use Prim.Native.Nat.{ℕ, suc, _+_, _*_, _<_, _≤_}
 use native.Mathlib.Omega.{arith}
 use native.Mathlib.Nat.{mul-le-mul}
-use mathlib.Core.Path.{_≡_, refl, _∙_}
+use mathlib.Core.Path.{_≡_, refl, sym, _∙_}
 use mathlib.Core.Logic.{_↔_}
 use mathlib.Core.Bool.{Bool, true, false, cond}
 use mathlib.Core.List.{List, []}
@@ -27,6 +27,7 @@ use Rattle.pattern.specs.Form.{Pattern}
 use Rattle.book.proofs.LayoutLaws.{macros-few}
 use Rattle.reports.proofs.ReportLaws.{pairs-square}
 use Rattle.pattern.proofs.Readings.{accepted-few}
+use Rattle.counter.proofs.FrontLaws.{count-refused-book, count-refused-pattern, count-accepted}
 
 -- a sound book, an accepted pattern, a macro of the book, and work space enough
 pub record Countable (b p work : List ℕ) (ms : List Macro) (t : Pattern) (m : ℕ) : Type 0 where
@@ -39,9 +40,8 @@ pub record Countable (b p work : List ℕ) (ms : List Macro) (t : Pattern) (m : 
 module _ {b p work : List ℕ} {ms : List Macro} {t : Pattern} {m : ℕ} (a : Countable b p work ms t m) where
   -- what is answered then
   answer : bookResult b p m work ≡ countOf t ms m work
-  unfolding countResult
   answer =
-      rw (a .book, encode-read ms (a .well), a .pattern, lt-ltb m (length ms) (a .inside), le-ltb (length work) (needed t m) (a .enough)) refl
+      rw (a .book, encode-read ms (a .well), a .pattern, count-accepted, lt-ltb m (length ms) (a .inside), le-ltb (length work) (needed t m) (a .enough)) refl
 
   -- "the count given equals the number of lines of the macro's written-out run that match"
   pub count-equals : matchingLines t ms m ≤ most → bookResult b p m work ≡ finished (matchingLines t ms m) (steps t ms m) (filled t ms m work)
@@ -94,15 +94,14 @@ needed-most b p t m e h =
 
 -- No book has a macro from 1,024 on: all such numbers are refused alike.
 pub beyond-alike : (b : List ℕ) (p : reader.Read) (m n : ℕ) (work : List ℕ) → 1024 ≤ m → 1024 ≤ n → countResult (readBook b) p m work ≡ countResult (readBook b) p n work
-unfolding countResult
 beyond-alike b p m n work g h = go (readBook b) refl p
   where
     go : (r : Reading (List Macro)) → readBook b ≡ r → (q : reader.Read) → countResult r q m work ≡ countResult r q n work
-    go (refused r) d q = refl
-    go (got ms rest) d (reader.refused r) = refl
+    go (refused r) d q = count-refused-book m work r q ∙ sym (count-refused-book n work r q)
+    go (got ms rest) d (reader.refused r) = count-refused-pattern m work ms rest r ∙ sym (count-refused-pattern n work ms rest r)
     go (got ms rest) d (reader.accepted t) =
         let few : length ms ≤ 1024 = rw d at (macros-few b) in
-        rw (le-ltb m (length ms) (omega arith), le-ltb n (length ms) (omega arith)) refl
+        rw (count-accepted m work ms rest t, count-accepted n work ms rest t, le-ltb m (length ms) (omega arith), le-ltb n (length ms) (omega arith)) refl
 
 -- Demand 1: "it refuses with the one number that the table in document 01 sets, zeros in the answer and the work space left as
 -- stated under it".
@@ -118,8 +117,8 @@ module _ (m : ℕ) (work : List ℕ) where
   left-with false y z n k v h = (refl, refl, λ e. refl)
 
   pub refused-left : (g : Reading (List Macro)) (r : reader.Read) → Left (countResult g r m work)
-  unfolding countResult
-  refused-left (refused q) r h = (refl, refl, λ e. refl)
-  refused-left (got ms rest) (reader.refused q) h = (refl, refl, λ e. refl)
-  refused-left (got ms rest) (reader.accepted t) h =
-      left-with (ltb m (length ms)) (ltb (length work) (needed t m)) (leb (matchingLines t ms m) most) (matchingLines t ms m) (steps t ms m) (filled t ms m work) h
+  refused-left (refused q) r = rw count-refused-book (λ h. (refl, refl, λ e. refl))
+  refused-left (got ms rest) (reader.refused q) = rw count-refused-pattern (λ h. (refl, refl, λ e. refl))
+  refused-left (got ms rest) (reader.accepted t) =
+      rw (count-accepted m work ms rest t)
+      (left-with (ltb m (length ms)) (ltb (length work) (needed t m)) (leb (matchingLines t ms m) most) (matchingLines t ms m) (steps t ms m) (filled t ms m work))

@@ -2,14 +2,14 @@
 use Prim.Native.Nat.{ℕ, suc, _+_, _*_}
 use mathlib.Core.Bool.{Bool, cond}
 use mathlib.Core.List.{List, []}
-use lib.Dec.{leb, ltb}
+use lib.Dec.{leb}
 use lib.ListN.{length, getD, take}
 use Rattle.refusal.specs.declared.Refusal.{Refusal}
-use Rattle.refusal.specs.declared.Refusal.the-variants.{NoSuchMacro, InsufficientSpace, CountOverflow}
+use Rattle.refusal.specs.declared.Refusal.the-variants.{CountOverflow}
 use Rattle.refusal.specs.Number.{number}
 use Rattle.book.specs.Format.{Macro}
 use Rattle.book.specs.Expansion.{expand, expansion}
-use Rattle.book.specs.Reading.{Reading, got, refused, readBook}
+use Rattle.book.specs.Reading.{Reading, readBook}
 use Rattle.pattern.specs.Moves.{states}
 use Rattle.pattern.specs.Reader as reader
 use Rattle.lines.specs.Lines.{matching}
@@ -18,6 +18,7 @@ use Rattle.reports.specs.Words.{pairs, reportWords}
 use Rattle.runs.specs.Kept.{wordsOver}
 use Rattle.pattern.specs.Form.{Pattern}
 use Rattle.runs.specs.Counts.{sumBelow}
+use Rattle.counter.specs.Front.{answerBy, front}
 
 -- Steps.
 
@@ -39,9 +40,12 @@ itemsTo ms m = sumBelow (suc m) (λ i. length (getD ms i []))
 
 -- Work words.
 
--- "A count needs (m + 1) × (s + 4) words (64 bits) of work space."
+-- "A count needs (m + 1) × (s + 4) words (64 bits) of work space": s + 4 for each macro's report
+abbrev pub reportSize : Pattern → ℕ
+reportSize t = states t + 4
+
 abbrev pub needed : Pattern → ℕ → ℕ
-needed t m = suc m * (states t + 4)
+needed t m = suc m * reportSize t
 
 -- words that are enough for every book and pattern: 1,024 macros, 32 states (`needed-most`)
 abbrev pub mostWords : ℕ
@@ -53,7 +57,7 @@ macroWords t ms i = reportWords (report t (expansion ms i))
 
 -- the reports of the first n macros stored over the front of the work words
 abbrev pub reportsOver : Pattern → List Macro → ℕ → List ℕ → List ℕ
-reportsOver t ms n work = wordsOver (macroWords t ms) (states t + 4) n work
+reportsOver t ms n work = wordsOver (macroWords t ms) (reportSize t) n work
 
 -- "After it these first words hold the reports of macros 0 to m .. Later words are not touched."
 abbrev pub filled : Pattern → List Macro → ℕ → List ℕ → List ℕ
@@ -84,18 +88,10 @@ finishedIf b n k work = cond b (finished n k work) (stopped CountOverflow work)
 abbrev pub countOf : Pattern → List Macro → ℕ → List ℕ → Outcome
 countOf t ms m work = finishedIf (leb (matchingLines t ms m) most) (matchingLines t ms m) (steps t ms m) (filled t ms m work)
 
--- 10: "m not below M"; 11: "fewer words .. than stated"; "other lent memory is unchanged"
-abbrev pub countWith : List Macro → Pattern → ℕ → List ℕ → Outcome
-countWith ms t m work =
-    cond (ltb m (length ms))
-    (cond (ltb (length work) (needed t m)) (stopped InsufficientSpace work) (countOf t ms m work))
-    (stopped NoSuchMacro work)
-
--- "1 to 6 come in reading order, item by item; then 7; then 8 over the whole pattern; 9; 10; 11; 12."
+-- "1 to 6 come in reading order, item by item; then 7; then 8 over the whole pattern; 9; 10; 11; 12."; "other lent memory is
+-- unchanged"
 unfoldable pub countResult : Reading (List Macro) → reader.Read → ℕ → List ℕ → Outcome
-countResult (refused r) p m work = stopped r work
-countResult (got ms rest) (reader.refused r) m work = stopped r work
-countResult (got ms rest) (reader.accepted t) m work = countWith ms t m work
+countResult book pattern m work = answerBy (λ r. stopped r work) (λ x. countOf (x .1) (x .0) m work) (front book pattern reportSize m (length work))
 
 -- what the count of macro m answers, of a book and under a pattern as they are lent
 abbrev pub bookResult : List ℕ → List ℕ → ℕ → List ℕ → Outcome

@@ -2,7 +2,7 @@
 use Prim.Native.Nat.{ℕ, suc, _+_, _*_, _<_, _≤_}
 use mathlib.Core.Path.{_≡_}
 use mathlib.Core.Bool.{true}
-use mathlib.Core.List.{List, [], _++_, List·Memᴰ}
+use mathlib.Core.List.{List, _++_, List·Memᴰ}
 use lib.ListN.{length}
 use Rattle.runs.specs.Keys.{isKey, isRun}
 use Rattle.book.specs.declared.item.Item.{Item}
@@ -10,7 +10,7 @@ use Rattle.book.specs.declared.item.Item.the-variants.{Key, Call}
 use Rattle.book.specs.declared.macro_items.Items.{Items}
 use Rattle.book.specs.Format.{Macro}
 use Rattle.book.specs.Expansion.{keysOf, expand}
-use Rattle.book.specs.Reading.{got, readBook, macrosIn}
+use Rattle.book.specs.Reading.{readBook, macrosIn}
 use Rattle.book.specs.Answer.{layout}
 use Rattle.pattern.specs.Form.{Pattern}
 use Rattle.pattern.specs.Moves.{states}
@@ -21,7 +21,8 @@ use Rattle.reports.specs.Reports.{report}
 use Rattle.reports.specs.Words.{loadedAt}
 use Rattle.counter.specs.declared.counting.BookCount.{BookCount}
 use Rattle.counter.specs.declared.items.MacroCount.{MacroCount}
-use Rattle.counter.specs.Counting.{itemSteps, steps, filled, countOf, countWith}
+use Rattle.counter.specs.Front.{settled, bookStep}
+use Rattle.counter.specs.Counting.{itemSteps, steps, filled, countOf}
 use Rattle.counter.specs.Answers.{outcome}
 
 -- an item is a key, or a call whose run's report stands in the work words
@@ -43,10 +44,6 @@ pub record ItemsFit (items : Items) (p : Accepting) : Type 0 where
   pub few : items .count ≤ 64
   pub there : items .count ≤ length (items .codes)
   pub small : p .states ≤ 32
-
--- how many work words a count of macro m takes
-abbrev pub wordsFor : Accepting → ℕ → ℕ
-wordsFor p m = (m + 1) * (p .states + 4)
 
 -- the place of macro i's report in the work words
 abbrev pub placeOf : Accepting → ℕ → ℕ
@@ -77,16 +74,4 @@ BookCounted keys enter p ms m before after r = (t : Pattern) → Automaton t key
 pub record InBook (book offsets : List ℕ) (macros : ℕ) : Type 0 where
   pub table : offsets ≡ layout book .offsets
   pub many : macros ≡ length (macrosIn book)
-  pub sound : readBook book ≡ got (macrosIn book) []
-
--- states within the limit of the code
-pub record PatternFits (p : Accepting) : Type 0 where
-  pub small : p .states ≤ 32
-
--- the count of macro m of a sound book under an accepted pattern
-unfoldable pub PatternCounted : List ℕ → List ℕ → Accepting → List Macro → ℕ → List ℕ → List ℕ → BookCount → Type 0
-PatternCounted keys enter p ms m before after r = (t : Pattern) → Automaton t keys enter p → outcome r after ≡ countWith ms t m before
-
--- the same of a book as it is lent
-abbrev pub CountedIn : List ℕ → List ℕ → Accepting → List ℕ → ℕ → List ℕ → List ℕ → BookCount → Type 0
-CountedIn keys enter p book m before after r = PatternCounted keys enter p (macrosIn book) m before after r
+  pub sound : bookStep (readBook book) ≡ settled (macrosIn book)

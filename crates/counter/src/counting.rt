@@ -1,4 +1,6 @@
 // The count over a book.
+use crate::front::Space;
+use crate::front::space_for;
 use crate::items::items_report;
 use book::Checked;
 use book::items_of;
@@ -17,7 +19,7 @@ ghost use Rattle.book.specs.Reading.{macrosIn, readBook};
 ghost use Rattle.pattern.specs.Reader.{readPattern};
 ghost use Rattle.counter.specs.Answers.{outcome};
 ghost use Rattle.counter.specs.Counting.{countResult};
-ghost use Rattle.counter.specs.Promises.{BookCounted, Filled, InBook, MacroFits, PatternCounted, PatternFits};
+ghost use Rattle.counter.specs.Promises.{BookCounted, Filled, InBook, MacroFits};
 
 // Work words that are enough for every book and pattern: the reports of 1,024 macros with 32 states.
 pub const MOST_WORDS: usize = 1024 * (32 + BEHIND_ROWS);
@@ -28,19 +30,32 @@ pub enum BookCount {
     Refused(Refusal),
 }
 
+// The macro that is asked for, and how many the book has.
+struct Asked {
+    macros: usize,
+    m: usize,
+}
+
+// A macro of the book, and an accepted pattern.
+struct Task {
+    m: usize,
+    p: Accepting,
+}
+
 // Macros 0 to m in turn: each calls only those whose reports stand already. Answers the steps.
 fn fill(
     book: &[u8],
     offsets: &[usize; 1025],
-    m: usize,
+    task: Task,
     work: &mut [u64],
     keys: &[u64; 256],
     enter: &[u64; 32],
-    p: Accepting,
 ) -> u64
-    requires { ⌜ MacroFits (now book) (now offsets) m p (now work) ⌝ }
-    ensures { λ r. ⌜ Filled (now (keys .entry)) (now (enter .entry)) p (macrosIn (now (book .entry))) m (now (work .entry)) (now (work .exit)) r ⌝ }
+    requires { ⌜ MacroFits (now book) (now offsets) (task .m) (task .p) (now work) ⌝ }
+    ensures { λ r. ⌜ Filled (now (keys .entry)) (now (enter .entry)) (task .p) (macrosIn (now (book .entry))) (task .m) (now (work .entry)) (now (work .exit)) r ⌝ }
 {
+    let m = task.m;
+    let p = task.p;
     let width = p.states + BEHIND_ROWS;
     let mut steps = 0;
     let mut i = 0;
@@ -58,16 +73,17 @@ fn fill(
 fn counted_macro(
     book: &[u8],
     offsets: &[usize; 1025],
-    m: usize,
+    task: Task,
     work: &mut [u64],
     keys: &[u64; 256],
     enter: &[u64; 32],
-    p: Accepting,
 ) -> BookCount
-    requires { ⌜ MacroFits (now book) (now offsets) m p (now work) ⌝ }
-    ensures { λ r. ⌜ BookCounted (now (keys .entry)) (now (enter .entry)) p (macrosIn (now (book .entry))) m (now (work .entry)) (now (work .exit)) r ⌝ }
+    requires { ⌜ MacroFits (now book) (now offsets) (task .m) (task .p) (now work) ⌝ }
+    ensures { λ r. ⌜ BookCounted (now (keys .entry)) (now (enter .entry)) (task .p) (macrosIn (now (book .entry))) (task .m) (now (work .entry)) (now (work .exit)) r ⌝ }
 {
-    let steps = fill(book, offsets, m, work, keys, enter, p);
+    let m = task.m;
+    let p = task.p;
+    let steps = fill(book, offsets, task, work, keys, enter);
     let at = m * (p.states + BEHIND_ROWS);
     let report = load(work, at, p.states as u64);
     match total_of(report, p) {
@@ -76,47 +92,26 @@ fn counted_macro(
     }
 }
 
-// A sound book under an accepted pattern: 10, 11 and 12 of the table.
-fn counted_pattern(
-    book: &[u8],
-    offsets: &[usize; 1025],
-    macros: usize,
-    m: usize,
-    work: &mut [u64],
-    keys: &[u64; 256],
-    enter: &[u64; 32],
-    p: Accepting,
-) -> BookCount
-    requires { ⌜ InBook (now book) (now offsets) macros ⌝ }
-    requires { ⌜ PatternFits p ⌝ }
-    ensures { λ r. ⌜ PatternCounted (now (keys .entry)) (now (enter .entry)) p (macrosIn (now (book .entry))) m (now (work .entry)) (now (work .exit)) r ⌝ }
-{
-    if macros <= m {
-        return BookCount::Refused(Refusal::NoSuchMacro);
-    }
-    if work.len() < (m + 1) * (p.states + BEHIND_ROWS) {
-        return BookCount::Refused(Refusal::InsufficientSpace);
-    }
-    counted_macro(book, offsets, m, work, keys, enter, p)
-}
-
-// A sound book: 7, 8 and 9 of the table come before the rest.
+// A sound book: 7 to 11 of the table come before the count.
 fn counted_sound(
     book: &[u8],
     offsets: &[usize; 1025],
-    macros: usize,
+    asked: Asked,
     pattern: &[u8],
-    m: usize,
     work: &mut [u64],
 ) -> BookCount
-    requires { ⌜ InBook (now book) (now offsets) macros ⌝ }
-    ensures { λ r. ⌜ outcome r (now (work .exit)) ≡ countResult (readBook (now (book .entry))) (readPattern (now (pattern .entry))) m (now (work .entry)) ⌝ }
+    requires { ⌜ InBook (now book) (now offsets) (asked .macros) ⌝ }
+    ensures { λ r. ⌜ outcome r (now (work .exit)) ≡ countResult (readBook (now (book .entry))) (readPattern (now (pattern .entry))) (asked .m) (now (work .entry)) ⌝ }
 {
+    let m = asked.m;
     let mut keys = [0; 256];
     let mut enter = [0; 32];
     match read_pattern(pattern, &mut keys, &mut enter) {
         Verdict::Refused(r) => BookCount::Refused(r),
-        Verdict::Accepted(p) => counted_pattern(book, offsets, macros, m, work, &keys, &enter, p),
+        Verdict::Accepted(p) => match space_for(asked.macros, m, p.states + BEHIND_ROWS, work.len()) {
+            Space::Refused(r) => BookCount::Refused(r),
+            Space::Enough => counted_macro(book, offsets, Task { m, p }, work, &keys, &enter),
+        },
     }
 }
 
@@ -129,6 +124,9 @@ pub fn count_book(book: &[u8], pattern: &[u8], m: usize, work: &mut [u64]) -> Bo
     let answer = found.answer;
     match answer {
         Checked::Refused(r) => BookCount::Refused(r),
-        Checked::Sound(n) => counted_sound(book, &found.offsets, n as usize, pattern, m, work),
+        Checked::Sound(n) => {
+            let macros = n as usize;
+            counted_sound(book, &found.offsets, Asked { macros, m }, pattern, work)
+        }
     }
 }

@@ -1,5 +1,6 @@
 // The count over a book; and, for whoever links the counter, the operations of document 01 from the crates below.
 mod counting;
+mod front;
 mod items;
 
 pub use book::Checked;
@@ -8,6 +9,8 @@ pub use book::check;
 pub use counting::BookCount;
 pub use counting::MOST_WORDS;
 pub use counting::count_book;
+pub use front::Space;
+pub use front::space_for;
 pub use lines::LineTest;
 pub use lines::RunCount;
 pub use lines::count_run;

@@ -1,5 +1,6 @@
 -- `counting::count_book`: a refused book is passed on, and leaves the work words.
-use Rattle.counter.proofs.BookLaws.{book-refused, book-in}
+use Rattle.counter.proofs.FrontLaws.{book-in}
+use Rattle.counter.proofs.BookLaws.{book-refused}
 use borrow.Author.Needs.{needs}
 use Rattle.counter.proofs.counting.count_book.Statement.{statement}
 use Rattle.counter.proofs.counting.count_book.Tie as tie
@@ -13,8 +14,8 @@ enum-known-answer c = search needs
 enum-known-answer-2 : tie.Need-enum-known-answer-2
 enum-known-answer-2 c = search needs
 
-cast-counted-sound : tie.Need-cast-counted-sound
-cast-counted-sound c = search needs
+cast-macros : tie.Need-cast-macros
+cast-macros c = search needs
 
 counted-sound-requires : tie.Need-counted-sound-requires
 counted-sound-requires c κs = search (book-in)
@@ -35,7 +36,7 @@ count-book-spec =
     layout-of-requires
     enum-known-answer
     enum-known-answer-2
-    cast-counted-sound
+    cast-macros
     counted-sound-requires
     returns
     same-length

@@ -1,5 +1,5 @@
--- `counting::counted_sound`: a refused pattern is passed on, and leaves the work words.
-use Rattle.counter.proofs.BookLaws.{pattern-refused, pattern-fits, pattern-accepted}
+-- `counting::counted_sound`: a refusal is passed on, and leaves the work words.
+use Rattle.counter.proofs.BookLaws.{pattern-refused, size-fits, space-refused, macro-in, macro-counted}
 use borrow.Author.Needs.{needs}
 use Rattle.counter.proofs.counting.counted_sound.Statement.{statement}
 use Rattle.counter.proofs.counting.counted_sound.Tie as tie
@@ -13,17 +13,32 @@ enum-known-r c = search needs
 enum-known-p : tie.Need-enum-known-p
 enum-known-p c = search needs
 
-counted-pattern-requires : tie.Need-counted-pattern-requires
-counted-pattern-requires c κs = (search needs, search (pattern-fits))
+add-space-for : tie.Need-add-space-for
+add-space-for c = search (size-fits)
+
+space-for-requires : tie.Need-space-for-requires
+space-for-requires c κs = search needs
+
+enum-known-r-2 : tie.Need-enum-known-r-2
+enum-known-r-2 c = search needs
+
+enum-told : tie.Need-enum-told
+enum-told c = search needs
+
+counted-macro-requires : tie.Need-counted-macro-requires
+counted-macro-requires c κs = search (macro-in)
 
 returns : tie.Need-returns
 returns c = search (pattern-refused)
 
+returns-2 : tie.Need-returns-2
+returns-2 c = search (space-refused)
+
 same-length : tie.Need-same-length
 same-length c = search needs
 
-returns-2 : tie.Need-returns-2
-returns-2 c = search (pattern-accepted)
+returns-3 : tie.Need-returns-3
+returns-3 c = search (macro-counted)
 
 pub counted-sound-spec : {M : Type 1} → statement M
 counted-sound-spec =
@@ -32,7 +47,12 @@ counted-sound-spec =
     read-pattern-requires
     enum-known-r
     enum-known-p
-    counted-pattern-requires
+    add-space-for
+    space-for-requires
+    enum-known-r-2
+    enum-told
+    counted-macro-requires
     returns
+    returns-2
     same-length
-    returns-2)
+    returns-3)

@@ -1,0 +1,152 @@
+-- The three steps that come before any work, for whoever takes them: what each refuses or hands on, by what its function answers.
+use Prim.Native.Nat.{ℕ, suc, _*_, _/_, _<_, _≤_}
+use native.Mathlib.Omega.{arith}
+use native.Mathlib.Nat.{div-lt-iff-lt-mul, le-div-iff-mul-le}
+use mathlib.Core.Path.{_≡_, refl, sym, ap, _∙_}
+use mathlib.Core.Bool.{Bool, true, false, cond}
+use mathlib.Core.List.{List}
+use lib.Dec.{ltb}
+use lib.ListN.{length}
+use borrow.Author.Tests.{lt-ltb, le-ltb, ltb-true, ltb-false}
+use Rattle.runs.proofs.Tests.{clash}
+use Rattle.refusal.specs.declared.Refusal.{Refusal}
+use Rattle.refusal.specs.declared.Refusal.the-variants.{NoSuchMacro, InsufficientSpace}
+use Rattle.book.specs.Format.{Macro}
+use Rattle.book.specs.Reading.{Reading, readBook, macrosIn}
+use Rattle.book.specs.Answer.{layout}
+use Rattle.book.specs.declared.layout.Checked.{Checked}
+use Rattle.book.specs.declared.layout.Layout.{Layout}
+use Rattle.book.proofs.LayoutLaws.{layout-refused, layout-sound, layout-count}
+use Rattle.pattern.specs.Form.{Pattern}
+use Rattle.pattern.specs.Reader as reader
+use Rattle.pattern.specs.Automata.{Automaton, VerdictOn, KeysFrom, EnterFrom}
+use Rattle.pattern.specs.declared.automaton.Accepting.{Accepting}
+use Rattle.pattern.specs.declared.automaton.Verdict.{Verdict}
+use Rattle.pattern.proofs.Readings.{read-accepted, read-refused, states-of}
+use Rattle.counter.specs.declared.front.Space.{Space}
+use Rattle.counter.specs.Front.{refused, settled, _>>=_, answerBy, bookStep, patternStep, spaceStep, front}
+use Rattle.counter.specs.Counting.{stopped, countOf, reportSize, needed, countResult}
+use Rattle.counter.specs.Answers.{settledBy}
+use Rattle.counter.specs.Promises.{InBook}
+
+-- The book, by what `layout_of` answers.
+module _ (book : List ℕ) {l : Layout} (e : l ≡ layout book) where
+  pub book-refuses : {r : Refusal} → l .answer ≡ Checked.Refused r → bookStep (readBook book) ≡ refused r
+  book-refuses f = ap bookStep (layout-refused book e f)
+
+  module _ {n : ℕ} (f : l .answer ≡ Checked.Sound n) where
+    pub book-settles : bookStep (readBook book) ≡ settled (macrosIn book)
+    book-settles = ap bookStep (layout-sound book e f)
+
+    pub book-in : InBook book (l .offsets) n
+    book-in = record { table = ap (λ (x : Layout). x .offsets) e; many = layout-count book e f; sound = book-settles }
+
+-- an accepted pattern, by its tree
+pub record PatternIn (s keys enter : List ℕ) (p : Accepting) : Type 0 where
+  pub tree : Pattern
+  pub sound : patternStep (reader.readPattern s) ≡ settled tree
+  pub tables : Automaton tree keys enter p
+  pub small : p .states ≤ 32
+
+-- A pattern, by what `read_pattern` answers.
+module _ (s keys enter keys' enter' : List ℕ) {v : Verdict} (figures : VerdictOn s v) (keyed : KeysFrom s keys keys') (entered : EnterFrom s enter enter') where
+  pub pattern-refuses : {r : Refusal} → v ≡ Verdict.Refused r → patternStep (reader.readPattern s) ≡ refused r
+  pattern-refuses e = ap patternStep (read-refused s keys enter keys' enter' figures keyed entered e)
+
+  pub pattern-in : {p : Accepting} → v ≡ Verdict.Accepted p → PatternIn s keys' enter' p
+  pattern-in e =
+      let a = read-accepted s keys enter keys' enter' figures keyed entered e in
+      record { tree = a .tree; sound = ap patternStep (a .reading); tables = a .tables; small = omega (arith, states-of (a .tables), a .tables .few) }
+
+-- The macro and the words, by their numbers.
+module _ (width words : ℕ) where
+  pub no-macro : {macros m : ℕ} → macros ≤ m → refused NoSuchMacro ≡ spaceStep macros m width words
+  no-macro {macros} {m} h = rw (le-ltb m macros h) refl
+
+  module _ {macros m : ℕ} (inside : m < macros) where
+    pub space-short : words < suc m * width → refused InsufficientSpace ≡ spaceStep macros m width words
+    space-short h = rw (lt-ltb m macros inside, lt-ltb words (suc m * width) h) refl
+
+    pub space-enough : suc m * width ≤ words → settled tt ≡ spaceStep macros m width words
+    space-enough h = rw (lt-ltb m macros inside, le-ltb words (suc m * width) h) refl
+
+    -- by a quotient
+    pub none-needed : width ≡ 0 → settled tt ≡ spaceStep macros m width words
+    none-needed e = space-enough (rw e (omega arith))
+
+    module _ (some : width ≡ 0 → ⊥) where
+      positive : 0 < width
+      positive = omega (arith, some)
+
+      pub quotient-short : words / width ≤ m → refused InsufficientSpace ≡ spaceStep macros m width words
+      quotient-short h = let low : words / width < suc m = omega arith in space-short (div-lt-iff-lt-mul positive .0 low)
+
+      pub quotient-enough : m < words / width → settled tt ≡ spaceStep macros m width words
+      quotient-enough h = space-enough (le-div-iff-mul-le positive .0 h)
+
+-- The same, by what `space_for` answers.
+module _ (macros m width words : ℕ) (x : Space) (e : settledBy x ≡ spaceStep macros m width words) where
+  pub space-refuses : {r : Refusal} → x ≡ Space.Refused r → spaceStep macros m width words ≡ refused r
+  space-refuses f = sym e ∙ ap settledBy f
+
+  module _ (f : x ≡ Space.Enough) where
+    pub space-settles : spaceStep macros m width words ≡ settled tt
+    space-settles = sym e ∙ ap settledBy f
+
+    fits : (m < macros) × (suc m * width ≤ words)
+    fits = go (ltb m macros) (ltb words (suc m * width)) refl refl space-settles
+      where
+        go : (a b : Bool) → ltb m macros ≡ a → ltb words (suc m * width) ≡ b → cond a (cond b (refused InsufficientSpace) (settled (tt {0}))) (refused NoSuchMacro) ≡ settled tt → (m < macros) × (suc m * width ≤ words)
+        go true true g h k = clash (cc)
+        go true false g h k = (ltb-true m macros g, ltb-false words (suc m * width) h)
+        go false b g h k = clash (cc)
+
+    pub space-inside : m < macros
+    space-inside = fits .0
+
+    pub space-room : suc m * width ≤ words
+    space-room = fits .1
+
+-- The three steps in turn.
+module _ (book : Reading (List Macro)) (pattern : reader.Read) (width : Pattern → ℕ) (m words : ℕ) where
+  pub front-book : {r : Refusal} → bookStep book ≡ refused r → front book pattern width m words ≡ refused r
+  front-book e = rw e refl
+
+  module _ {ms : List Macro} (e : bookStep book ≡ settled ms) where
+    pub front-pattern : {r : Refusal} → patternStep pattern ≡ refused r → front book pattern width m words ≡ refused r
+    front-pattern f = rw (e, f) refl
+
+    module _ {t : Pattern} (f : patternStep pattern ≡ settled t) where
+      pub front-space : {r : Refusal} → spaceStep (length ms) m (width t) words ≡ refused r → front book pattern width m words ≡ refused r
+      front-space g = rw (e, f, g) refl
+
+      pub front-settled : spaceStep (length ms) m (width t) words ≡ settled tt → front book pattern width m words ≡ settled (ms, t)
+      front-settled g = rw (e, f, g) refl
+
+-- what is answered after a sound book and an accepted pattern
+pub front-answer : {B : Type 0} (f : Refusal → B) (g : List Macro × Pattern → B) (ms : List Macro) (rest : List ℕ) (t : Pattern) (width : Pattern → ℕ) (m words : ℕ) →
+    answerBy f g (front (Reading.got ms rest) (reader.accepted t) width m words)
+    ≡ cond (ltb m (length ms)) (cond (ltb words (suc m * width t)) (f InsufficientSpace) (g (ms, t))) (f NoSuchMacro)
+front-answer f g ms rest t width m words = go (ltb m (length ms)) (ltb words (suc m * width t))
+  where
+    go : (a b : Bool) → answerBy f g (cond a (cond b (refused InsufficientSpace) (settled (tt {0}))) (refused NoSuchMacro) >>= (λ x. settled (ms, t))) ≡ cond a (cond b (f InsufficientSpace) (g (ms, t))) (f NoSuchMacro)
+    go true true = refl
+    go true false = refl
+    go false b = refl
+
+-- The count, case by case.
+module _ (m : ℕ) (work : List ℕ) where
+  pub count-refused-book : (r : Refusal) (p : reader.Read) → countResult (Reading.refused r) p m work ≡ stopped r work
+  unfolding countResult
+  count-refused-book r p = refl
+
+  module _ (ms : List Macro) (rest : List ℕ) where
+    pub count-refused-pattern : (r : Refusal) → countResult (Reading.got ms rest) (reader.refused r) m work ≡ stopped r work
+    unfolding countResult
+    count-refused-pattern r = refl
+
+    pub count-accepted : (t : Pattern) →
+        countResult (Reading.got ms rest) (reader.accepted t) m work
+        ≡ cond (ltb m (length ms)) (cond (ltb (length work) (needed t m)) (stopped InsufficientSpace work) (countOf t ms m work)) (stopped NoSuchMacro work)
+    unfolding countResult
+    count-accepted t = front-answer (λ r. stopped r work) (λ x. countOf (x .1) (x .0) m work) ms rest t reportSize m (length work)
