@@ -37,7 +37,7 @@ use Rattle.counter.specs.Front.{refused, settled, spaceStep, front}
 use Rattle.counter.specs.Counting.{finished, stopped, finishedIf, matchingLines, filled, steps, reportSize, needed, countOf, countResult, bookResult}
 use Rattle.counter.specs.Answers.{outcome, settledBy}
 use Rattle.counter.specs.Promises.{placeOf, MacroFits, Filled, BookCounted, InBook}
-use Rattle.counter.proofs.FrontLaws.{PatternIn, book-refuses, pattern-refuses, pattern-in, space-refuses, space-settles, space-inside, space-room, front-book, front-pattern, front-space, front-settled}
+use Rattle.counter.proofs.FrontLaws.{PatternIn, book-refuses, pattern-refuses, pattern-in, space-inside, space-room, front-book, front-pattern, front-refuses, front-settles}
 use Rattle.counter.proofs.FillLaws.{reports-at}
 
 -- a run of at least one key
@@ -79,7 +79,7 @@ module _ {book offsets : List ℕ} {m : ℕ} {p : Accepting} {before : List ℕ}
           let ms = macrosIn book in
           shown-over (leb (matchingLines t ms m) most) (matchingLines t ms m) (steps t ms m) after (filled t ms m before) (sym e ∙ counted t d) (f .counts t d .0)
 
--- A refusal leaves the work words, and what is settled is counted.
+-- A refusal leaves the work words; what is settled is counted.
 module _ (book : Reading (List Macro)) (pattern : reader.Read) (m : ℕ) (before : List ℕ) where
   stopped-by : {r : Refusal} → front book pattern reportSize m (length before) ≡ refused r → stopped r before ≡ countResult book pattern m before
   unfolding countResult
@@ -90,42 +90,47 @@ module _ (book : Reading (List Macro)) (pattern : reader.Read) (m : ℕ) (before
   counted-by e = rw e refl
 
 -- Any book.
-pub book-refused : (book : List ℕ) {l : Layout} → l ≡ layout book → {r : Refusal} (p : reader.Read) (m : ℕ) (before : List ℕ) → l .answer ≡ Checked.Refused r → stopped r before ≡ countResult (readBook book) p m before
-book-refused book e p m before f = stopped-by (readBook book) p m before (front-book (readBook book) p reportSize m (length before) (book-refuses book e f))
+module _ (book : List ℕ) {l : Layout} (e : l ≡ layout book) where
+  pub book-refused : {r : Refusal} (p : reader.Read) (m : ℕ) (before : List ℕ) → l .answer ≡ Checked.Refused r → stopped r before ≡ countResult (readBook book) p m before
+  book-refused p m before f = stopped-by (readBook book) p m before (front-book (readBook book) p reportSize m (length before) (book-refuses book e f))
 
 -- A sound book, and any pattern.
-module _ {book offsets : List ℕ} {macros : ℕ} (i : InBook book offsets macros) (s keys enter keys' enter' : List ℕ) {v : Verdict} (figures : VerdictOn s v) (keyed : KeysFrom s keys keys') (entered : EnterFrom s enter enter') where
-  pub pattern-refused : (m : ℕ) (before : List ℕ) {r : Refusal} → v ≡ Verdict.Refused r → stopped r before ≡ bookResult book s m before
-  pattern-refused m before e =
-      stopped-by (readBook book) (reader.readPattern s) m before
-      (front-pattern (readBook book) (reader.readPattern s) reportSize m (length before) (i .sound) (pattern-refuses s keys enter keys' enter' figures keyed entered e))
+module _ {book offsets : List ℕ} {macros : ℕ} (i : InBook book offsets macros) (s keys enter keys' enter' : List ℕ) {v : Verdict} where
+  module _ (figures : VerdictOn s v) (keyed : KeysFrom s keys keys') (entered : EnterFrom s enter enter') where
+    pub pattern-refused : (m : ℕ) (before : List ℕ) {r : Refusal} → v ≡ Verdict.Refused r → stopped r before ≡ bookResult book s m before
+    pattern-refused m before e =
+        stopped-by (readBook book) (reader.readPattern s) m before
+        (front-pattern (readBook book) (reader.readPattern s) reportSize m (length before) (i .sound) (pattern-refuses s keys enter keys' enter' figures keyed entered e))
 
-  -- an accepted one
-  module _ {p : Accepting} (e : v ≡ Verdict.Accepted p) where
-    accepted : PatternIn s keys' enter' p
-    accepted = pattern-in s keys enter keys' enter' figures keyed entered e
+    -- an accepted one
+    module _ {p : Accepting} (e : v ≡ Verdict.Accepted p) where
+      accepted : PatternIn s keys' enter' p
+      accepted = pattern-in s keys enter keys' enter' figures keyed entered e
 
-    pub size-fits : p .states + 4 < 2 ^ 64
-    size-fits = omega (arith, accepted .small)
+      pub size-fits : p .states + 4 < 2 ^ 64
+      size-fits = omega (arith, accepted .small)
 
-    -- macro m, with these work words
-    module _ (m : ℕ) (before : List ℕ) (x : Space) (told : settledBy x ≡ spaceStep macros m (p .states + 4) (length before)) where
-      space-told : settledBy x ≡ spaceStep (length (macrosIn book)) m (reportSize (accepted .tree)) (length before)
-      space-told = rw (← i .many, ← states-of (accepted .tables)) told
+      -- macro m, with these work words
+      module _ (m : ℕ) (before : List ℕ) (x : Space) (told : settledBy x ≡ spaceStep macros m (p .states + 4) (length before)) where
+        sized : settledBy x ≡ spaceStep macros m (reportSize (accepted .tree)) (length before)
+        sized = rw (← states-of (accepted .tables)) told
 
-      pub space-refused : {r : Refusal} → x ≡ Space.Refused r → stopped r before ≡ bookResult book s m before
-      space-refused f =
-          stopped-by (readBook book) (reader.readPattern s) m before
-          (front-space (readBook book) (reader.readPattern s) reportSize m (length before) (i .sound) (accepted .sound) (space-refuses (length (macrosIn book)) m (reportSize (accepted .tree)) (length before) x space-told f))
+        pub space-refused : {r : Refusal} → x ≡ Space.Refused r → stopped r before ≡ bookResult book s m before
+        space-refused f = stopped-by (readBook book) (reader.readPattern s) m before (front-refuses i accepted reportSize m (length before) x sized f)
 
-      module _ (f : x ≡ Space.Enough) where
-        pub macro-in : MacroFits book offsets m p before
-        macro-in =
-            record { table = i .table; inside = space-inside (length (macrosIn book)) m (reportSize (accepted .tree)) (length before) x space-told f; small = accepted .small; room = space-room macros m (p .states + 4) (length before) x told f }
+        module _ (f : x ≡ Space.Enough) where
+          pub macro-in : MacroFits book offsets m p before
+          macro-in =
+              let inside : m < macros = space-inside macros m (p .states + 4) (length before) x told f in
+              record {
+                table = i .table;
+                inside = omega (arith, i .many);
+                small = accepted .small;
+                room = space-room macros m (p .states + 4) (length before) x told f;
+              }
 
-        pub macro-counted : (after : List ℕ) (r : BookCount) → BookCounted keys' enter' p (macrosIn book) m before after r → outcome r after ≡ bookResult book s m before
-        unfolding BookCounted
-        macro-counted after r g =
-            g (accepted .tree) (accepted .tables)
-            ∙ counted-by (readBook book) (reader.readPattern s) m before
-            (front-settled (readBook book) (reader.readPattern s) reportSize m (length before) (i .sound) (accepted .sound) (space-settles (length (macrosIn book)) m (reportSize (accepted .tree)) (length before) x space-told f))
+          pub macro-counted : (after : List ℕ) (r : BookCount) → BookCounted keys' enter' p (macrosIn book) m before after r → outcome r after ≡ bookResult book s m before
+          unfolding BookCounted
+          macro-counted after r g =
+              let settles = front-settles i accepted reportSize m (length before) x sized f in
+              g (accepted .tree) (accepted .tables) ∙ counted-by (readBook book) (reader.readPattern s) m before settles

@@ -24,7 +24,7 @@ use Rattle.pattern.specs.declared.automaton.Accepting.{Accepting}
 use Rattle.pattern.specs.declared.automaton.Verdict.{Verdict}
 use Rattle.pattern.proofs.Readings.{read-accepted, read-refused, states-of}
 use Rattle.counter.specs.declared.front.Space.{Space}
-use Rattle.counter.specs.Front.{refused, settled, _>>=_, answerBy, bookStep, patternStep, spaceStep, front}
+use Rattle.counter.specs.Front.{Settled, refused, settled, _>>=_, answerBy, bookStep, patternStep, spaceStep, front}
 use Rattle.counter.specs.Counting.{stopped, countOf, reportSize, needed, countResult}
 use Rattle.counter.specs.Answers.{settledBy}
 use Rattle.counter.specs.Promises.{InBook}
@@ -59,18 +59,18 @@ module _ (s keys enter keys' enter' : List ℕ) {v : Verdict} (figures : Verdict
       record { tree = a .tree; sound = ap patternStep (a .reading); tables = a .tables; small = omega (arith, states-of (a .tables), a .tables .few) }
 
 -- The macro and the words, by their numbers.
-module _ (width words : ℕ) where
-  pub no-macro : {macros m : ℕ} → macros ≤ m → refused NoSuchMacro ≡ spaceStep macros m width words
-  no-macro {macros} {m} h = rw (le-ltb m macros h) refl
+module _ (macros m width words : ℕ) where
+  pub no-macro : macros ≤ m → refused NoSuchMacro ≡ spaceStep macros m width words
+  no-macro h = rw (le-ltb m macros h) refl
 
-  module _ {macros m : ℕ} (inside : m < macros) where
+  module _ (inside : m < macros) where
     pub space-short : words < suc m * width → refused InsufficientSpace ≡ spaceStep macros m width words
     space-short h = rw (lt-ltb m macros inside, lt-ltb words (suc m * width) h) refl
 
     pub space-enough : suc m * width ≤ words → settled tt ≡ spaceStep macros m width words
     space-enough h = rw (lt-ltb m macros inside, le-ltb words (suc m * width) h) refl
 
-    -- by a quotient
+    -- the same by a quotient
     pub none-needed : width ≡ 0 → settled tt ≡ spaceStep macros m width words
     none-needed e = space-enough (rw e (omega arith))
 
@@ -84,7 +84,11 @@ module _ (width words : ℕ) where
       pub quotient-enough : m < words / width → settled tt ≡ spaceStep macros m width words
       quotient-enough h = space-enough (le-div-iff-mul-le positive .0 h)
 
--- The same, by what `space_for` answers.
+-- by the two tests
+abbrev spaceIf : Bool → Bool → Settled (Unit {0})
+spaceIf a b = cond a (cond b (refused InsufficientSpace) (settled tt)) (refused NoSuchMacro)
+
+-- and by what `space_for` answers
 module _ (macros m width words : ℕ) (x : Space) (e : settledBy x ≡ spaceStep macros m width words) where
   pub space-refuses : {r : Refusal} → x ≡ Space.Refused r → spaceStep macros m width words ≡ refused r
   space-refuses f = sym e ∙ ap settledBy f
@@ -96,7 +100,7 @@ module _ (macros m width words : ℕ) (x : Space) (e : settledBy x ≡ spaceStep
     fits : (m < macros) × (suc m * width ≤ words)
     fits = go (ltb m macros) (ltb words (suc m * width)) refl refl space-settles
       where
-        go : (a b : Bool) → ltb m macros ≡ a → ltb words (suc m * width) ≡ b → cond a (cond b (refused InsufficientSpace) (settled (tt {0}))) (refused NoSuchMacro) ≡ settled tt → (m < macros) × (suc m * width ≤ words)
+        go : (a b : Bool) → ltb m macros ≡ a → ltb words (suc m * width) ≡ b → spaceIf a b ≡ settled tt → (m < macros) × (suc m * width ≤ words)
         go true true g h k = clash (cc)
         go true false g h k = (ltb-true m macros g, ltb-false words (suc m * width) h)
         go false b g h k = clash (cc)
@@ -107,7 +111,7 @@ module _ (macros m width words : ℕ) (x : Space) (e : settledBy x ≡ spaceStep
     pub space-room : suc m * width ≤ words
     space-room = fits .1
 
--- The three steps in turn.
+-- The steps in turn, for one pattern.
 module _ (book : Reading (List Macro)) (pattern : reader.Read) (width : Pattern → ℕ) (m words : ℕ) where
   pub front-book : {r : Refusal} → bookStep book ≡ refused r → front book pattern width m words ≡ refused r
   front-book e = rw e refl
@@ -123,13 +127,29 @@ module _ (book : Reading (List Macro)) (pattern : reader.Read) (width : Pattern 
       pub front-settled : spaceStep (length ms) m (width t) words ≡ settled tt → front book pattern width m words ≡ settled (ms, t)
       front-settled g = rw (e, f, g) refl
 
--- what is answered after a sound book and an accepted pattern
+-- A sound book and an accepted pattern: the third step's answer is that of them all.
+module _ {book offsets : List ℕ} {macros : ℕ} (i : InBook book offsets macros) {s keys enter : List ℕ} {p : Accepting} (a : PatternIn s keys enter p) where
+  module _ (width : Pattern → ℕ) (m words : ℕ) (x : Space) (e : settledBy x ≡ spaceStep macros m (width (a .tree)) words) where
+    told : settledBy x ≡ spaceStep (length (macrosIn book)) m (width (a .tree)) words
+    told = rw (← i .many) e
+
+    pub front-refuses : {r : Refusal} → x ≡ Space.Refused r → front (readBook book) (reader.readPattern s) width m words ≡ refused r
+    front-refuses f =
+        front-space (readBook book) (reader.readPattern s) width m words (i .sound) (a .sound)
+        (space-refuses (length (macrosIn book)) m (width (a .tree)) words x told f)
+
+    pub front-settles : x ≡ Space.Enough → front (readBook book) (reader.readPattern s) width m words ≡ settled (macrosIn book, a .tree)
+    front-settles f =
+        front-settled (readBook book) (reader.readPattern s) width m words (i .sound) (a .sound)
+        (space-settles (length (macrosIn book)) m (width (a .tree)) words x told f)
+
+-- what is answered then, by the two tests
 pub front-answer : {B : Type 0} (f : Refusal → B) (g : List Macro × Pattern → B) (ms : List Macro) (rest : List ℕ) (t : Pattern) (width : Pattern → ℕ) (m words : ℕ) →
     answerBy f g (front (Reading.got ms rest) (reader.accepted t) width m words)
     ≡ cond (ltb m (length ms)) (cond (ltb words (suc m * width t)) (f InsufficientSpace) (g (ms, t))) (f NoSuchMacro)
 front-answer f g ms rest t width m words = go (ltb m (length ms)) (ltb words (suc m * width t))
   where
-    go : (a b : Bool) → answerBy f g (cond a (cond b (refused InsufficientSpace) (settled (tt {0}))) (refused NoSuchMacro) >>= (λ x. settled (ms, t))) ≡ cond a (cond b (f InsufficientSpace) (g (ms, t))) (f NoSuchMacro)
+    go : (a b : Bool) → answerBy f g (_>>=_ (spaceIf a b) (λ x. settled (ms, t))) ≡ cond a (cond b (f InsufficientSpace) (g (ms, t))) (f NoSuchMacro)
     go true true = refl
     go true false = refl
     go false b = refl

@@ -16,8 +16,6 @@ pub data Settled (A : Type 0) : Type 0 where
   refused : Refusal → Settled A
   settled : A → Settled A
 
-infixl 10 _>>=_
-
 -- the next step, unless this one refuses
 abbrev pub _>>=_ : {A B : Type 0} → Settled A → (A → Settled B) → Settled B
 _>>=_ (refused r) f = refused r

@@ -108,10 +108,13 @@ fn counted_sound(
     let mut enter = [0; 32];
     match read_pattern(pattern, &mut keys, &mut enter) {
         Verdict::Refused(r) => BookCount::Refused(r),
-        Verdict::Accepted(p) => match space_for(asked.macros, m, p.states + BEHIND_ROWS, work.len()) {
-            Space::Refused(r) => BookCount::Refused(r),
-            Space::Enough => counted_macro(book, offsets, Task { m, p }, work, &keys, &enter),
-        },
+        Verdict::Accepted(p) => {
+            let width = p.states + BEHIND_ROWS;
+            match space_for(asked.macros, m, width, work.len()) {
+                Space::Refused(r) => BookCount::Refused(r),
+                Space::Enough => counted_macro(book, offsets, Task { m, p }, work, &keys, &enter),
+            }
+        }
     }
 }
 

@@ -13,8 +13,8 @@ enum-known-r c = search needs
 enum-known-p : tie.Need-enum-known-p
 enum-known-p c = search needs
 
-add-space-for : tie.Need-add-space-for
-add-space-for c = search (size-fits)
+add-width : tie.Need-add-width
+add-width c = search (size-fits)
 
 space-for-requires : tie.Need-space-for-requires
 space-for-requires c κs = search needs
@@ -47,7 +47,7 @@ counted-sound-spec =
     read-pattern-requires
     enum-known-r
     enum-known-p
-    add-space-for
+    add-width
     space-for-requires
     enum-known-r-2
     enum-told
