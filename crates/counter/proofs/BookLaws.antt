@@ -1,7 +1,7 @@
 -- From the reports of a book's macros to what the count answers.
-use Prim.Native.Nat.{ℕ, suc, _+_, _^_, _<_, _≤_}
+use Prim.Native.Nat.{ℕ, suc, _+_, _^_, _<_}
 use native.Mathlib.Omega.{arith}
-use mathlib.Core.Path.{_≡_, refl, sym, ap, _∙_}
+use mathlib.Core.Path.{_≡_, refl, sym, _∙_}
 use mathlib.Core.Bool.{Bool, true, false, cond}
 use mathlib.Core.List.{List, [], _∷_}
 use lib.Dec.{leb}
@@ -18,7 +18,6 @@ use Rattle.book.specs.declared.layout.Layout.{Layout}
 use Rattle.book.proofs.LayoutLaws.{well-in}
 use Rattle.book.proofs.Expansion.{expansion-nonempty, expansion-run}
 use Rattle.pattern.specs.Form.{Pattern}
-use Rattle.pattern.specs.Moves.{states}
 use Rattle.pattern.specs.Reader as reader
 use Rattle.pattern.specs.Automata.{Automaton, VerdictOn, KeysFrom, EnterFrom}
 use Rattle.pattern.specs.declared.automaton.Accepting.{Accepting}
