@@ -6,6 +6,7 @@ use mathlib.Core.Bool.{Bool, true, false, cond}
 use mathlib.Core.List.{List, [], _∷_}
 use lib.Dec.{leb}
 use lib.ListN.{length, drop}
+use borrow.Author.Tests.{leb-true}
 use Rattle.runs.proofs.Tests.{clash}
 use Rattle.refusal.specs.declared.Refusal.{Refusal}
 use Rattle.refusal.specs.declared.Refusal.the-variants.{CountOverflow}
@@ -106,8 +107,9 @@ module _ {book offsets : List ℕ} {macros : ℕ} (i : InBook book offsets macro
       accepted : PatternIn s keys' enter' p
       accepted = pattern-in s keys enter keys' enter' figures keyed entered e
 
-      pub size-fits : p .states + 4 < 2 ^ 64
-      size-fits = omega (arith, accepted .small)
+      -- a size of some words more than states is small
+      pub size-fits : (k : ℕ) → leb k 4 ≡ true → p .states + k < 2 ^ 64
+      size-fits k h = omega (arith, accepted .small, leb-true k 4 h)
 
       -- macro m, with these work words
       module _ (m : ℕ) (before : List ℕ) (x : Space) (told : settledBy x ≡ spaceStep macros m (p .states + 4) (length before)) where

@@ -61,13 +61,16 @@ module _ (s keys enter keys' enter' : List ℕ) {v : Verdict} (figures : Verdict
 -- The macro and the words, by their numbers.
 module _ (macros m width words : ℕ) where
   pub no-macro : macros ≤ m → refused NoSuchMacro ≡ spaceStep macros m width words
+  unfolding spaceStep
   no-macro h = rw (le-ltb m macros h) refl
 
   module _ (inside : m < macros) where
     pub space-short : words < suc m * width → refused InsufficientSpace ≡ spaceStep macros m width words
+    unfolding spaceStep
     space-short h = rw (lt-ltb m macros inside, lt-ltb words (suc m * width) h) refl
 
     pub space-enough : suc m * width ≤ words → settled tt ≡ spaceStep macros m width words
+    unfolding spaceStep
     space-enough h = rw (lt-ltb m macros inside, le-ltb words (suc m * width) h) refl
 
     -- the same by a quotient
@@ -98,6 +101,7 @@ module _ (macros m width words : ℕ) (x : Space) (e : settledBy x ≡ spaceStep
     space-settles = sym e ∙ ap settledBy f
 
     fits : (m < macros) × (suc m * width ≤ words)
+    unfolding spaceStep
     fits = go (ltb m macros) (ltb words (suc m * width)) refl refl space-settles
       where
         go : (a b : Bool) → ltb m macros ≡ a → ltb words (suc m * width) ≡ b → spaceIf a b ≡ settled tt → (m < macros) × (suc m * width ≤ words)
@@ -147,6 +151,7 @@ module _ {book offsets : List ℕ} {macros : ℕ} (i : InBook book offsets macro
 pub front-answer : {B : Type 0} (f : Refusal → B) (g : List Macro × Pattern → B) (ms : List Macro) (rest : List ℕ) (t : Pattern) (width : Pattern → ℕ) (m words : ℕ) →
     answerBy f g (front (Reading.got ms rest) (reader.accepted t) width m words)
     ≡ cond (ltb m (length ms)) (cond (ltb words (suc m * width t)) (f InsufficientSpace) (g (ms, t))) (f NoSuchMacro)
+unfolding spaceStep
 front-answer f g ms rest t width m words = go (ltb m (length ms)) (ltb words (suc m * width t))
   where
     go : (a b : Bool) → answerBy f g (_>>=_ (spaceIf a b) (λ x. settled (ms, t))) ≡ cond a (cond b (f InsufficientSpace) (g (ms, t))) (f NoSuchMacro)

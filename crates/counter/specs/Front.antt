@@ -37,7 +37,7 @@ patternStep (reader.refused r) = refused r
 patternStep (reader.accepted t) = settled t
 
 -- 10: "m not below M"; 11: "fewer words .. than stated", where each of macros 0 to m needs `width` words
-abbrev pub spaceStep : ℕ → ℕ → ℕ → ℕ → Settled (Unit {0})
+unfoldable pub spaceStep : ℕ → ℕ → ℕ → ℕ → Settled (Unit {0})
 spaceStep macros m width words =
     cond (ltb m macros)
     (cond (ltb words (suc m * width)) (refused InsufficientSpace) (settled tt))
