@@ -18,6 +18,7 @@ use Rattle.pattern.specs.Moves.{enters, target, move, leads}
 use Rattle.pattern.specs.Reader.{Read, accepted, refused, readRepeat, readExpr, readBranch, readBranches, readPattern}
 use Rattle.brackets.specs.Brackets.{sameBytes, findClass, readElement, readElements, readBracket, readAtom, readAtomBy}
 use Rattle.lines.specs.Lines.{lines, countIn, matching}
+use Rattle.counter.specs.Front.{spaceStep}
 use Rattle.counter.specs.Counting.{Outcome, itemSteps, steps, countResult}
 use Rattle.reports.specs.Words.{pairs}
 use Rattle.lines.specs.Answers.{lineResult, runResult}
@@ -116,5 +117,5 @@ allHold (r ∷ rs) = holds r && allHold rs
 
 -- every row is as document 01 says
 pub paper-runs : allHold table ≡ true
-unfolding table allHold answerTo classNames atoms atomCount sameBytes findClass readElement readElements readBracket readAtomBy readAtom readRepeat readExpr readBranch readBranches readPattern classRanges inRanges inElement inElements named setOf repeated takes matchesFrom matches lines countIn matching readItem readItems readMacro readMacros readHeader readAll readBook expand expandTo expansion lineResult runResult countResult firstPart laterParts lastPart sumBelow pairs itemSteps steps anyBelow countBelow nothing first last follow someBranch positions.holds enters target move leads patternEnd lastResult programResult programAnswer xor
+unfolding table allHold answerTo classNames atoms atomCount sameBytes findClass readElement readElements readBracket readAtomBy readAtom readRepeat readExpr readBranch readBranches readPattern classRanges inRanges inElement inElements named setOf repeated takes matchesFrom matches lines countIn matching readItem readItems readMacro readMacros readHeader readAll readBook expand expandTo expansion lineResult runResult spaceStep countResult firstPart laterParts lastPart sumBelow pairs itemSteps steps anyBelow countBelow nothing first last follow someBranch positions.holds enters target move leads patternEnd lastResult programResult programAnswer xor
 paper-runs = refl
