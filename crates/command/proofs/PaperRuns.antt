@@ -20,7 +20,7 @@ use Rattle.brackets.specs.Brackets.{sameBytes, findClass, readElement, readElem
 use Rattle.lines.specs.Lines.{lines, countIn, matching}
 use Rattle.counter.specs.Front.{spaceStep}
 use Rattle.counter.specs.Counting.{Outcome, itemSteps, steps, countResult}
-use Rattle.reports.specs.Words.{pairs}
+use Rattle.spans.specs.Pairs.{pairs}
 use Rattle.lines.specs.Answers.{lineResult, runResult}
 use Rattle.command.specs.Input.{patternEnd, lastResult, programResult, programAnswer}
 use Rattle.runs.specs.Counts.{countBelow, sumBelow}

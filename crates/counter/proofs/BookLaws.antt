@@ -1,7 +1,7 @@
 -- From the reports of a book's macros to what the count answers.
 use Prim.Native.Nat.{ℕ, suc, _+_, _^_, _<_}
 use native.Mathlib.Omega.{arith}
-use mathlib.Core.Path.{_≡_, refl, sym, _∙_}
+use mathlib.Core.Path.{_≡_, refl, sym, ap, _∙_}
 use mathlib.Core.Bool.{Bool, true, false, cond}
 use mathlib.Core.List.{List, [], _∷_}
 use lib.Dec.{leb}
@@ -17,20 +17,19 @@ use Rattle.book.specs.Answer.{layout}
 use Rattle.book.specs.declared.layout.Checked.{Checked}
 use Rattle.book.specs.declared.layout.Layout.{Layout}
 use Rattle.book.proofs.LayoutLaws.{well-in}
-use Rattle.book.proofs.Expansion.{expansion-nonempty, expansion-run}
+use Rattle.book.proofs.Expansion.{expansion-run}
 use Rattle.pattern.specs.Form.{Pattern}
 use Rattle.pattern.specs.Reader as reader
 use Rattle.pattern.specs.Automata.{Automaton, VerdictOn, KeysFrom, EnterFrom}
 use Rattle.pattern.specs.declared.automaton.Accepting.{Accepting}
 use Rattle.pattern.specs.declared.automaton.Verdict.{Verdict}
 use Rattle.pattern.proofs.Readings.{states-of}
-use Rattle.lines.specs.Lines.{isOpen}
 use Rattle.reports.specs.declared.report.Report.{Report}
 use Rattle.reports.specs.declared.total.Total.{Total}
-use Rattle.reports.specs.Reports.{most}
+use Rattle.reports.specs.Totals.{most, totalOf}
+use Rattle.reports.specs.Reports.{report, totalIn}
 use Rattle.reports.specs.Words.{loadedAt}
-use Rattle.reports.specs.Promises.{Totals, totalOf}
-use Rattle.reports.proofs.TotalLaws.{totals-are}
+use Rattle.reports.proofs.ReportLaws.{total-run}
 use Rattle.counter.specs.declared.counting.BookCount.{BookCount}
 use Rattle.counter.specs.declared.front.Space.{Space}
 use Rattle.counter.specs.Front.{refused, settled, spaceStep, front}
@@ -39,11 +38,6 @@ use Rattle.counter.specs.Answers.{outcome, settledBy}
 use Rattle.counter.specs.Promises.{placeOf, MacroFits, Filled, BookCounted, InBook}
 use Rattle.counter.proofs.FrontLaws.{PatternIn, book-refuses, pattern-refuses, pattern-in, space-inside, space-room, front-book, front-pattern, front-refuses, front-settles}
 use Rattle.counter.proofs.FillLaws.{reports-at}
-
--- a run of at least one key
-open-long : (w : List ℕ) → 0 < length w → isOpen w ≡ true
-open-long [] h = absurd (omega arith)
-open-long (c ∷ w) h = refl
 
 -- a count within the limit, and one beyond
 shown-lines : (b : Bool) (k N n S : ℕ) (A B : List ℕ) → Total.Lines k ≡ cond b (Total.Lines N) Total.TooMany → n ≡ S → A ≡ B → finished k n A ≡ finishedIf b N S B
@@ -57,14 +51,14 @@ shown-over false N S A B e g = rw g refl
 -- Macro m.
 module _ {book offsets : List ℕ} {m : ℕ} {p : Accepting} {before : List ℕ} (g : MacroFits book offsets m p before) where
   module _ {keys enter after : List ℕ} {n : ℕ} (f : Filled keys enter p (macrosIn book) m before after n) where
-    module _ {r : Report} {x : Total} (l : r ≡ loadedAt after (placeOf p m) (p .states)) (z : Totals p r x) where
+    module _ {r : Report} {x : Total} (l : r ≡ loadedAt after (placeOf p m) (p .states)) (z : x ≡ totalIn p r) where
       -- the count is that of the run
       counted : (t : Pattern) → Automaton t keys enter p → x ≡ totalOf (matchingLines t (macrosIn book) m)
       counted t d =
           let ms = macrosIn book in
           let well = well-in book (g .inside) in
-          totals-are d z (expansion ms m) (expansion-run ms well m) (open-long (expansion ms m) (expansion-nonempty ms well m (g .inside)))
-          (l ∙ rw (states-of d) (reports-at t (d .few) ms (suc m) m (omega arith) after (drop (needed t m) before) (f .counts t d .0)))
+          let there : r ≡ report t (expansion ms m) = l ∙ rw (states-of d) (reports-at t (d .few) ms (suc m) m (omega arith) after (drop (needed t m) before) (f .counts t d .0)) in
+          z ∙ ap (totalIn p) there ∙ total-run d (expansion ms m) (expansion-run ms well m)
 
       pub macro-lines : {k : ℕ} → x ≡ Total.Lines k → BookCounted keys enter p (macrosIn book) m before after (BookCount.Lines k n)
       unfolding BookCounted

@@ -19,13 +19,13 @@ use Rattle.book.proofs.Coding.{encode-read}
 use Rattle.book.proofs.Reach.{expansion-alike}
 use Rattle.pattern.specs.Moves.{states}
 use Rattle.pattern.specs.Reader as reader
-use Rattle.reports.specs.Reports.{most}
-use Rattle.reports.specs.Words.{pairs}
+use Rattle.spans.specs.Pairs.{pairs}
+use Rattle.reports.specs.Totals.{most}
 use Rattle.counter.specs.Counting.{itemSteps, stepsWithin, steps, itemsTo, Outcome, matchingLines, finished, stopped, finishedIf, filled, needed, mostWords, countOf, countResult, bookResult}
 use Rattle.runs.proofs.CountLaws.{sum-le, sum-scale}
 use Rattle.pattern.specs.Form.{Pattern}
 use Rattle.book.proofs.LayoutLaws.{macros-few}
-use Rattle.reports.proofs.ReportLaws.{pairs-square}
+use Rattle.spans.proofs.PairLaws.{pairs-square}
 use Rattle.pattern.proofs.Readings.{accepted-few}
 use Rattle.counter.proofs.FrontLaws.{count-refused-book, count-refused-pattern, count-accepted}
 

@@ -48,7 +48,7 @@ module _ (t : Pattern) (few : atomCount t ≤ 29) (ms : List Macro) where
 pub record FillSoFar (keys enter : List ℕ) (p : Accepting) (ms : List Macro) (m : ℕ) (before after : List ℕ) (n i : ℕ) : Type 0 where
   pub inside : i ≤ suc m
   pub long : length after ≡ length before
-  pub few : n ≤ i * 131072
+  pub few : n ≤ i * 65536
   pub counts : (t : Pattern) → Automaton t keys enter p → (after ≡ reportsOver t ms i before) × (n ≡ sumBelow i (stepsWithin t ms))
 
 module _ {keys enter : List ℕ} {p : Accepting} {ms : List Macro} {m : ℕ} {before : List ℕ} where

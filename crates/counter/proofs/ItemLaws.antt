@@ -28,11 +28,13 @@ use Rattle.pattern.specs.declared.automaton.Accepting.{Accepting}
 use Rattle.pattern.proofs.Readings.{states-of}
 use Rattle.reports.specs.declared.report.Joined.{Joined}
 use Rattle.reports.specs.declared.report.Report.{Report}
-use Rattle.reports.specs.Reports.{emptyReport, report}
+use Rattle.reports.specs.Reports.{emptyReport, report, spanIn, extendedReport}
 use Rattle.reports.specs.Answers.{joinResult}
-use Rattle.reports.specs.Words.{pairs, pairsIn, loadedAt}
-use Rattle.reports.specs.Promises.{Extended}
-use Rattle.reports.proofs.ReportLaws.{empty-is, report-size, join-small, join-runs, pairs-of, pairs-le}
+use Rattle.reports.specs.Words.{loadedAt}
+use Rattle.reports.proofs.ReportLaws.{empty-is, empty-small, report-size, extended-small, join-small, extend-report, join-runs, report-pairs}
+use Rattle.spans.specs.declared.span.Span.{Span}
+use Rattle.spans.specs.Pairs.{pairs, pairsIn}
+use Rattle.spans.proofs.PairLaws.{pairs-le}
 use Rattle.counter.specs.Counting.{itemSteps}
 use Rattle.counter.specs.Promises.{Served, AllServed, AfterItem, ItemsFit, ItemsCounted}
 
@@ -56,14 +58,19 @@ steps-more t called is i =
 
 -- One item more.
 module _ {keys enter : List ℕ} {p : Accepting} {work : List ℕ} {a : Report} {item : Item} (small : a .s ≤ 32) where
-  pub item-key : {k : ℕ} {b : Report} → item ≡ Key k → Extended keys enter p a k b → AfterItem keys enter p work a item b
-  item-key i g = rw i (record { small = rw (g .size) small; extends = λ t h called w run served e. g .extends t h w run served e })
+  pub item-key : {k : ℕ} {b : Report} → item ≡ Key k → b ≡ extendedReport keys enter p a k → AfterItem keys enter p work a item b
+  item-key {k} i g =
+      rw (i, g)
+      (record {
+        small = extended-small keys enter p a k;
+        extends = λ t h called w run served e. rw e (extend-report h w k run served);
+      })
 
   pub item-call : {j : ℕ} {d : Report} {b : Joined} → item ≡ Call j → d ≡ loadedAt work (j * (a .s + 4)) (a .s) → b ≡ joinResult a d → AfterItem keys enter p work a item (b .report)
   item-call {j} {d} {b} i f g =
       rw i
       (record {
-        small = rw g (join-small a d small);
+        small = rw g (join-small a d);
         extends = λ t h called w run served e.
             let same : a .s ≡ states t = ap (λ (x : Report). x .s) e ∙ report-size t w in
             let there : d ≡ report t (called j) = f ∙ rw same (served .0) in
@@ -87,7 +94,7 @@ ReportAndSteps t called items a n = (a ≡ report t (expand called items)) × (i
 pub record ItemsSoFar (keys enter : List ℕ) (p : Accepting) (work : List ℕ) (items : Items) (a : Report) (n k : ℕ) : Type 0 where
   pub inside : k ≤ items .count
   pub small : a .s ≤ 32
-  pub few : n ≤ k * 2048
+  pub few : n ≤ k * 1024
   pub counts : (t : Pattern) → Automaton t keys enter p → (called : ℕ → List ℕ) → AllServed t called work (decoded items) → ReportAndSteps t called (take k (decoded items)) a n
 
 module _ {keys enter : List ℕ} {p : Accepting} {work : List ℕ} {items : Items} (fits : ItemsFit items p) where
@@ -95,12 +102,16 @@ module _ {keys enter : List ℕ} {p : Accepting} {work : List ℕ} {items : Item
   items-start {a} e =
       record {
         inside = omega arith;
-        small = rw e (fits .small);
+        small = rw e (empty-small (p .states));
         few = omega arith;
-        counts = λ t h called served. (e ∙ ap emptyReport (states-of h) ∙ empty-is t ∙ ap (report t) (sym (expand-none called)), rw (expand-none called) run-none, sym (steps-none t called));
+        counts = λ t h called served. (e ∙ ap emptyReport (states-of h) ∙ empty-is t (h .few) ∙ ap (report t) (sym (expand-none called)), rw (expand-none called) run-none, sym (steps-none t called));
       }
 
   module _ {a : Report} {n k : ℕ} (x : ItemsSoFar keys enter p work items a n k) where
+    -- their steps are few
+    pub items-room : (y : Span) {s : ℕ} → k < items .count → s ≡ pairsIn y → Fits w64 (n + s)
+    items-room y h f = omega (arith, x .few, fits .few, f, pairs-le y)
+
     -- the item that is next
     module _ (h : k < items .count) {i : Item} (e : i ≡ itemOf (getD (items .codes) k 0)) where
       next : take (k + 1) (decoded items) ≡ take k (decoded items) ++ (i ∷ [])
@@ -112,12 +123,12 @@ module _ {keys enter : List ℕ} {p : Accepting} {work : List ℕ} {items : Item
           front : List·Memᴰ i (take (k + 1) (decoded items))
           front = rw next (Memᴰ·append-right (take k (decoded items)) (List·Memᴰ·head refl))
 
-      pub items-on : {s : ℕ} {b : Report} → s ≡ pairsIn a → AfterItem keys enter p work a i b → ItemsSoFar keys enter p work items b (n + s) (k + 1)
-      items-on {s} {b} f g =
+      pub items-on : {s : ℕ} {x : Span} {b : Report} → x ≡ spanIn a → s ≡ pairsIn x → AfterItem keys enter p work a i b → ItemsSoFar keys enter p work items b (n + s) (k + 1)
+      items-on {s} {x = y} {b} j f g =
           record {
             inside = omega arith;
             small = g .small;
-            few = omega (arith, x .few, f, pairs-le a (x .small));
+            few = omega (arith, x .few, f, pairs-le y);
             counts = λ t d called served.
                 let before = x .counts t d called served in
                 let done = take k (decoded items) in
@@ -126,7 +137,7 @@ module _ {keys enter : List ℕ} {p : Accepting} {work : List ℕ} {items : Item
                 let whole : expand called (take (k + 1) (decoded items)) ≡ w ++ keysOf called i = ap (expand called) next ∙ expand-more called done i in (
                   g .extends t d called w (before .1) this (before .0) ∙ ap (report t) (sym whole),
                   rw whole (run-append w (keysOf called i) (before .1) (run-of-item t called work i this)),
-                  sym (ap (itemSteps t called) next ∙ steps-more t called done i ∙ ap (λ (m : ℕ). m + pairs t w) (sym (before .2)) ∙ ap (λ (m : ℕ). n + m) (sym (f ∙ ap pairsIn (before .0) ∙ pairs-of t (d .few) w))),
+                  sym (ap (itemSteps t called) next ∙ steps-more t called done i ∙ ap (λ (m : ℕ). m + pairs t w) (sym (before .2)) ∙ ap (λ (m : ℕ). n + m) (sym (f ∙ ap pairsIn j ∙ ap (λ (r : Report). pairsIn (spanIn r)) (before .0) ∙ report-pairs t (d .few) w))),
                 );
           }
 

@@ -13,8 +13,10 @@ use Rattle.book.specs.Reading.{Reading, readBook}
 use Rattle.pattern.specs.Moves.{states}
 use Rattle.pattern.specs.Reader as reader
 use Rattle.lines.specs.Lines.{matching}
-use Rattle.reports.specs.Reports.{most, report}
-use Rattle.reports.specs.Words.{pairs, reportWords}
+use Rattle.spans.specs.Pairs.{pairs}
+use Rattle.reports.specs.Totals.{most}
+use Rattle.reports.specs.Reports.{report}
+use Rattle.reports.specs.Words.{reportWords}
 use Rattle.runs.specs.Kept.{wordsOver}
 use Rattle.pattern.specs.Form.{Pattern}
 use Rattle.runs.specs.Counts.{sumBelow}

@@ -49,9 +49,9 @@ pub record ItemsFit (items : Items) (p : Accepting) : Type 0 where
 abbrev pub placeOf : Accepting → ℕ → ℕ
 placeOf p i = i * (p .states + 4)
 
--- the report of the run of some items, and their steps; each item has at most 32 × 64 pairs
+-- the report of the run of some items, and their steps; each item has at most 32 × 32 pairs
 pub record ItemsCounted (keys enter : List ℕ) (p : Accepting) (work : List ℕ) (items : List Item) (r : MacroCount) : Type 0 where
-  pub few : r .steps ≤ 131072
+  pub few : r .steps ≤ 65536
   pub counts : (t : Pattern) → Automaton t keys enter p → (called : ℕ → List ℕ) → AllServed t called work items → (r .report ≡ report t (expand called items)) × (r .steps ≡ itemSteps t called items)
 
 -- macro m of a sound book whose layout has these offsets, with room for the reports of macros 0 to m

@@ -9,7 +9,8 @@ use reports::empty_report;
 use reports::extended;
 use reports::join;
 use reports::load;
-use reports::pairs_in;
+use reports::span_of;
+use spans::pairs_in;
 ghost use Prim.Native.Nat.{_≤_};
 ghost use Rattle.book.specs.MacroItems.{decoded};
 ghost use Rattle.counter.specs.Promises.{AfterItem, ItemsCounted, ItemsFit};
@@ -60,7 +61,7 @@ pub(crate) fn items_report(
     let mut steps = 0;
     let mut k = 0;
     while k < count {
-        steps += pairs_in(report);
+        steps += pairs_in(span_of(report));
         let item = item_of(codes[k]);
         report = after_item(report, item, work, keys, enter, p);
         k += 1;

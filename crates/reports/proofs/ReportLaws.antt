@@ -16,14 +16,14 @@ use Rattle.pattern.proofs.Readings.{accepting-of}
 use Rattle.lines.specs.Lines.{matching}
 use Rattle.spans.specs.declared.span.Span.{Span}
 use Rattle.spans.specs.declared.span.JoinedSpan.{JoinedSpan}
-use Rattle.spans.specs.Spans.{stateCount, span, closedLines, closesBetween, joinedSpans, extendedSpan, endLines}
+use Rattle.spans.specs.Spans.{emptySpan, span, closedLines, closesBetween, joinedSpans, extendedSpan, endLines}
 use Rattle.spans.specs.Pairs.{pairs, pairsIn}
 use Rattle.spans.proofs.RowLaws.{count-few}
 use Rattle.spans.proofs.JoinLaw.{join-spans, closed-append}
 use Rattle.spans.proofs.KeyLaw.{span-size, extend-span, closed-more}
 use Rattle.spans.proofs.EndLaws.{matching-ends, ends-few}
 use Rattle.spans.proofs.PairLaws.{pairs-of}
-use Rattle.spans.proofs.SpanLaws.{empty-span, closed-empty, closed-none}
+use Rattle.spans.proofs.SpanLaws.{empty-span, closed-empty, closed-none, joined-few, extended-few}
 use Rattle.reports.specs.declared.report.Report.{Report}
 use Rattle.reports.specs.declared.total.Total.{Total}
 use Rattle.reports.specs.Totals.{most, totalOf, bothTotals, lineIf}
@@ -77,6 +77,26 @@ line-told false = refl
 -- so many closed lines and perhaps one more
 with-line : (x : Span) (b : Bool) (n m : ℕ) → m ≡ n + cond b 1 0 → reportWith (record { span = x; closes = b }) (totalOf n) ≡ reportOf x (totalOf m)
 with-line x b n m e = ap (reportOf x) (ap (bothTotals (totalOf n)) (line-told b) ∙ total-sum n (cond b 1 0) ∙ ap totalOf (sym e))
+
+-- what is made has at most 32 states
+made-small : (a : Span) (n : Total) → a .s ≤ 32 → reportOf a n .s ≤ 32
+unfolding reportOf
+made-small a n h = h
+
+pub empty-small : (s : ℕ) → emptyReport s .s ≤ 32
+empty-small s = made-small (emptySpan s) (Total.Lines 0) (count-few s)
+
+pub extended-small : (keys enter : List ℕ) (p : Accepting) (a : Report) (k : ℕ) → extendedReport keys enter p a k .s ≤ 32
+unfolding extendedReport
+extended-small keys enter p a k = made-small (extendedSpan keys enter p (spanIn a) k .span) _ (extended-few keys enter p (spanIn a) k)
+
+pub join-small : (a b : Report) → joinResult a b .report .s ≤ 32
+unfolding joinedReports
+join-small a b = go (alike a b)
+  where
+    go : (x : Bool) → joinedIf x (joinedReports a b) .report .s ≤ 32
+    go true = made-small (joinedSpans (spanIn a) (spanIn b) .span) _ (joined-few (spanIn a) (spanIn b))
+    go false = omega arith
 
 module _ (t : Pattern) (few : atomCount t ≤ 29) where
   -- Joining the reports of u and of v gives the report of u followed by v.

@@ -7,18 +7,20 @@ use mathlib.Core.List.{List, [], _∷_, _++_}
 use lib.Dec.{ltb, eqb}
 use lib.ListN.{length, getD, take, replicate}
 use borrow.Author.Tests.{le-ltb}
+use Rattle.runs.specs.Keys.{lineEnd}
 use Rattle.runs.proofs.KeptLaws.{zeros-at}
 use Rattle.runs.proofs.Tests.{torn}
 use Rattle.stateset.specs.Set.{word}
 use Rattle.stateset.proofs.Tabled.{tabled-length, tabled-at}
 use Rattle.pattern.specs.Form.{Pattern, atomCount}
 use Rattle.pattern.specs.Moves.{states, leads}
+use Rattle.pattern.specs.declared.automaton.Accepting.{Accepting}
 use Rattle.pattern.proofs.Leading.{leads-none}
 use Rattle.lines.specs.Parts.{laterParts}
 use Rattle.lines.proofs.PartLaws.{later-none}
 use Rattle.spans.specs.declared.span.Span.{Span}
-use Rattle.spans.specs.Spans.{stateCount, rowsOf, noRows, emptySpan, spanWith, span, closedWith, closedLines, joinedWith, joinedSpans}
-use Rattle.spans.proofs.RowLaws.{count-all}
+use Rattle.spans.specs.Spans.{stateCount, rowsOf, noRows, emptySpan, spanWith, span, closedWith, closedLines, joinedWith, joinedSpans, keyed, movedWith, movedSpan, endSpan, extendedSpan}
+use Rattle.spans.proofs.RowLaws.{count-all, count-few}
 use Rattle.spans.proofs.JoinLaw.{rows-same}
 
 -- the empty run
@@ -98,3 +100,26 @@ module _ (t : Pattern) (w : List ℕ) where
 pub joined-by : (a b : Span) → joinedSpans a b ≡ joinedWith (stateCount (a .s)) (a .ended) (b .ended) a b
 unfolding joinedSpans
 joined-by a b = refl
+
+-- What the operations make has at most 32 states.
+pub joined-few : (a b : Span) → joinedSpans a b .span .s ≤ 32
+unfolding joinedSpans
+joined-few a b = go (a .ended) (b .ended)
+  where
+    go : (x y : Bool) → joinedWith (stateCount (a .s)) x y a b .span .s ≤ 32
+    go true true = count-few (a .s)
+    go true false = count-few (a .s)
+    go false true = count-few (a .s)
+    go false false = count-few (a .s)
+
+pub extended-few : (keys enter : List ℕ) (p : Accepting) (a : Span) (k : ℕ) → extendedSpan keys enter p a k .span .s ≤ 32
+unfolding extendedSpan movedSpan
+extended-few keys enter p a k = go (eqb k lineEnd)
+  where
+    key : (x : Bool) → movedWith (stateCount (a .s)) (keyed keys enter p k (stateCount (a .s))) x a .s ≤ 32
+    key true = count-few (a .s)
+    key false = count-few (a .s)
+
+    go : (x : Bool) → cond x (joinedSpans a (endSpan (a .s) p)) (record { span = movedSpan keys enter p a k; closes = false }) .span .s ≤ 32
+    go true = joined-few a (endSpan (a .s) p)
+    go false = key (a .ended)

@@ -1,8 +1,7 @@
 -- `items::items_report`: the report is that of the items so far, and the steps are theirs.
 use Prim.Native.Nat.{_-_}
 use native.Mathlib.Omega.{arith}
-use Rattle.reports.proofs.ReportLaws.{pairs-le}
-use Rattle.counter.proofs.ItemLaws.{ItemsSoFar, items-start, items-on, items-done}
+use Rattle.counter.proofs.ItemLaws.{ItemsSoFar, items-start, items-room, items-on, items-done}
 use borrow.Author.Needs.{needs}
 use Rattle.counter.proofs.items.items_report.Statement.{statement}
 use Rattle.counter.proofs.items.items_report.Tie as tie
@@ -19,25 +18,26 @@ empty-report-requires c κs = search needs
 loop-holds : tie.Need-loop-holds Inv-loop μ-loop
 loop-holds c = search (items-start)
 
+span-of-requires : tie.Need-span-of-requires Inv-loop μ-loop
+span-of-requires c κs = search needs
+
 pairs-in-requires : tie.Need-pairs-in-requires Inv-loop μ-loop
 pairs-in-requires c κs = search needs
 
 add-steps : tie.Need-add-steps Inv-loop μ-loop
-add-steps c =
-    let l = c .before .before .loop in
-    omega (arith, c .before .before .before .before .before .before .pre .few, l .inv .few, c .pairs-in .ensures, pairs-le (l .report) (l .inv .small))
+add-steps c = search (items-room)
 
 mul-item-of : tie.Need-mul-item-of Inv-loop μ-loop
 mul-item-of c = search needs
 
 array-read-item-of : tie.Need-array-read-item-of Inv-loop μ-loop
-array-read-item-of c = omega (arith, c .before .before .before .before .before .before .pre .few)
+array-read-item-of c = omega (arith, c .before .before .before .before .before .before .before .pre .few)
 
 item-of-requires : tie.Need-item-of-requires Inv-loop μ-loop
 item-of-requires c κs = search needs
 
 after-item-requires : tie.Need-after-item-requires Inv-loop μ-loop
-after-item-requires c κs = c .before .before .before .loop .inv .small
+after-item-requires c κs = search needs
 
 add-k : tie.Need-add-k Inv-loop μ-loop
 add-k c = omega arith
@@ -52,20 +52,4 @@ returns : tie.Need-returns Inv-loop μ-loop
 returns c = search (items-done)
 
 pub items-report-spec : {M : Type 1} → statement M
-items-report-spec =
-    tie.close
-    (tie.spec
-    Inv-loop
-    μ-loop
-    empty-report-requires
-    loop-holds
-    pairs-in-requires
-    add-steps
-    mul-item-of
-    array-read-item-of
-    item-of-requires
-    after-item-requires
-    add-k
-    loop-less
-    loop-again
-    returns)
+items-report-spec = tie.close (tie.spec Inv-loop μ-loop empty-report-requires loop-holds span-of-requires pairs-in-requires add-steps mul-item-of array-read-item-of item-of-requires after-item-requires add-k loop-less loop-again returns)
