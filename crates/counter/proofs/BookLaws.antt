@@ -27,9 +27,10 @@ use Rattle.pattern.proofs.Readings.{states-of}
 use Rattle.reports.specs.declared.report.Report.{Report}
 use Rattle.reports.specs.declared.total.Total.{Total}
 use Rattle.reports.specs.Totals.{most, totalOf}
-use Rattle.reports.specs.Reports.{report, totalIn}
+use Rattle.reports.specs.declared.span_count.SpanCount.{SpanCount}
+use Rattle.reports.specs.Reports.{report, inReport, totalIn}
 use Rattle.reports.specs.Words.{loadedAt}
-use Rattle.reports.proofs.ReportLaws.{total-run}
+use Rattle.reports.proofs.ReportLaws.{in-report, total-run}
 use Rattle.counter.specs.declared.counting.BookCount.{BookCount}
 use Rattle.counter.specs.declared.front.Space.{Space}
 use Rattle.counter.specs.Front.{refused, settled, spaceStep, front}
@@ -51,14 +52,14 @@ shown-over false N S A B e g = rw g refl
 -- Macro m.
 module _ {book offsets : List ℕ} {m : ℕ} {p : Accepting} {before : List ℕ} (g : MacroFits book offsets m p before) where
   module _ {keys enter after : List ℕ} {n : ℕ} (f : Filled keys enter p (macrosIn book) m before after n) where
-    module _ {r : Report} {x : Total} (l : r ≡ loadedAt after (placeOf p m) (p .states)) (z : x ≡ totalIn p r) where
+    module _ {r : Report} {a : SpanCount} {x : Total} (l : r ≡ loadedAt after (placeOf p m) (p .states)) (i : a ≡ inReport r) (z : x ≡ totalIn p a) where
       -- the count is that of the run
       counted : (t : Pattern) → Automaton t keys enter p → x ≡ totalOf (matchingLines t (macrosIn book) m)
       counted t d =
           let ms = macrosIn book in
           let well = well-in book (g .inside) in
           let there : r ≡ report t (expansion ms m) = l ∙ rw (states-of d) (reports-at t (d .few) ms (suc m) m (omega arith) after (drop (needed t m) before) (f .counts t d .0)) in
-          z ∙ ap (totalIn p) there ∙ total-run d (expansion ms m) (expansion-run ms well m)
+          z ∙ ap (totalIn p) (i ∙ ap inReport there ∙ in-report t (expansion ms m)) ∙ total-run d (expansion ms m) (expansion-run ms well m)
 
       pub macro-lines : {k : ℕ} → x ≡ Total.Lines k → BookCounted keys enter p (macrosIn book) m before after (BookCount.Lines k n)
       unfolding BookCounted

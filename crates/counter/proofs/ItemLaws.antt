@@ -26,12 +26,11 @@ use Rattle.pattern.specs.Moves.{states}
 use Rattle.pattern.specs.Automata.{Automaton}
 use Rattle.pattern.specs.declared.automaton.Accepting.{Accepting}
 use Rattle.pattern.proofs.Readings.{states-of}
-use Rattle.reports.specs.declared.report.Joined.{Joined}
 use Rattle.reports.specs.declared.report.Report.{Report}
-use Rattle.reports.specs.Reports.{emptyReport, report, spanIn, extendedReport}
-use Rattle.reports.specs.Answers.{joinResult}
+use Rattle.reports.specs.declared.span_count.SpanCount.{SpanCount}
+use Rattle.reports.specs.Reports.{spanCount, emptyCount, extendedCount, joinedCounts, inReport, reportOf, report}
 use Rattle.reports.specs.Words.{loadedAt}
-use Rattle.reports.proofs.ReportLaws.{empty-is, empty-small, report-size, extended-small, join-small, extend-report, join-runs, report-pairs}
+use Rattle.reports.proofs.ReportLaws.{empty-count, empty-small, count-size, count-pairs, extended-small, joined-small, extend-count, join-counts, in-report, report-is}
 use Rattle.spans.specs.declared.span.Span.{Span}
 use Rattle.spans.specs.Pairs.{pairs, pairsIn}
 use Rattle.spans.proofs.PairLaws.{pairs-le}
@@ -57,24 +56,25 @@ steps-more t called is i =
     both e f = rw (e, f)
 
 -- One item more.
-module _ {keys enter : List ℕ} {p : Accepting} {work : List ℕ} {a : Report} {item : Item} (small : a .s ≤ 32) where
-  pub item-key : {k : ℕ} {b : Report} → item ≡ Key k → b ≡ extendedReport keys enter p a k → AfterItem keys enter p work a item b
+module _ {keys enter : List ℕ} {p : Accepting} {work : List ℕ} {a : SpanCount} {item : Item} where
+  pub item-key : {k : ℕ} {b : SpanCount} → item ≡ Key k → b ≡ extendedCount keys enter p a k → AfterItem keys enter p work a item b
   item-key {k} i g =
       rw (i, g)
       (record {
         small = extended-small keys enter p a k;
-        extends = λ t h called w run served e. rw e (extend-report h w k run served);
+        extends = λ t h called w run served e. rw e (extend-count h w k run served);
       })
 
-  pub item-call : {j : ℕ} {d : Report} {b : Joined} → item ≡ Call j → d ≡ loadedAt work (j * (a .s + 4)) (a .s) → b ≡ joinResult a d → AfterItem keys enter p work a item (b .report)
-  item-call {j} {d} {b} i f g =
-      rw i
+  pub item-call : {j : ℕ} {r : Report} {d b : SpanCount} → item ≡ Call j → r ≡ loadedAt work (j * (a .span .s + 4)) (a .span .s) → d ≡ inReport r → b ≡ joinedCounts a d → AfterItem keys enter p work a item b
+  item-call {j} {r} {d} i f g l =
+      rw (i, l)
       (record {
-        small = rw g (join-small a d);
+        small = joined-small a d;
         extends = λ t h called w run served e.
-            let same : a .s ≡ states t = ap (λ (x : Report). x .s) e ∙ report-size t w in
-            let there : d ≡ report t (called j) = f ∙ rw same (served .0) in
-            ap (λ (x : Joined). x .report) g ∙ rw (e, there) (join-runs t (h .few) w (called j) run (served .1));
+            let same : a .span .s ≡ states t = ap (λ (x : SpanCount). x .span .s) e ∙ count-size t w in
+            let loaded : r ≡ report t (called j) = f ∙ rw same (served .0) in
+            let there : d ≡ spanCount t (called j) = g ∙ ap inReport loaded ∙ in-report t (called j) in
+            rw (e, there) (join-counts t (h .few) w (called j) run (served .1));
       })
 
 -- the place of a called macro's words fits
@@ -86,28 +86,28 @@ run-of-item : (t : Pattern) (called : ℕ → List ℕ) (work : List ℕ) (i : I
 run-of-item t called work (Key k) h = run-cons k [] h run-none
 run-of-item t called work (Call j) h = h .1
 
--- a and n are the report and the steps of some items, whose keys are a run
-abbrev pub ReportAndSteps : Pattern → (ℕ → List ℕ) → List Item → Report → ℕ → Type 0
-ReportAndSteps t called items a n = (a ≡ report t (expand called items)) × (isRun (expand called items) ≡ true) × (n ≡ itemSteps t called items)
+-- a and n are what is kept of some items, whose keys are a run, and their steps
+abbrev pub KeptAndSteps : Pattern → (ℕ → List ℕ) → List Item → SpanCount → ℕ → Type 0
+KeptAndSteps t called items a n = (a ≡ spanCount t (expand called items)) × (isRun (expand called items) ≡ true) × (n ≡ itemSteps t called items)
 
 -- All items: after k of them.
-pub record ItemsSoFar (keys enter : List ℕ) (p : Accepting) (work : List ℕ) (items : Items) (a : Report) (n k : ℕ) : Type 0 where
+pub record ItemsSoFar (keys enter : List ℕ) (p : Accepting) (work : List ℕ) (items : Items) (a : SpanCount) (n k : ℕ) : Type 0 where
   pub inside : k ≤ items .count
-  pub small : a .s ≤ 32
+  pub small : a .span .s ≤ 32
   pub few : n ≤ k * 1024
-  pub counts : (t : Pattern) → Automaton t keys enter p → (called : ℕ → List ℕ) → AllServed t called work (decoded items) → ReportAndSteps t called (take k (decoded items)) a n
+  pub counts : (t : Pattern) → Automaton t keys enter p → (called : ℕ → List ℕ) → AllServed t called work (decoded items) → KeptAndSteps t called (take k (decoded items)) a n
 
 module _ {keys enter : List ℕ} {p : Accepting} {work : List ℕ} {items : Items} (fits : ItemsFit items p) where
-  pub items-start : {a : Report} → a ≡ emptyReport (p .states) → ItemsSoFar keys enter p work items a 0 0
+  pub items-start : {a : SpanCount} → a ≡ emptyCount (p .states) → ItemsSoFar keys enter p work items a 0 0
   items-start {a} e =
       record {
         inside = omega arith;
         small = rw e (empty-small (p .states));
         few = omega arith;
-        counts = λ t h called served. (e ∙ ap emptyReport (states-of h) ∙ empty-is t (h .few) ∙ ap (report t) (sym (expand-none called)), rw (expand-none called) run-none, sym (steps-none t called));
+        counts = λ t h called served. (e ∙ ap emptyCount (states-of h) ∙ empty-count t (h .few) ∙ ap (spanCount t) (sym (expand-none called)), rw (expand-none called) run-none, sym (steps-none t called));
       }
 
-  module _ {a : Report} {n k : ℕ} (x : ItemsSoFar keys enter p work items a n k) where
+  module _ {a : SpanCount} {n k : ℕ} (x : ItemsSoFar keys enter p work items a n k) where
     -- their steps are few
     pub items-room : (y : Span) {s : ℕ} → k < items .count → s ≡ pairsIn y → Fits w64 (n + s)
     items-room y h f = omega (arith, x .few, fits .few, f, pairs-le y)
@@ -123,31 +123,31 @@ module _ {keys enter : List ℕ} {p : Accepting} {work : List ℕ} {items : Item
           front : List·Memᴰ i (take (k + 1) (decoded items))
           front = rw next (Memᴰ·append-right (take k (decoded items)) (List·Memᴰ·head refl))
 
-      pub items-on : {s : ℕ} {x : Span} {b : Report} → x ≡ spanIn a → s ≡ pairsIn x → AfterItem keys enter p work a i b → ItemsSoFar keys enter p work items b (n + s) (k + 1)
-      items-on {s} {x = y} {b} j f g =
+      pub items-on : {s : ℕ} {b : SpanCount} → s ≡ pairsIn (a .span) → AfterItem keys enter p work a i b → ItemsSoFar keys enter p work items b (n + s) (k + 1)
+      items-on {s} {b} f g =
           record {
             inside = omega arith;
             small = g .small;
-            few = omega (arith, x .few, f, pairs-le y);
+            few = omega (arith, x .few, f, pairs-le (a .span));
             counts = λ t d called served.
                 let before = x .counts t d called served in
                 let done = take k (decoded items) in
                 let w = expand called done in
                 let this = served i among in
                 let whole : expand called (take (k + 1) (decoded items)) ≡ w ++ keysOf called i = ap (expand called) next ∙ expand-more called done i in (
-                  g .extends t d called w (before .1) this (before .0) ∙ ap (report t) (sym whole),
+                  g .extends t d called w (before .1) this (before .0) ∙ ap (spanCount t) (sym whole),
                   rw whole (run-append w (keysOf called i) (before .1) (run-of-item t called work i this)),
-                  sym (ap (itemSteps t called) next ∙ steps-more t called done i ∙ ap (λ (m : ℕ). m + pairs t w) (sym (before .2)) ∙ ap (λ (m : ℕ). n + m) (sym (f ∙ ap pairsIn j ∙ ap (λ (r : Report). pairsIn (spanIn r)) (before .0) ∙ report-pairs t (d .few) w))),
+                  sym (ap (itemSteps t called) next ∙ steps-more t called done i ∙ ap (λ (m : ℕ). m + pairs t w) (sym (before .2)) ∙ ap (λ (m : ℕ). n + m) (sym (f ∙ ap (λ (r : SpanCount). pairsIn (r .span)) (before .0) ∙ count-pairs t (d .few) w))),
                 );
           }
 
     -- all items are counted
-    pub items-done : items .count ≤ k → ItemsCounted keys enter p work (decoded items) (record { report = a; steps = n })
-    items-done h =
+    pub items-done : {b : Report} → items .count ≤ k → b ≡ reportOf a → ItemsCounted keys enter p work (decoded items) (record { report = b; steps = n })
+    items-done h g =
         let all : take k (decoded items) ≡ decoded items = take-all k (decoded items) (omega (arith, decoded-length items (fits .there))) in
         record {
           few = omega (arith, x .few, x .inside, fits .few);
           counts = λ t d called served.
               let r = x .counts t d called served in
-              (r .0 ∙ ap (λ (l : List Item). report t (expand called l)) all, r .2 ∙ ap (itemSteps t called) all);
+              (g ∙ ap reportOf (r .0) ∙ report-is t (expand called (take k (decoded items))) ∙ ap (λ (l : List Item). report t (expand called l)) all, r .2 ∙ ap (itemSteps t called) all);
         }

@@ -16,8 +16,8 @@ use Rattle.pattern.specs.Form.{Pattern}
 use Rattle.pattern.specs.Moves.{states}
 use Rattle.pattern.specs.Automata.{Automaton}
 use Rattle.pattern.specs.declared.automaton.Accepting.{Accepting}
-use Rattle.reports.specs.declared.report.Report.{Report}
-use Rattle.reports.specs.Reports.{report}
+use Rattle.reports.specs.declared.span_count.SpanCount.{SpanCount}
+use Rattle.reports.specs.Reports.{spanCount, report}
 use Rattle.reports.specs.Words.{loadedAt}
 use Rattle.counter.specs.declared.counting.BookCount.{BookCount}
 use Rattle.counter.specs.declared.items.MacroCount.{MacroCount}
@@ -34,10 +34,10 @@ Served t called work (Call j) = (loadedAt work (j * (states t + 4)) (states t) �
 abbrev pub AllServed : Pattern → (ℕ → List ℕ) → List ℕ → List Item → Type 0
 AllServed t called work items = (item : Item) → List·Memᴰ item items → Served t called work item
 
--- the report of a run with the run of one item more
-pub record AfterItem (keys enter : List ℕ) (p : Accepting) (work : List ℕ) (a : Report) (item : Item) (b : Report) : Type 0 where
-  pub small : b .s ≤ 32
-  pub extends : (t : Pattern) → Automaton t keys enter p → (called : ℕ → List ℕ) (w : List ℕ) → isRun w ≡ true → Served t called work item → a ≡ report t w → b ≡ report t (w ++ keysOf called item)
+-- what is kept of a run with the run of one item more
+pub record AfterItem (keys enter : List ℕ) (p : Accepting) (work : List ℕ) (a : SpanCount) (item : Item) (b : SpanCount) : Type 0 where
+  pub small : b .span .s ≤ 32
+  pub extends : (t : Pattern) → Automaton t keys enter p → (called : ℕ → List ℕ) (w : List ℕ) → isRun w ≡ true → Served t called work item → a ≡ spanCount t w → b ≡ spanCount t (w ++ keysOf called item)
 
 -- items and states within the limits of the code
 pub record ItemsFit (items : Items) (p : Accepting) : Type 0 where

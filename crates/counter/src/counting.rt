@@ -11,6 +11,7 @@ use pattern::read_pattern;
 use refusal::Refusal;
 use reports::BEHIND_ROWS;
 use reports::Total;
+use reports::in_report;
 use reports::load;
 use reports::store;
 use reports::total_of;
@@ -86,7 +87,7 @@ fn counted_macro(
     let steps = fill(book, offsets, task, work, keys, enter);
     let at = m * (p.states + BEHIND_ROWS);
     let report = load(work, at, p.states as u64);
-    match total_of(report, p) {
+    match total_of(in_report(report), p) {
         Total::Lines(lines) => BookCount::Lines(lines, steps),
         Total::TooMany => BookCount::Refused(Refusal::CountOverflow),
     }

@@ -5,11 +5,13 @@ use book::item_of;
 use pattern::Accepting;
 use reports::BEHIND_ROWS;
 use reports::Report;
-use reports::empty_report;
+use reports::SpanCount;
+use reports::empty_count;
 use reports::extended;
-use reports::join;
+use reports::in_report;
+use reports::joined;
 use reports::load;
-use reports::span_of;
+use reports::report_of;
 use spans::pairs_in;
 ghost use Prim.Native.Nat.{_≤_};
 ghost use Rattle.book.specs.MacroItems.{decoded};
@@ -21,25 +23,25 @@ pub(crate) struct MacroCount {
     pub(crate) steps: u64,
 }
 
-// One item more; a called macro's report stands in the work words.
+// A run with one item more; a called macro's report stands in the work words.
 fn after_item(
-    a: Report,
+    a: SpanCount,
     item: Item,
     work: &[u64],
     keys: &[u64; 256],
     enter: &[u64; 32],
     p: Accepting,
-) -> Report
-    requires { ⌜ a .s ≤ 32 ⌝ }
+) -> SpanCount
+    requires { ⌜ a .span .s ≤ 32 ⌝ }
     ensures { λ r. ⌜ AfterItem (now (keys .entry)) (now (enter .entry)) p (now (work .entry)) a item r ⌝ }
 {
     match item {
         Item::Key(k) => extended(a, k, keys, enter, p),
         Item::Call(j) => {
-            let at = j as usize * (a.s as usize + BEHIND_ROWS);
-            let called = load(work, at, a.s);
-            let joined = join(a, called);
-            joined.report
+            let s = a.span.s;
+            let at = j as usize * (s as usize + BEHIND_ROWS);
+            let called = in_report(load(work, at, s));
+            joined(a, called)
         }
     }
 }
@@ -57,14 +59,15 @@ pub(crate) fn items_report(
 {
     let codes = items.codes;
     let count = items.count;
-    let mut report = empty_report(p.states as u64);
+    let mut kept = empty_count(p.states as u64);
     let mut steps = 0;
     let mut k = 0;
     while k < count {
-        steps += pairs_in(span_of(report));
+        steps += pairs_in(kept.span);
         let item = item_of(codes[k]);
-        report = after_item(report, item, work, keys, enter, p);
+        kept = after_item(kept, item, work, keys, enter, p);
         k += 1;
     }
+    let report = report_of(kept);
     MacroCount { report, steps }
 }

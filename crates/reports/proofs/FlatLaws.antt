@@ -16,13 +16,15 @@ use Rattle.lines.specs.Lines.{countIn}
 use Rattle.lines.specs.Parts.{firstPart, laterParts, partsBefore, lastPart}
 use Rattle.spans.specs.declared.span.Span.{Span}
 use Rattle.spans.specs.declared.span.JoinedSpan.{JoinedSpan}
-use Rattle.spans.specs.Spans.{stateCount, rowsOf, noRows, openSpan, endedSpan, onward, spanWith, span, closedWith, closedLines, joinedWith}
+use Rattle.spans.specs.Spans.{rowsOf, noRows, openSpan, endedSpan, spanWith, span, closedWith, closedLines}
+use Rattle.spans.specs.Joining.{stateCount, onward, joinedWith}
 use Rattle.spans.proofs.RowLaws.{count-all}
 use Rattle.spans.proofs.SpanLaws.{span-by, closed-by, joined-by}
 use Rattle.reports.specs.declared.report.Report.{Report}
+use Rattle.reports.specs.declared.span_count.SpanCount.{SpanCount}
 use Rattle.reports.specs.declared.total.Total.{Total}
 use Rattle.reports.specs.Totals.{most, totalOf, bothTotals, lineIf}
-use Rattle.reports.specs.Reports.{flagOf, shownOf, reportOf, report, spanIn, closedIn, reportWith, joinedReports}
+use Rattle.reports.specs.Reports.{flagOf, shownOf, spanCount, reportOf, report, withLine, joinedCounts, closedIn, inReport, joinedReports}
 use Rattle.reports.proofs.TotalLaws.{few-lines, many-lines, total-sum}
 
 -- flag 0, "without LF": "heads, closed, tail are 0"
@@ -34,12 +36,12 @@ abbrev pub withEnd : ℕ → (ℕ → Bool) → ℕ → (ℕ → Bool) → Repor
 withEnd s H n T = record { s = s; rows = noRows; flag = cond (leb n most) 1 2; heads = word s H; closed = cond (leb n most) n 0; tail = word s T }
 
 -- a span without a line end
-open-flat : (s : ℕ) (X : ℕ → ℕ → Bool) (n : Total) → reportOf (openSpan s X) n ≡ withoutEnd s X
+open-flat : (s : ℕ) (X : ℕ → ℕ → Bool) (n : Total) → reportOf (record { span = openSpan s X; closed = n }) ≡ withoutEnd s X
 unfolding reportOf
 open-flat s X n = refl
 
 -- one with a line end, and n closed lines
-ended-flat : (s : ℕ) (H T : ℕ → Bool) (n : ℕ) → reportOf (endedSpan s H T) (totalOf n) ≡ withEnd s H n T
+ended-flat : (s : ℕ) (H T : ℕ → Bool) (n : ℕ) → reportOf (record { span = endedSpan s H T; closed = totalOf n }) ≡ withEnd s H n T
 unfolding reportOf
 ended-flat s H T n = go (leb n most)
   where
@@ -56,10 +58,10 @@ runFields t w [] = withoutEnd (states t) (λ q p. leads t q w p)
 runFields t w (l ∷ ls) = withEnd (states t) (λ q. acceptedFrom t q (firstPart w)) (countIn (matches t) (partsBefore l ls)) (leads t 0 (lastPart l ls))
 
 pub report-fields : (t : Pattern) (w : List ℕ) → report t w ≡ runFields t w (laterParts w)
-unfolding report
+unfolding report spanCount
 report-fields t w = rw (span-by t w, closed-by t w) (go (laterParts w))
   where
-    go : (ls : List (List ℕ)) → reportOf (spanWith t w ls) (totalOf (closedWith t ls)) ≡ runFields t w ls
+    go : (ls : List (List ℕ)) → reportOf (record { span = spanWith t w ls; closed = totalOf (closedWith t ls) }) ≡ runFields t w ls
     go [] = open-flat (states t) (λ q p. leads t q w p) (totalOf 0)
     go (l ∷ ls) = ended-flat (states t) (λ q. acceptedFrom t q (firstPart w)) (leads t 0 (lastPart l ls)) (countIn (matches t) (partsBefore l ls))
 
@@ -78,7 +80,6 @@ joinedFields s false false a b =
 -- the number of closed lines in a report whose flag is 0, or is not
 module _ (a : Report) (small : a .closed ≤ most) where
   number : (x : Bool) → eqb (a .flag) 0 ≡ x → closedIn a ≡ totalOf (cond x 0 (closedNumber a))
-  unfolding closedIn
   number true e = rw e refl
   number false e = rw e (go (leb 2 (a .flag)))
     where
@@ -92,17 +93,23 @@ line-number true = refl
 line-number false = refl
 
 pub joined-fields : (a b : Report) → a .s ≤ 32 → a .closed ≤ most → b .closed ≤ most → joinedReports a b ≡ joinedFields (a .s) (eqb (a .flag) 0) (eqb (b .flag) 0) a b
-unfolding joinedReports reportOf
+unfolding joinedReports joinedCounts inReport reportOf
 joined-fields a b small f g = go (eqb (a .flag) 0) (eqb (b .flag) 0) refl refl
   where
     s : ℕ
     s = a .s
 
+    left : Span
+    left = inReport a .span
+
+    right : Span
+    right = inReport b .span
+
     -- from the numbers of both
-    sums : (j : JoinedSpan) (m n : ℕ) → closedIn a ≡ totalOf m → closedIn b ≡ totalOf n → reportWith j (bothTotals (closedIn a) (closedIn b)) ≡ reportOf (j .span) (totalOf (m + n + cond (j .closes) 1 0))
+    sums : (j : JoinedSpan) (m n : ℕ) → closedIn a ≡ totalOf m → closedIn b ≡ totalOf n → withLine j (bothTotals (closedIn a) (closedIn b)) ≡ record { span = j .span; closed = totalOf (m + n + cond (j .closes) 1 0) }
     sums j m n e h =
         let both : bothTotals (closedIn a) (closedIn b) ≡ totalOf (m + n) = rw (e, h) (total-sum m n) in
-        ap (reportOf (j .span))
+        ap (λ (c : Total). record { span = j .span; closed = c })
         (ap (λ (x : Total). bothTotals x (lineIf (j .closes))) both
         ∙ ap (bothTotals (totalOf (m + n))) (line-number (j .closes))
         ∙ total-sum (m + n) (cond (j .closes) 1 0))
@@ -112,15 +119,19 @@ joined-fields a b small f g = go (eqb (a .flag) 0) (eqb (b .flag) 0) refl refl
         let m : ℕ = cond x 0 (closedNumber a) in
         let n : ℕ = cond y 0 (closedNumber b) in
         let same =
-        joined-by (spanIn a) (spanIn b)
-        ∙ ap (λ (k : ℕ). joinedWith k (not (eqb (a .flag) 0)) (not (eqb (b .flag) 0)) (spanIn a) (spanIn b)) (count-all s small)
-        ∙ ap (λ (z : Bool). joinedWith s (not z) (not (eqb (b .flag) 0)) (spanIn a) (spanIn b)) d
-        ∙ ap (λ (z : Bool). joinedWith s (not x) (not z) (spanIn a) (spanIn b)) e in
-        ap (λ (j : JoinedSpan). reportWith j (bothTotals (closedIn a) (closedIn b))) same
-        ∙ sums (joinedWith s (not x) (not y) (spanIn a) (spanIn b)) m n (number a f x d) (number b g y e)
+        joined-by left right
+        ∙ ap (λ (k : ℕ). joinedWith k (not (eqb (a .flag) 0)) (not (eqb (b .flag) 0)) left right) (count-all s small)
+        ∙ ap (λ (z : Bool). joinedWith s (not z) (not (eqb (b .flag) 0)) left right) d
+        ∙ ap (λ (z : Bool). joinedWith s (not x) (not z) left right) e in
+        ap (λ (j : JoinedSpan). reportOf (withLine j (bothTotals (closedIn a) (closedIn b)))) same
+        ∙ ap reportOf (sums (joinedWith s (not x) (not y) left right) m n (number a f x d) (number b g y e))
         ∙ by x y
       where
-        by : (x y : Bool) → reportOf (joinedWith s (not x) (not y) (spanIn a) (spanIn b) .span) (totalOf (cond x 0 (closedNumber a) + cond y 0 (closedNumber b) + cond (joinedWith s (not x) (not y) (spanIn a) (spanIn b) .closes) 1 0)) ≡ joinedFields s x y a b
+        -- a span and n closed lines
+        kept : JoinedSpan → ℕ → SpanCount
+        kept j n = record { span = j .span; closed = totalOf (n + cond (j .closes) 1 0) }
+
+        by : (x y : Bool) → reportOf (kept (joinedWith s (not x) (not y) left right) (cond x 0 (closedNumber a) + cond y 0 (closedNumber b))) ≡ joinedFields s x y a b
         by true true = refl
         by true false =
             let k = closedNumber b in

@@ -1,6 +1,6 @@
--- What the functions over reports make of their parts.
+-- What the functions make of their parts.
 use Prim.Native.Nat.{ℕ, _<_, _≤_}
-use mathlib.Core.Path.{_≡_, refl, sym, ap, _∙_}
+use mathlib.Core.Path.{_≡_, refl}
 use mathlib.Core.Bool.{Bool, true, false, not, cond}
 use mathlib.Core.List.{List}
 use lib.Dec.{eqb, leb}
@@ -8,65 +8,68 @@ use borrow.Author.Tests.{eq-eqb, ne-eqb, le-leb, lt-leb, not-true, not-false}
 use Rattle.pattern.specs.declared.automaton.Accepting.{Accepting}
 use Rattle.spans.specs.declared.span.Span.{Span}
 use Rattle.spans.specs.declared.span.JoinedSpan.{JoinedSpan}
-use Rattle.spans.specs.Spans.{emptySpan, joinedSpans, extendedSpan, endLines}
+use Rattle.spans.specs.Joining.{joinedSpans, extendedSpan, endLines}
 use Rattle.reports.specs.declared.report.Report.{Report}
+use Rattle.reports.specs.declared.span_count.SpanCount.{SpanCount}
 use Rattle.reports.specs.declared.total.Total.{Total}
 use Rattle.reports.specs.Totals.{bothTotals}
-use Rattle.reports.specs.Reports.{reportOf, spanIn, closedIn, joinedReports, extendedReport, totalIn, alike, noReport}
+use Rattle.reports.specs.Reports.{flat, reportOf, withLine, extendedCount, joinedCounts, totalIn, closedIn, inReport, joinedReports, alike, noReport}
 use Rattle.reports.specs.Answers.{joinResult}
 
--- the closed lines in a report
+-- a line more, or none
+pub line-made : (j : JoinedSpan) (n : Total) {l : ℕ} {c : Total} → l ≡ cond (j .closes) 1 0 → c ≡ bothTotals n (Total.Lines l) → record { span = j .span; closed = c } ≡ withLine j n
+line-made j n l c = rw (c, l) refl
+
+pub extended-made : (keys enter : List ℕ) (p : Accepting) (a : SpanCount) (k : ℕ) {j : JoinedSpan} {r : SpanCount} → j ≡ extendedSpan keys enter p (a .span) k → r ≡ withLine j (a .closed) → r ≡ extendedCount keys enter p a k
+unfolding extendedCount
+extended-made keys enter p a k j r = rw (r, j) refl
+
+pub joined-made : (a b : SpanCount) {j : JoinedSpan} {n : Total} {r : SpanCount} → n ≡ bothTotals (a .closed) (b .closed) → j ≡ joinedSpans (a .span) (b .span) → r ≡ withLine j n → r ≡ joinedCounts a b
+unfolding joinedCounts
+joined-made a b n j r = rw (r, n, j) refl
+
+pub total-made : (p : Accepting) (a : SpanCount) {n : ℕ} {r : Total} → n ≡ endLines p (a .span) → r ≡ bothTotals (a .closed) (Total.Lines n) → r ≡ totalIn p a
+unfolding totalIn
+total-made p a n r = rw (r, n) refl
+
 module _ (a : Report) where
+  -- the closed lines in a report
   pub closed-empty : a .flag ≡ 0 → Total.Lines 0 ≡ closedIn a
-  unfolding closedIn
   closed-empty e = rw (eq-eqb (a .flag) 0 e) refl
 
   pub closed-over : (a .flag ≡ 0 → ⊥) → 2 ≤ a .flag → Total.TooMany ≡ closedIn a
-  unfolding closedIn
   closed-over e h = rw (ne-eqb (a .flag) 0 e, le-leb 2 (a .flag) h) refl
 
   pub closed-lines : (a .flag ≡ 0 → ⊥) → a .flag < 2 → Total.Lines (a .closed) ≡ closedIn a
-  unfolding closedIn
   closed-lines e h = rw (ne-eqb (a .flag) 0 e, lt-leb 2 (a .flag) h) refl
 
--- a span and a number of closed lines, flat
-abbrev pub flat : Span → ℕ → ℕ → Report
-flat a flag closed = record { s = a .s; rows = a .rows; flag = flag; heads = a .heads; closed = closed; tail = a .tail }
+  -- with the span
+  abbrev pub spanWhere : Bool → Span
+  spanWhere b = record { s = a .s; rows = a .rows; ended = b; heads = a .heads; tail = a .tail }
 
-module _ (a : Span) (n : Total) where
-  pub flat-open : a .ended ≡ false → flat a 0 0 ≡ reportOf a n
+  pub in-made : {c : Total} → c ≡ closedIn a → record { span = spanWhere (not (eqb (a .flag) 0)); closed = c } ≡ inReport a
+  unfolding inReport
+  in-made c = rw c refl
+
+-- flat
+module _ (a : SpanCount) where
+  pub flat-open : a .span .ended ≡ false → flat 0 0 a ≡ reportOf a
   unfolding reportOf
   flat-open e = rw e refl
 
-  pub flat-lines : {k : ℕ} → a .ended ≡ true → n ≡ Total.Lines k → flat a 1 k ≡ reportOf a n
+  pub flat-lines : {k : ℕ} → a .span .ended ≡ true → a .closed ≡ Total.Lines k → flat 1 k a ≡ reportOf a
   unfolding reportOf
   flat-lines e f = rw (e, f) refl
 
-  pub flat-over : a .ended ≡ true → n ≡ Total.TooMany → flat a 2 0 ≡ reportOf a n
+  pub flat-over : a .span .ended ≡ true → a .closed ≡ Total.TooMany → flat 2 0 a ≡ reportOf a
   unfolding reportOf
   flat-over e f = rw (e, f) refl
 
--- one key more
-pub extended-made : (keys enter : List ℕ) (p : Accepting) (a : Report) (k : ℕ) {x : Span} {j : JoinedSpan} {c d : Total} {l : ℕ} {r : Report} → x ≡ spanIn a → j ≡ extendedSpan keys enter p x k → l ≡ cond (j .closes) 1 0
-    → c ≡ closedIn a → d ≡ bothTotals c (Total.Lines l) → r ≡ reportOf (j .span) d → r ≡ extendedReport keys enter p a k
-unfolding extendedReport
-extended-made keys enter p a k x j l c d r = rw (r, d, c, l, j, x) refl
-
--- joined
-pub joined-made : (a b : Report) {x y : Span} {j : JoinedSpan} {c d e f : Total} {l : ℕ} {r : Report} → x ≡ spanIn a → y ≡ spanIn b → j ≡ joinedSpans x y → l ≡ cond (j .closes) 1 0
-    → c ≡ closedIn a → d ≡ closedIn b → e ≡ bothTotals c d → f ≡ bothTotals e (Total.Lines l) → r ≡ reportOf (j .span) f → r ≡ joinedReports a b
-unfolding joinedReports
-joined-made a b x y j l c d e f r = rw (r, f, e, d, c, l, j, y, x) refl
-
--- the count
-pub total-made : (p : Accepting) (a : Report) {x : Span} {n : ℕ} {c r : Total} → x ≡ spanIn a → n ≡ endLines p x → c ≡ closedIn a → r ≡ bothTotals c (Total.Lines n) → r ≡ totalIn p a
-unfolding totalIn
-total-made p a x n c r = rw (r, c, n, x) refl
-
 module _ (a b : Report) where
   -- reports of one size are joined
-  pub join-made : {t : Bool} {r : Report} → t ≡ alike a b → not t ≡ false → r ≡ joinedReports a b → record { refused = 0; report = r } ≡ joinResult a b
-  join-made {t = u} t e r = rw (← t, not-false u e, r) refl
+  pub join-made : {t : Bool} {x y z : SpanCount} {r : Report} → t ≡ alike a b → not t ≡ false → x ≡ inReport a → y ≡ inReport b → z ≡ joinedCounts x y → r ≡ reportOf z → record { refused = 0; report = r } ≡ joinResult a b
+  unfolding joinedReports
+  join-made {t = u} t e x y z r = rw (← t, not-false u e, r, z, x, y) refl
 
   -- reports of sizes that differ, or of no pattern's size, are refused
   pub join-refused : {t : Bool} {n : ℕ} {z : Report} → t ≡ alike a b → not t ≡ true → z ≡ noReport → n ≡ 13 → record { refused = n; report = z } ≡ joinResult a b

@@ -8,13 +8,12 @@ use lib.ListN.{length, getD, take, drop, replicate, length-append, length-take, 
 use lib.Seq.{take-at, getD-at, getD-append-add}
 use Rattle.pattern.specs.Form.{Pattern, atomCount}
 use Rattle.pattern.specs.Moves.{states}
-use Rattle.spans.specs.declared.span.Span.{Span}
 use Rattle.spans.specs.Spans.{span}
 use Rattle.spans.proofs.SpanLaws.{span-rows, span-padded}
 use Rattle.reports.specs.declared.report.Report.{Report}
-use Rattle.reports.specs.Reports.{report}
+use Rattle.reports.specs.Reports.{spanCount, reportOf, report}
 use Rattle.reports.specs.Words.{reportWords, loaded, loadedAt, wordsWith, storedAt}
-use Rattle.reports.proofs.ReportLaws.{span-in, report-size}
+use Rattle.reports.proofs.ReportLaws.{report-size}
 
 -- the words of a report, and the report of its words
 module _ (s : ℕ) (rows : List ℕ) (f h c e : ℕ) (small : s ≤ 32) (long : length rows ≡ 32) where
@@ -48,7 +47,8 @@ module _ (t : Pattern) (few : atomCount t ≤ 29) (w : List ℕ) where
   whole = ap (λ (n : ℕ). record { s = n; rows = report t w .rows; flag = report t w .flag; heads = report t w .heads; closed = report t w .closed; tail = report t w .tail }) (report-size t w)
 
   rows-in : report t w .rows ≡ span t w .rows
-  rows-in = ap (λ (a : Span). a .rows) (span-in t w)
+  unfolding report reportOf spanCount
+  rows-in = refl
 
   pub words-length : length (reportWords (report t w)) ≡ states t + 4
   words-length =

@@ -1,16 +1,21 @@
--- Document 01, "Reports": a report is a span and the number of closed lines, flat; and the joining of two reports.
+-- Document 01, "Reports": a report is a span and the number of its closed lines, flat; and the joining of two reports.
 use Prim.Native.Nat.{ℕ}
 use mathlib.Core.Bool.{Bool, true, false, not, cond, _&&_}
 use mathlib.Core.List.{List}
 use lib.Dec.{leb, eqb}
 use Rattle.pattern.specs.Form.{Pattern}
 use Rattle.pattern.specs.declared.automaton.Accepting.{Accepting}
-use Rattle.spans.specs.declared.span.Span.{Span}
 use Rattle.spans.specs.declared.span.JoinedSpan.{JoinedSpan}
-use Rattle.spans.specs.Spans.{noRows, emptySpan, span, closedLines, joinedSpans, extendedSpan, endLines}
+use Rattle.spans.specs.Spans.{noRows, span, closedLines}
+use Rattle.spans.specs.Joining.{emptySpan, joinedSpans, extendedSpan, endLines}
 use Rattle.reports.specs.declared.report.Report.{Report}
+use Rattle.reports.specs.declared.span_count.SpanCount.{SpanCount}
 use Rattle.reports.specs.declared.total.Total.{Total}
 use Rattle.reports.specs.Totals.{totalOf, bothTotals, lineIf}
+
+-- a run's span, and how many closed lines it has
+unfoldable pub spanCount : Pattern → List ℕ → SpanCount
+spanCount t w = record { span = span t w; closed = totalOf (closedLines t w) }
 
 -- "a flag, 0 without LF, 1 with one, 2 with one and closed lines beyond 2^64 − 1"
 abbrev pub flagOf : Bool → Total → ℕ
@@ -24,44 +29,50 @@ shownOf false n = 0
 shownOf true (Total.Lines n) = n
 shownOf true Total.TooMany = 0
 
--- a span and the number of closed lines, flat
-unfoldable pub reportOf : Span → Total → Report
-reportOf a n = record { s = a .s; rows = a .rows; flag = flagOf (a .ended) n; heads = a .heads; closed = shownOf (a .ended) n; tail = a .tail }
+-- both, flat
+abbrev pub flat : ℕ → ℕ → SpanCount → Report
+flat flag closed a = record { s = a .span .s; rows = a .span .rows; flag = flag; heads = a .span .heads; closed = closed; tail = a .span .tail }
 
--- the report of a run under a pattern
+unfoldable pub reportOf : SpanCount → Report
+reportOf a = flat (flagOf (a .span .ended) (a .closed)) (shownOf (a .span .ended) (a .closed)) a
+
+-- the report of a run
 unfoldable pub report : Pattern → List ℕ → Report
-report t w = reportOf (span t w) (totalOf (closedLines t w))
+report t w = reportOf (spanCount t w)
 
--- the report of the empty run of a pattern with s states
-abbrev pub emptyReport : ℕ → Report
-emptyReport s = reportOf (emptySpan s) (Total.Lines 0)
+-- Operations on any numbers.
 
--- Operations on any numbers: "it ignores rows and state bits at s and above and fields that the flag empties; a flag over 2 is read as
--- 2".
+-- a span after n closed lines, and the line that it closes
+abbrev pub withLine : JoinedSpan → Total → SpanCount
+withLine j n = record { span = j .span; closed = bothTotals n (lineIf (j .closes)) }
 
--- the span in a report
-abbrev pub spanIn : Report → Span
-spanIn a = record { s = a .s; rows = a .rows; ended = not (eqb (a .flag) 0); heads = a .heads; tail = a .tail }
+-- the empty run, of a pattern with s states
+abbrev pub emptyCount : ℕ → SpanCount
+emptyCount s = record { span = emptySpan s; closed = Total.Lines 0 }
 
--- the closed lines in it
-unfoldable pub closedIn : Report → Total
-closedIn a = cond (eqb (a .flag) 0) (Total.Lines 0) (cond (leb 2 (a .flag)) Total.TooMany (Total.Lines (a .closed)))
+-- one key more, by any tables (`extend-count`)
+unfoldable pub extendedCount : List ℕ → List ℕ → Accepting → SpanCount → ℕ → SpanCount
+extendedCount keys enter p a k = withLine (extendedSpan keys enter p (a .span) k) (a .closed)
 
--- a span that closes a line or not, after so many closed lines
-abbrev pub reportWith : JoinedSpan → Total → Report
-reportWith j n = reportOf (j .span) (bothTotals n (lineIf (j .closes)))
-
--- Joining. That this is "the report of the two runs one after the other" is the theorem `join-reports`.
-unfoldable pub joinedReports : Report → Report → Report
-joinedReports a b = reportWith (joinedSpans (spanIn a) (spanIn b)) (bothTotals (closedIn a) (closedIn b))
-
--- one key more, by any tables (`extend-report`)
-unfoldable pub extendedReport : List ℕ → List ℕ → Accepting → Report → ℕ → Report
-extendedReport keys enter p a k = reportWith (extendedSpan keys enter p (spanIn a) k) (closedIn a)
+-- one run after the other (`join-counts`)
+unfoldable pub joinedCounts : SpanCount → SpanCount → SpanCount
+joinedCounts a b = withLine (joinedSpans (a .span) (b .span)) (bothTotals (a .closed) (b .closed))
 
 -- the matching lines of a run: the closed ones, and those at the two ends (`total-run`)
-unfoldable pub totalIn : Accepting → Report → Total
-totalIn p a = bothTotals (closedIn a) (Total.Lines (endLines p (spanIn a)))
+unfoldable pub totalIn : Accepting → SpanCount → Total
+totalIn p a = bothTotals (a .closed) (Total.Lines (endLines p (a .span)))
+
+-- Joining reports: "it ignores rows and state bits at s and above and fields that the flag empties; a flag over 2 is read as 2".
+
+abbrev pub closedIn : Report → Total
+closedIn a = cond (eqb (a .flag) 0) (Total.Lines 0) (cond (leb 2 (a .flag)) Total.TooMany (Total.Lines (a .closed)))
+
+unfoldable pub inReport : Report → SpanCount
+inReport a = record { span = record { s = a .s; rows = a .rows; ended = not (eqb (a .flag) 0); heads = a .heads; tail = a .tail }; closed = closedIn a }
+
+-- that this is "the report of the two runs one after the other" is the theorem `join-reports`
+unfoldable pub joinedReports : Report → Report → Report
+joinedReports a b = reportOf (joinedCounts (inReport a) (inReport b))
 
 -- they are of one size, and not "under 3 or over 32"
 abbrev pub alike : Report → Report → Bool

@@ -1,13 +1,20 @@
-// Reports of runs.
+// Reports of runs: a span and the number of its closed lines, flat (document 01, "Reports"); and joining.
+use crate::span_count::SpanCount;
+use crate::span_count::joined;
 use crate::total::Total;
+use refusal::Refusal;
+use refusal::code;
 use spans::Span;
 ghost use mathlib.Core.Path.{_≡_};
-ghost use Rattle.reports.specs.Reports.{closedIn, noReport, reportOf, spanIn};
+ghost use mathlib.Core.Bool.{_&&_};
+ghost use lib.Dec.{eqb, leb};
+ghost use Rattle.reports.specs.Reports.{closedIn, inReport, noReport, reportOf};
+ghost use Rattle.reports.specs.Answers.{joinResult};
 
 // The work words of a report behind its rows: flag, heads, closed, tail.
 pub const BEHIND_ROWS: usize = 4;
 
-// What a run does to the states of a pattern (document 01, "Reports"): a span and the number of closed lines, flat.
+// What a run does to the states of a pattern.
 pub struct Report {
     // How many states there are.
     pub s: u64,
@@ -44,22 +51,8 @@ pub(crate) fn no_report() -> Report
     }
 }
 
-// The span in a report.
-pub fn span_of(a: Report) -> Span
-    ensures { λ r. ⌜ r ≡ spanIn a ⌝ }
-{
-    let rows = a.rows;
-    Span {
-        s: a.s,
-        rows: rows,
-        ended: a.flag != 0,
-        heads: a.heads,
-        tail: a.tail,
-    }
-}
-
-// The closed lines in it; a flag over 2 is read as 2.
-pub fn closed_of(a: Report) -> Total
+// The closed lines in a report; a flag over 2 is read as 2.
+fn closed_in(a: Report) -> Total
     ensures { λ r. ⌜ r ≡ closedIn a ⌝ }
 {
     if a.flag == 0 {
@@ -71,14 +64,35 @@ pub fn closed_of(a: Report) -> Total
     Total::Lines(a.closed)
 }
 
-// A span and the number of closed lines.
-pub fn report_of(a: Span, closed: Total) -> Report
-    ensures { λ r. ⌜ r ≡ reportOf a closed ⌝ }
+// The span and the closed lines in a report.
+pub fn in_report(a: Report) -> SpanCount
+    ensures { λ r. ⌜ r ≡ inReport a ⌝ }
 {
     let rows = a.rows;
+    let span = Span {
+        s: a.s,
+        rows: rows,
+        ended: a.flag != 0,
+        heads: a.heads,
+        tail: a.tail,
+    };
+    let closed = closed_in(a);
+    SpanCount {
+        span: span,
+        closed: closed,
+    }
+}
+
+// A span and the number of its closed lines, flat.
+pub fn report_of(a: SpanCount) -> Report
+    ensures { λ r. ⌜ r ≡ reportOf a ⌝ }
+{
+    let span = a.span;
+    let rows = span.rows;
+    let closed = a.closed;
     let mut flag = 0;
     let mut lines = 0;
-    if a.ended {
+    if span.ended {
         match closed {
             Total::Lines(n) => {
                 flag = 1;
@@ -90,11 +104,36 @@ pub fn report_of(a: Span, closed: Total) -> Report
         }
     }
     Report {
-        s: a.s,
+        s: span.s,
         rows: rows,
         flag: flag,
-        heads: a.heads,
+        heads: span.heads,
         closed: lines,
-        tail: a.tail,
+        tail: span.tail,
+    }
+}
+
+// Whether two reports may be of one pattern: the numbers of their states.
+fn sizes_alike(s: u64, t: u64) -> bool
+    ensures { λ r. ⌜ r ≡ (eqb s t && (leb 3 s && leb s 32)) ⌝ }
+{
+    (s == t) & ((3 <= s) & (s <= 32))
+}
+
+// Joins the reports of two runs into that of the one run after the other. Refused with 13 for reports that are not of one pattern's size.
+pub fn join(a: Report, b: Report) -> Joined
+    ensures { λ r. ⌜ r ≡ joinResult a b ⌝ }
+{
+    if !sizes_alike(a.s, b.s) {
+        let zeros = no_report();
+        return Joined {
+            refused: code(Refusal::ReportMismatch),
+            report: zeros,
+        };
+    }
+    let report = report_of(joined(in_report(a), in_report(b)));
+    Joined {
+        refused: 0,
+        report: report,
     }
 }

@@ -22,7 +22,8 @@ use Rattle.lines.specs.Parts.{firstPart, laterParts, lastPart}
 use Rattle.lines.proofs.PartLaws.{countBefore, countOne, countLast, first-whole, first-line, later-lines, last-line, matching-parts, matching-whole}
 use Rattle.lines.proofs.Tallying.{at-most-one}
 use Rattle.spans.specs.declared.span.Span.{Span}
-use Rattle.spans.specs.Spans.{stateCount, spanWith, span, closedWith, closedLines, lastLine, endsWith, endLines}
+use Rattle.spans.specs.Spans.{spanWith, span, closedWith, closedLines}
+use Rattle.spans.specs.Joining.{stateCount, lastLine, endsWith, endLines}
 use Rattle.spans.proofs.RowLaws.{count-all}
 use Rattle.spans.proofs.JoinLaw.{runRows, headsOf, row-of}
 

@@ -23,7 +23,8 @@ use Rattle.lines.specs.Parts.{firstPart, laterParts, lastPart}
 use Rattle.lines.proofs.PartLaws.{countBefore, countOne, lineAcross, first-into, later-into, first-kept, later-kept, lastThen, last-open, before-open, last-closed, before-closed, first-line, later-lines, last-line}
 use Rattle.spans.specs.declared.span.Span.{Span}
 use Rattle.spans.specs.declared.span.JoinedSpan.{JoinedSpan}
-use Rattle.spans.specs.Spans.{stateCount, rowsOf, endedSpan, onward, spanWith, span, closedWith, closedLines, closesWith, closesBetween, joinedWith, joinedSpans}
+use Rattle.spans.specs.Spans.{rowsOf, endedSpan, spanWith, span, closedWith, closedLines, closesWith, closesBetween}
+use Rattle.spans.specs.Joining.{stateCount, onward, joinedWith, joinedSpans}
 use Rattle.spans.proofs.RowLaws.{count-all}
 
 -- the row of a state that there is

@@ -26,7 +26,8 @@ use Rattle.lines.proofs.Reaching.{looked-up, leads-high, leads-more}
 use Rattle.lines.proofs.PartLaws.{lastThen, first-kept, later-into, later-kept, last-open, end-part, end-first, key-part, last-one, before-none}
 use Rattle.spans.specs.declared.span.Span.{Span}
 use Rattle.spans.specs.declared.span.JoinedSpan.{JoinedSpan}
-use Rattle.spans.specs.Spans.{stateCount, noRows, spanWith, span, closedWith, closedLines, closesWith, closesBetween, endSpan, joinedWith, joinedSpans, keyed, movedWith, movedSpan, extendedSpan}
+use Rattle.spans.specs.Spans.{noRows, spanWith, span, closedWith, closedLines, closesWith, closesBetween}
+use Rattle.spans.specs.Joining.{stateCount, endSpan, joinedWith, joinedSpans, keyed, movedWith, movedSpan, extendedSpan}
 use Rattle.spans.proofs.RowLaws.{count-all}
 use Rattle.spans.proofs.JoinLaw.{spanAnd, runRows, headsOf, row-of, rows-same, ends-same, join-spans, closed-append}
 

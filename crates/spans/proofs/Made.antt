@@ -17,7 +17,8 @@ use Rattle.lines.specs.Moving.{startSet}
 use Rattle.lines.proofs.Tallying.{at-most-one}
 use Rattle.spans.specs.declared.span.Span.{Span}
 use Rattle.spans.specs.declared.span.JoinedSpan.{JoinedSpan}
-use Rattle.spans.specs.Spans.{stateCount, rowsOf, noRows, emptySpan, onward, joinedSpans, keyed, movedSpan, extendedSpan, lastLine, endLines}
+use Rattle.spans.specs.Spans.{rowsOf, noRows}
+use Rattle.spans.specs.Joining.{stateCount, emptySpan, onward, joinedSpans, keyed, movedSpan, extendedSpan, lastLine, endLines}
 use Rattle.spans.specs.Pairs.{pairsIn}
 use Rattle.spans.proofs.RowLaws.{Building, building-done, size-made, count-few}
 

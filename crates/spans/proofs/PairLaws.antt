@@ -14,7 +14,8 @@ use Rattle.pattern.specs.Form.{Pattern, atomCount}
 use Rattle.pattern.specs.Moves.{states, leads}
 use Rattle.lines.specs.Parts.{laterParts, lastPart}
 use Rattle.spans.specs.declared.span.Span.{Span}
-use Rattle.spans.specs.Spans.{stateCount, rowsOf, spanWith, span}
+use Rattle.spans.specs.Spans.{rowsOf, spanWith, span}
+use Rattle.spans.specs.Joining.{stateCount}
 use Rattle.spans.specs.Pairs.{pairsWith, pairs, pairsInWith, pairsIn}
 use Rattle.spans.proofs.RowLaws.{count-all, count-few}
 use Rattle.spans.proofs.JoinLaw.{row-of}

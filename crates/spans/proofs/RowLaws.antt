@@ -20,7 +20,8 @@ use Rattle.stateset.proofs.Some.{any-ext, any-widen}
 use Rattle.stateset.proofs.Images.{bit-image}
 use Rattle.stateset.proofs.Counts.{count-word}
 use Rattle.stateset.proofs.Gathering.{begun, begun-none, begun-more, gathered-none, gathered-more}
-use Rattle.spans.specs.Spans.{stateCount, rowsOf, onward}
+use Rattle.spans.specs.Spans.{rowsOf}
+use Rattle.spans.specs.Joining.{stateCount, onward}
 
 -- How many states there are.
 pub count-some : (s : ℕ) → s < 32 → s ≡ stateCount s

@@ -19,7 +19,8 @@ use Rattle.pattern.proofs.Leading.{leads-none}
 use Rattle.lines.specs.Parts.{laterParts}
 use Rattle.lines.proofs.PartLaws.{later-none}
 use Rattle.spans.specs.declared.span.Span.{Span}
-use Rattle.spans.specs.Spans.{stateCount, rowsOf, noRows, emptySpan, spanWith, span, closedWith, closedLines, joinedWith, joinedSpans, keyed, movedWith, movedSpan, endSpan, extendedSpan}
+use Rattle.spans.specs.Spans.{rowsOf, noRows, spanWith, span, closedWith, closedLines}
+use Rattle.spans.specs.Joining.{stateCount, emptySpan, joinedWith, joinedSpans, keyed, movedWith, movedSpan, endSpan, extendedSpan}
 use Rattle.spans.proofs.RowLaws.{count-all, count-few}
 use Rattle.spans.proofs.JoinLaw.{rows-same}
 

@@ -9,7 +9,7 @@ use Rattle.pattern.specs.Form.{Pattern}
 use Rattle.pattern.specs.Moves.{states, leads}
 use Rattle.lines.specs.Parts.{laterParts, lastPart}
 use Rattle.spans.specs.declared.span.Span.{Span}
-use Rattle.spans.specs.Spans.{stateCount}
+use Rattle.spans.specs.Joining.{stateCount}
 
 -- "the pairs of states (q, p) such that the items before it in that macro lead from q to p", where w is the run of those items:
 -- "Before any LF in them q is every state; after one, q is line-start alone, moving since the last LF."

@@ -7,7 +7,7 @@ use pattern::State;
 use stateset::chosen;
 ghost use Prim.Native.Nat.{_≤_};
 ghost use mathlib.Core.Path.{_≡_};
-ghost use Rattle.spans.specs.Spans.{endLines, lastLine};
+ghost use Rattle.spans.specs.Joining.{endLines, lastLine};
 
 // 1 if the last part of a run is a line that matches: it has a key, so that its states have left line-start.
 fn last_line(s: u64, tail: u64, p: Accepting) -> u64

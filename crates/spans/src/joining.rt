@@ -10,7 +10,7 @@ use crate::span::ended_span;
 use crate::span::open_span;
 use stateset::within;
 ghost use mathlib.Core.Path.{_≡_};
-ghost use Rattle.spans.specs.Spans.{joinedSpans};
+ghost use Rattle.spans.specs.Joining.{joinedSpans};
 
 // The span of one run after the other. The last line of the left one and the first of the right one are one line: it is closed where
 // both have a line end.

@@ -11,7 +11,7 @@ use pattern::Accepting;
 use pattern::State;
 use stateset::within;
 ghost use mathlib.Core.Path.{_≡_};
-ghost use Rattle.spans.specs.Spans.{extendedSpan, movedSpan};
+ghost use Rattle.spans.specs.Joining.{extendedSpan, movedSpan};
 
 // A key that is no line end.
 fn moved_span(a: Span, key: u8, keys: &[u64; 256], enter: &[u64; 32], p: Accepting) -> Span

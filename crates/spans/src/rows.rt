@@ -11,7 +11,8 @@ ghost use Prim.Native.Nat.{_≤_};
 ghost use mathlib.Core.Path.{_≡_};
 ghost use lib.ListN.{getD};
 ghost use Rattle.stateset.specs.Set.{bit, common, word};
-ghost use Rattle.spans.specs.Spans.{keyed, onward, rowsOf, stateCount};
+ghost use Rattle.spans.specs.Spans.{rowsOf};
+ghost use Rattle.spans.specs.Joining.{keyed, onward, stateCount};
 
 // How many states there are: no more than 32.
 pub(crate) fn state_count(s: u64) -> u64

@@ -3,7 +3,8 @@ use crate::rows::state_count;
 use stateset::only;
 ghost use mathlib.Core.Path.{_≡_};
 ghost use mathlib.Core.Bool.{false, true};
-ghost use Rattle.spans.specs.Spans.{emptySpan, noRows};
+ghost use Rattle.spans.specs.Spans.{noRows};
+ghost use Rattle.spans.specs.Joining.{emptySpan};
 
 // What a run does to the states of a pattern: a report without the number of its closed lines (document 01, "Reports").
 pub struct Span {

@@ -1,4 +1,4 @@
--- `items::after_item`: a key extends the report, a call joins the called macro's.
+-- `items::after_item`: a key extends what is kept, a call joins the called macro's.
 use Rattle.counter.proofs.ItemLaws.{call-small, item-key, item-call}
 use borrow.Author.Needs.{needs}
 use Rattle.counter.proofs.items.after_item.Statement.{statement}
@@ -25,8 +25,11 @@ mul-at c = search (call-small)
 load-requires : tie.Need-load-requires
 load-requires c κs = search needs
 
-join-requires : tie.Need-join-requires
-join-requires c κs = search needs
+in-report-requires : tie.Need-in-report-requires
+in-report-requires c κs = search needs
+
+joined-requires : tie.Need-joined-requires
+joined-requires c κs = search needs
 
 returns : tie.Need-returns
 returns c = search (item-key)
@@ -35,16 +38,4 @@ returns-2 : tie.Need-returns-2
 returns-2 c = search (item-call)
 
 pub after-item-spec : {M : Type 1} → statement M
-after-item-spec =
-    tie.close
-    (tie.spec
-    enum-known-item
-    extended-requires
-    enum-known-item-2
-    cast-at
-    add-at
-    mul-at
-    load-requires
-    join-requires
-    returns
-    returns-2)
+after-item-spec = tie.close (tie.spec enum-known-item extended-requires enum-known-item-2 cast-at add-at mul-at load-requires in-report-requires joined-requires returns returns-2)

@@ -1,4 +1,4 @@
--- `items::items_report`: the report is that of the items so far, and the steps are theirs.
+-- `items::items_report`: what is kept is that of the items so far, and the steps are theirs.
 use Prim.Native.Nat.{_-_}
 use native.Mathlib.Omega.{arith}
 use Rattle.counter.proofs.ItemLaws.{ItemsSoFar, items-start, items-room, items-on, items-done}
@@ -7,19 +7,16 @@ use Rattle.counter.proofs.items.items_report.Statement.{statement}
 use Rattle.counter.proofs.items.items_report.Tie as tie
 
 abbrev Inv-loop : tie.InvT-loop
-Inv-loop work keys enter p codes count report₀ steps₀ k₀ report steps k = ItemsSoFar keys enter p work (record { codes = codes; count = count }) report steps k
+Inv-loop work keys enter p codes count kept₀ steps₀ k₀ kept steps k = ItemsSoFar keys enter p work (record { codes = codes; count = count }) kept steps k
 
 abbrev μ-loop : tie.MeasureT-loop
-μ-loop work keys enter p codes count report₀ steps₀ k₀ report steps k = count - k
+μ-loop work keys enter p codes count kept₀ steps₀ k₀ kept steps k = count - k
 
-empty-report-requires : tie.Need-empty-report-requires Inv-loop μ-loop
-empty-report-requires c κs = search needs
+empty-count-requires : tie.Need-empty-count-requires Inv-loop μ-loop
+empty-count-requires c κs = search needs
 
 loop-holds : tie.Need-loop-holds Inv-loop μ-loop
 loop-holds c = search (items-start)
-
-span-of-requires : tie.Need-span-of-requires Inv-loop μ-loop
-span-of-requires c κs = search needs
 
 pairs-in-requires : tie.Need-pairs-in-requires Inv-loop μ-loop
 pairs-in-requires c κs = search needs
@@ -31,7 +28,7 @@ mul-item-of : tie.Need-mul-item-of Inv-loop μ-loop
 mul-item-of c = search needs
 
 array-read-item-of : tie.Need-array-read-item-of Inv-loop μ-loop
-array-read-item-of c = omega (arith, c .before .before .before .before .before .before .before .pre .few)
+array-read-item-of c = omega (arith, c .before .before .before .before .before .before .pre .few)
 
 item-of-requires : tie.Need-item-of-requires Inv-loop μ-loop
 item-of-requires c κs = search needs
@@ -48,8 +45,11 @@ loop-less c = omega arith
 loop-again : tie.Need-loop-again Inv-loop μ-loop
 loop-again c = search (items-on)
 
+report-of-requires : tie.Need-report-of-requires Inv-loop μ-loop
+report-of-requires c κs = search needs
+
 returns : tie.Need-returns Inv-loop μ-loop
 returns c = search (items-done)
 
 pub items-report-spec : {M : Type 1} → statement M
-items-report-spec = tie.close (tie.spec Inv-loop μ-loop empty-report-requires loop-holds span-of-requires pairs-in-requires add-steps mul-item-of array-read-item-of item-of-requires after-item-requires add-k loop-less loop-again returns)
+items-report-spec = tie.close (tie.spec Inv-loop μ-loop empty-count-requires loop-holds pairs-in-requires add-steps mul-item-of array-read-item-of item-of-requires after-item-requires add-k loop-less loop-again report-of-requires returns)

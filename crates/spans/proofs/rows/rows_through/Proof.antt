@@ -2,7 +2,7 @@
 use Prim.Native.Nat.{_-_}
 use native.Mathlib.Omega.{arith}
 use lib.ListN.{getD}
-use Rattle.spans.specs.Spans.{onward}
+use Rattle.spans.specs.Joining.{onward}
 use Rattle.spans.proofs.RowLaws.{Building, building-none, building-more, building-done}
 use borrow.Author.Needs.{needs}
 use Rattle.spans.proofs.rows.rows_through.Statement.{statement}
