@@ -1,5 +1,5 @@
 -- From the reports of a book's macros to what the count answers.
-use Prim.Native.Nat.{ℕ, suc, _+_, _^_, _<_}
+use Prim.Native.Nat.{ℕ, suc, _+_, _*_, _^_, _<_}
 use native.Mathlib.Omega.{arith}
 use mathlib.Core.Path.{_≡_, refl, sym, ap, _∙_}
 use mathlib.Core.Bool.{Bool, true, false, cond}
@@ -26,28 +26,19 @@ use Rattle.pattern.specs.declared.automaton.Verdict.{Verdict}
 use Rattle.pattern.proofs.Readings.{states-of}
 use Rattle.reports.specs.declared.report.Report.{Report}
 use Rattle.reports.specs.declared.total.Total.{Total}
-use Rattle.reports.specs.Totals.{most, totalOf}
+use Rattle.reports.specs.Totals.{totalOf}
 use Rattle.reports.specs.declared.span_count.SpanCount.{SpanCount}
 use Rattle.reports.specs.Reports.{report, inReport, totalIn}
 use Rattle.reports.specs.Words.{loadedAt}
 use Rattle.reports.proofs.ReportLaws.{in-report, total-run}
 use Rattle.counter.specs.declared.counting.BookCount.{BookCount}
 use Rattle.counter.specs.declared.front.Space.{Space}
-use Rattle.counter.specs.Front.{refused, settled, spaceStep, front}
-use Rattle.counter.specs.Counting.{finished, stopped, finishedIf, matchingLines, filled, steps, reportSize, needed, countOf, countResult, bookResult}
-use Rattle.counter.specs.Answers.{outcome, settledBy}
-use Rattle.counter.specs.Promises.{placeOf, MacroFits, Filled, BookCounted, InBook}
-use Rattle.counter.proofs.FrontLaws.{PatternIn, book-refuses, pattern-refuses, pattern-in, space-inside, space-room, front-book, front-pattern, front-refuses, front-settles}
+use Rattle.counter.specs.Front.{refused, settled, spaceStep, front, InBook, InPattern, settledBy}
+use Rattle.counter.specs.Counting.{stopped, finishedBy, matchingLines, needed, countOf, countResult, bookResult}
+use Rattle.counter.specs.Answers.{outcome}
+use Rattle.counter.specs.Promises.{placeOf, MacroFits, Filled, BookCounted}
+use Rattle.counter.proofs.FrontLaws.{book-refuses, pattern-refuses, pattern-in, space-inside, space-room, front-book, front-pattern, front-refuses, front-settles}
 use Rattle.counter.proofs.FillLaws.{reports-at}
-
--- a count within the limit, and one beyond
-shown-lines : (b : Bool) (k N n S : ℕ) (A B : List ℕ) → Total.Lines k ≡ cond b (Total.Lines N) Total.TooMany → n ≡ S → A ≡ B → finished k n A ≡ finishedIf b N S B
-shown-lines true k N n S A B e f g = let same : k ≡ N = cc in rw (same, f, g) refl
-shown-lines false k N n S A B e f g = clash (cc)
-
-shown-over : (b : Bool) (N S : ℕ) (A B : List ℕ) → Total.TooMany ≡ cond b (Total.Lines N) Total.TooMany → A ≡ B → stopped CountOverflow A ≡ finishedIf b N S B
-shown-over true N S A B e g = clash (cc)
-shown-over false N S A B e g = rw g refl
 
 -- Macro m.
 module _ {book offsets : List ℕ} {m : ℕ} {p : Accepting} {before : List ℕ} (g : MacroFits book offsets m p before) where
@@ -61,33 +52,33 @@ module _ {book offsets : List ℕ} {m : ℕ} {p : Accepting} {before : List ℕ}
           let there : r ≡ report t (expansion ms m) = l ∙ rw (states-of d) (reports-at t (d .few) ms (suc m) m (omega arith) after (drop (needed t m) before) (f .counts t d .0)) in
           z ∙ ap (totalIn p) (i ∙ ap inReport there ∙ in-report t (expansion ms m)) ∙ total-run d (expansion ms m) (expansion-run ms well m)
 
+      told : (t : Pattern) → Automaton t keys enter p → finishedBy x n after ≡ countOf t (macrosIn book) m before
+      told t d =
+          let both = f .counts t d in
+          ap (λ (y : Total). finishedBy y n after) (counted t d) ∙ rw (both .1, both .0) refl
+
       pub macro-lines : {k : ℕ} → x ≡ Total.Lines k → BookCounted keys enter p (macrosIn book) m before after (BookCount.Lines k n)
       unfolding BookCounted
-      macro-lines {k} e t d =
-          let ms = macrosIn book in
-          let both = f .counts t d in
-          shown-lines (leb (matchingLines t ms m) most) k (matchingLines t ms m) n (steps t ms m) after (filled t ms m before) (sym e ∙ counted t d) (both .1) (both .0)
+      macro-lines e t d = ap (λ (y : Total). finishedBy y n after) (sym e) ∙ told t d
 
       pub macro-over : x ≡ Total.TooMany → BookCounted keys enter p (macrosIn book) m before after (BookCount.Refused CountOverflow)
       unfolding BookCounted
-      macro-over e t d =
-          let ms = macrosIn book in
-          shown-over (leb (matchingLines t ms m) most) (matchingLines t ms m) (steps t ms m) after (filled t ms m before) (sym e ∙ counted t d) (f .counts t d .0)
+      macro-over e t d = ap (λ (y : Total). finishedBy y n after) (sym e) ∙ told t d
 
 -- A refusal leaves the work words; what is settled is counted.
 module _ (book : Reading (List Macro)) (pattern : reader.Read) (m : ℕ) (before : List ℕ) where
-  stopped-by : {r : Refusal} → front book pattern reportSize m (length before) ≡ refused r → stopped r before ≡ countResult book pattern m before
+  stopped-by : {r : Refusal} → front book pattern (λ t. needed t m) m (length before) ≡ refused r → stopped r before ≡ countResult book pattern m before
   unfolding countResult
   stopped-by e = rw e refl
 
-  counted-by : {ms : List Macro} {t : Pattern} → front book pattern reportSize m (length before) ≡ settled (ms, t) → countOf t ms m before ≡ countResult book pattern m before
+  counted-by : {ms : List Macro} {t : Pattern} → front book pattern (λ t. needed t m) m (length before) ≡ settled (ms, t) → countOf t ms m before ≡ countResult book pattern m before
   unfolding countResult
   counted-by e = rw e refl
 
 -- Any book.
 module _ (book : List ℕ) {l : Layout} (e : l ≡ layout book) where
   pub book-refused : {r : Refusal} (p : reader.Read) (m : ℕ) (before : List ℕ) → l .answer ≡ Checked.Refused r → stopped r before ≡ countResult (readBook book) p m before
-  book-refused p m before f = stopped-by (readBook book) p m before (front-book (readBook book) p reportSize m (length before) (book-refuses book e f))
+  book-refused p m before f = stopped-by (readBook book) p m before (front-book (readBook book) p (λ t. needed t m) m (length before) (book-refuses book e f))
 
 -- A sound book, and any pattern.
 module _ {book offsets : List ℕ} {macros : ℕ} (i : InBook book offsets macros) (s keys enter keys' enter' : List ℕ) {v : Verdict} where
@@ -95,11 +86,11 @@ module _ {book offsets : List ℕ} {macros : ℕ} (i : InBook book offsets macro
     pub pattern-refused : (m : ℕ) (before : List ℕ) {r : Refusal} → v ≡ Verdict.Refused r → stopped r before ≡ bookResult book s m before
     pattern-refused m before e =
         stopped-by (readBook book) (reader.readPattern s) m before
-        (front-pattern (readBook book) (reader.readPattern s) reportSize m (length before) (i .sound) (pattern-refuses s keys enter keys' enter' figures keyed entered e))
+        (front-pattern (readBook book) (reader.readPattern s) (λ t. needed t m) m (length before) (i .sound) (pattern-refuses s keys enter keys' enter' figures keyed entered e))
 
     -- an accepted one
     module _ {p : Accepting} (e : v ≡ Verdict.Accepted p) where
-      accepted : PatternIn s keys' enter' p
+      accepted : InPattern s keys' enter' p
       accepted = pattern-in s keys enter keys' enter' figures keyed entered e
 
       -- a size of some words more than states is small
@@ -107,26 +98,26 @@ module _ {book offsets : List ℕ} {macros : ℕ} (i : InBook book offsets macro
       size-fits k h = omega (arith, accepted .small, leb-true k 4 h)
 
       -- macro m, with these work words
-      module _ (m : ℕ) (before : List ℕ) (x : Space) (told : settledBy x ≡ spaceStep macros m (p .states + 4) (length before)) where
-        sized : settledBy x ≡ spaceStep macros m (reportSize (accepted .tree)) (length before)
+      module _ (m : ℕ) (before : List ℕ) (x : Space) (told : settledBy x ≡ spaceStep macros m (suc m * (p .states + 4)) (length before)) where
+        sized : settledBy x ≡ spaceStep macros m (needed (accepted .tree) m) (length before)
         sized = rw (← states-of (accepted .tables)) told
 
         pub space-refused : {r : Refusal} → x ≡ Space.Refused r → stopped r before ≡ bookResult book s m before
-        space-refused f = stopped-by (readBook book) (reader.readPattern s) m before (front-refuses i accepted reportSize m (length before) x sized f)
+        space-refused f = stopped-by (readBook book) (reader.readPattern s) m before (front-refuses i accepted (λ t. needed t m) m (length before) x sized f)
 
         module _ (f : x ≡ Space.Enough) where
           pub macro-in : MacroFits book offsets m p before
           macro-in =
-              let inside : m < macros = space-inside macros m (p .states + 4) (length before) x told f in
+              let inside : m < macros = space-inside macros m (suc m * (p .states + 4)) (length before) x told f in
               record {
                 table = i .table;
                 inside = omega (arith, i .many);
                 small = accepted .small;
-                room = space-room macros m (p .states + 4) (length before) x told f;
+                room = space-room macros m (suc m * (p .states + 4)) (length before) x told f;
               }
 
           pub macro-counted : (after : List ℕ) (r : BookCount) → BookCounted keys' enter' p (macrosIn book) m before after r → outcome r after ≡ bookResult book s m before
           unfolding BookCounted
           macro-counted after r g =
-              let settles = front-settles i accepted reportSize m (length before) x sized f in
+              let settles = front-settles i accepted (λ t. needed t m) m (length before) x sized f in
               g (accepted .tree) (accepted .tables) ∙ counted-by (readBook book) (reader.readPattern s) m before settles

@@ -3,13 +3,13 @@
 use Prim.Native.Nat.{ℕ, suc, _+_, _*_, _<_, _≤_}
 use native.Mathlib.Omega.{arith}
 use native.Mathlib.Nat.{mul-le-mul}
-use mathlib.Core.Path.{_≡_, refl, sym, _∙_}
+use mathlib.Core.Path.{_≡_, refl, sym, ap, _∙_}
 use mathlib.Core.Logic.{_↔_}
 use mathlib.Core.Bool.{Bool, true, false, cond}
 use mathlib.Core.List.{List, []}
 use lib.Dec.{leb, ltb}
 use lib.ListN.{length, getD, take}
-use borrow.Author.Tests.{leb-false, le-leb, lt-leb, lt-ltb, le-ltb}
+use borrow.Author.Tests.{leb-true, leb-false, lt-ltb, le-ltb}
 use Rattle.refusal.specs.declared.Refusal.the-variants.{NoSuchMacro, InsufficientSpace, CountOverflow}
 use Rattle.book.specs.Format.{Macro, wellFormed, encode}
 use Rattle.book.specs.Expansion.{expand, expansion}
@@ -20,8 +20,10 @@ use Rattle.book.proofs.Reach.{expansion-alike}
 use Rattle.pattern.specs.Moves.{states}
 use Rattle.pattern.specs.Reader as reader
 use Rattle.spans.specs.Pairs.{pairs}
-use Rattle.reports.specs.Totals.{most}
-use Rattle.counter.specs.Counting.{itemSteps, stepsWithin, steps, itemsTo, Outcome, matchingLines, finished, stopped, finishedIf, filled, needed, mostWords, countOf, countResult, bookResult}
+use Rattle.reports.specs.declared.total.Total.{Total}
+use Rattle.reports.specs.Totals.{most, totalOf}
+use Rattle.reports.proofs.TotalLaws.{few-lines, many-lines}
+use Rattle.counter.specs.Counting.{itemSteps, stepsWithin, steps, itemsTo, Outcome, matchingLines, finished, stopped, finishedBy, filled, needed, mostWords, countOf, countResult, bookResult}
 use Rattle.runs.proofs.CountLaws.{sum-le, sum-scale}
 use Rattle.pattern.specs.Form.{Pattern}
 use Rattle.book.proofs.LayoutLaws.{macros-few}
@@ -45,17 +47,17 @@ module _ {b p work : List ℕ} {ms : List Macro} {t : Pattern} {m : ℕ} (a : Co
 
   -- "the count given equals the number of lines of the macro's written-out run that match"
   pub count-equals : matchingLines t ms m ≤ most → bookResult b p m work ≡ finished (matchingLines t ms m) (steps t ms m) (filled t ms m work)
-  count-equals h = answer ∙ rw (le-leb (matchingLines t ms m) most h) refl
+  count-equals h = answer ∙ rw (few-lines (matchingLines t ms m) h) refl
 
   -- "It is refused exactly when that number passes 2^64 − 1."
   pub count-refused : most < matchingLines t ms m → bookResult b p m work ≡ stopped CountOverflow (filled t ms m work)
-  count-refused h = answer ∙ rw (lt-leb (matchingLines t ms m) most h) refl
+  count-refused h = answer ∙ rw (many-lines (matchingLines t ms m) h) refl
 
   pub refused-exactly : (0 < bookResult b p m work .refusal) ↔ (most < matchingLines t ms m)
-  refused-exactly = (λ h. go (leb (matchingLines t ms m) most) refl (rw answer at h), λ h. rw (count-refused h) (omega arith))
+  refused-exactly = (λ h. go (leb (matchingLines t ms m) most) refl h, λ h. rw (count-refused h) (omega arith))
     where
-      go : (x : Bool) → leb (matchingLines t ms m) most ≡ x → 0 < finishedIf x (matchingLines t ms m) (steps t ms m) (filled t ms m work) .refusal → most < matchingLines t ms m
-      go true e h = absurd (omega arith)
+      go : (x : Bool) → leb (matchingLines t ms m) most ≡ x → 0 < bookResult b p m work .refusal → most < matchingLines t ms m
+      go true e h = absurd (omega (arith, h, ap (λ (o : Outcome). o .refusal) (count-equals (leb-true (matchingLines t ms m) most e))))
       go false e h = leb-false (matchingLines t ms m) most e
 
 -- "alike in every macro that the one named reaches"
@@ -70,11 +72,11 @@ SameCount x y = (x .refusal ≡ y .refusal) × (x .lines ≡ y .lines)
 -- under the same pattern, each with such work space, or are both refused."
 module _ {b c p work space : List ℕ} {ms ns : List Macro} {t : Pattern} {m : ℕ} (x : Countable b p work ms t m) (y : Countable c p space ns t m) (alike : AlikeReached ms ns m) where
   pub alike-counts : SameCount (bookResult b p m work) (bookResult c p m space)
-  alike-counts = rw (answer x, answer y, expansion-alike ms ns m alike) (go (leb (matchingLines t ns m) most) (matchingLines t ns m) (steps t ms m) (steps t ns m) (filled t ms m work) (filled t ns m space))
+  alike-counts = rw (answer x, answer y, expansion-alike ms ns m alike) (go (totalOf (matchingLines t ns m)) (steps t ms m) (steps t ns m) (filled t ms m work) (filled t ns m space))
     where
-      go : (z : Bool) (n k j : ℕ) (v w : List ℕ) → SameCount (finishedIf z n k v) (finishedIf z n j w)
-      go true n k j v w = (refl, refl)
-      go false n k j v w = (refl, refl)
+      go : (z : Total) (k j : ℕ) (v w : List ℕ) → SameCount (finishedBy z k v) (finishedBy z j w)
+      go (Total.Lines n) k j v w = (refl, refl)
+      go Total.TooMany k j v w = (refl, refl)
 
 -- "are never more than the number of items in the macros up to the one named, times the square of the number of states"
 module _ (t : Pattern) where
@@ -110,15 +112,15 @@ module _ (m : ℕ) (work : List ℕ) where
   abbrev Left : Outcome → Type 0
   Left o = 0 < o .refusal → (o .lines ≡ 0) × (o .steps ≡ 0) × ((o .refusal ≡ 12 → ⊥) → o .work ≡ work)
 
-  left-with : (x y z : Bool) (n k : ℕ) (v : List ℕ) → Left (cond x (cond y (stopped InsufficientSpace work) (finishedIf z n k v)) (stopped NoSuchMacro work))
-  left-with true true z n k v h = (refl, refl, λ e. refl)
-  left-with true false true n k v h = absurd (omega arith)
-  left-with true false false n k v h = (refl, refl, λ e. absurd (e refl))
-  left-with false y z n k v h = (refl, refl, λ e. refl)
+  left-with : (x y : Bool) (z : Total) (k : ℕ) (v : List ℕ) → Left (cond x (cond y (stopped InsufficientSpace work) (finishedBy z k v)) (stopped NoSuchMacro work))
+  left-with true true z k v h = (refl, refl, λ e. refl)
+  left-with true false (Total.Lines n) k v h = absurd (omega arith)
+  left-with true false Total.TooMany k v h = (refl, refl, λ e. absurd (e refl))
+  left-with false y z k v h = (refl, refl, λ e. refl)
 
   pub refused-left : (g : Reading (List Macro)) (r : reader.Read) → Left (countResult g r m work)
   refused-left (refused q) r = rw count-refused-book (λ h. (refl, refl, λ e. refl))
   refused-left (got ms rest) (reader.refused q) = rw count-refused-pattern (λ h. (refl, refl, λ e. refl))
   refused-left (got ms rest) (reader.accepted t) =
       rw (count-accepted m work ms rest t)
-      (left-with (ltb m (length ms)) (ltb (length work) (needed t m)) (leb (matchingLines t ms m) most) (matchingLines t ms m) (steps t ms m) (filled t ms m work))
+      (left-with (ltb m (length ms)) (ltb (length work) (needed t m)) (totalOf (matchingLines t ms m)) (steps t ms m) (filled t ms m work))

@@ -24,10 +24,8 @@ use Rattle.pattern.specs.declared.automaton.Accepting.{Accepting}
 use Rattle.pattern.specs.declared.automaton.Verdict.{Verdict}
 use Rattle.pattern.proofs.Readings.{read-accepted, read-refused, states-of}
 use Rattle.counter.specs.declared.front.Space.{Space}
-use Rattle.counter.specs.Front.{Settled, refused, settled, _>>=_, answerBy, bookStep, patternStep, spaceStep, front}
-use Rattle.counter.specs.Counting.{stopped, countOf, reportSize, needed, countResult}
-use Rattle.counter.specs.Answers.{settledBy}
-use Rattle.counter.specs.Promises.{InBook}
+use Rattle.counter.specs.Front.{Settled, refused, settled, _>>=_, answerBy, bookStep, patternStep, spaceBy, spaceStep, front, InBook, InPattern, settledBy}
+use Rattle.counter.specs.Counting.{stopped, countOf, needed, countResult}
 
 -- The book, by what `layout_of` answers.
 module _ (book : List ℕ) {l : Layout} (e : l ≡ layout book) where
@@ -41,120 +39,110 @@ module _ (book : List ℕ) {l : Layout} (e : l ≡ layout book) where
     pub book-in : InBook book (l .offsets) n
     book-in = record { table = ap (λ (x : Layout). x .offsets) e; many = layout-count book e f; sound = book-settles }
 
--- an accepted pattern, by its tree
-pub record PatternIn (s keys enter : List ℕ) (p : Accepting) : Type 0 where
-  pub tree : Pattern
-  pub sound : patternStep (reader.readPattern s) ≡ settled tree
-  pub tables : Automaton tree keys enter p
-  pub small : p .states ≤ 32
-
 -- A pattern, by what `read_pattern` answers.
 module _ (s keys enter keys' enter' : List ℕ) {v : Verdict} (figures : VerdictOn s v) (keyed : KeysFrom s keys keys') (entered : EnterFrom s enter enter') where
   pub pattern-refuses : {r : Refusal} → v ≡ Verdict.Refused r → patternStep (reader.readPattern s) ≡ refused r
   pattern-refuses e = ap patternStep (read-refused s keys enter keys' enter' figures keyed entered e)
 
-  pub pattern-in : {p : Accepting} → v ≡ Verdict.Accepted p → PatternIn s keys' enter' p
+  pub pattern-in : {p : Accepting} → v ≡ Verdict.Accepted p → InPattern s keys' enter' p
   pattern-in e =
       let a = read-accepted s keys enter keys' enter' figures keyed entered e in
       record { tree = a .tree; sound = ap patternStep (a .reading); tables = a .tables; small = omega (arith, states-of (a .tables), a .tables .few) }
 
 -- The macro and the words, by their numbers.
-module _ (macros m width words : ℕ) where
-  pub no-macro : macros ≤ m → refused NoSuchMacro ≡ spaceStep macros m width words
+module _ (macros m need words : ℕ) where
+  pub no-macro : macros ≤ m → refused NoSuchMacro ≡ spaceStep macros m need words
   unfolding spaceStep
   no-macro h = rw (le-ltb m macros h) refl
 
   module _ (inside : m < macros) where
-    pub space-short : words < suc m * width → refused InsufficientSpace ≡ spaceStep macros m width words
+    space-short : words < need → refused InsufficientSpace ≡ spaceStep macros m need words
     unfolding spaceStep
-    space-short h = rw (lt-ltb m macros inside, lt-ltb words (suc m * width) h) refl
+    space-short h = rw (lt-ltb m macros inside, lt-ltb words need h) refl
 
-    pub space-enough : suc m * width ≤ words → settled tt ≡ spaceStep macros m width words
+    space-enough : need ≤ words → settled tt ≡ spaceStep macros m need words
     unfolding spaceStep
-    space-enough h = rw (lt-ltb m macros inside, le-ltb words (suc m * width) h) refl
+    space-enough h = rw (lt-ltb m macros inside, le-ltb words need h) refl
 
-    -- the same by a quotient
-    pub none-needed : width ≡ 0 → settled tt ≡ spaceStep macros m width words
-    none-needed e = space-enough (rw e (omega arith))
+-- by a quotient
+module _ (macros m width words : ℕ) (inside : m < macros) where
+  pub none-needed : width ≡ 0 → settled tt ≡ spaceStep macros m (suc m * width) words
+  none-needed e = space-enough macros m (suc m * width) words inside (rw e (omega arith))
 
-    module _ (some : width ≡ 0 → ⊥) where
-      positive : 0 < width
-      positive = omega (arith, some)
+  module _ (some : width ≡ 0 → ⊥) where
+    positive : 0 < width
+    positive = omega (arith, some)
 
-      pub quotient-short : words / width ≤ m → refused InsufficientSpace ≡ spaceStep macros m width words
-      quotient-short h = let low : words / width < suc m = omega arith in space-short (div-lt-iff-lt-mul positive .0 low)
+    pub quotient-short : words / width ≤ m → refused InsufficientSpace ≡ spaceStep macros m (suc m * width) words
+    quotient-short h = let low : words / width < suc m = omega arith in space-short macros m (suc m * width) words inside (div-lt-iff-lt-mul positive .0 low)
 
-      pub quotient-enough : m < words / width → settled tt ≡ spaceStep macros m width words
-      quotient-enough h = space-enough (le-div-iff-mul-le positive .0 h)
-
--- by the two tests
-abbrev spaceIf : Bool → Bool → Settled (Unit {0})
-spaceIf a b = cond a (cond b (refused InsufficientSpace) (settled tt)) (refused NoSuchMacro)
+    pub quotient-enough : m < words / width → settled tt ≡ spaceStep macros m (suc m * width) words
+    quotient-enough h = space-enough macros m (suc m * width) words inside (le-div-iff-mul-le positive .0 h)
 
 -- and by what `space_for` answers
-module _ (macros m width words : ℕ) (x : Space) (e : settledBy x ≡ spaceStep macros m width words) where
-  pub space-refuses : {r : Refusal} → x ≡ Space.Refused r → spaceStep macros m width words ≡ refused r
+module _ (macros m need words : ℕ) (x : Space) (e : settledBy x ≡ spaceStep macros m need words) where
+  space-refuses : {r : Refusal} → x ≡ Space.Refused r → spaceStep macros m need words ≡ refused r
   space-refuses f = sym e ∙ ap settledBy f
 
   module _ (f : x ≡ Space.Enough) where
-    pub space-settles : spaceStep macros m width words ≡ settled tt
+    space-settles : spaceStep macros m need words ≡ settled tt
     space-settles = sym e ∙ ap settledBy f
 
-    fits : (m < macros) × (suc m * width ≤ words)
+    fits : (m < macros) × (need ≤ words)
     unfolding spaceStep
-    fits = go (ltb m macros) (ltb words (suc m * width)) refl refl space-settles
+    fits = go (ltb m macros) (ltb words need) refl refl space-settles
       where
-        go : (a b : Bool) → ltb m macros ≡ a → ltb words (suc m * width) ≡ b → spaceIf a b ≡ settled tt → (m < macros) × (suc m * width ≤ words)
+        go : (a b : Bool) → ltb m macros ≡ a → ltb words need ≡ b → spaceBy a b ≡ settled tt → (m < macros) × (need ≤ words)
         go true true g h k = clash (cc)
-        go true false g h k = (ltb-true m macros g, ltb-false words (suc m * width) h)
+        go true false g h k = (ltb-true m macros g, ltb-false words need h)
         go false b g h k = clash (cc)
 
     pub space-inside : m < macros
     space-inside = fits .0
 
-    pub space-room : suc m * width ≤ words
+    pub space-room : need ≤ words
     space-room = fits .1
 
 -- The steps in turn, for one pattern.
-module _ (book : Reading (List Macro)) (pattern : reader.Read) (width : Pattern → ℕ) (m words : ℕ) where
-  pub front-book : {r : Refusal} → bookStep book ≡ refused r → front book pattern width m words ≡ refused r
+module _ (book : Reading (List Macro)) (pattern : reader.Read) (need : Pattern → ℕ) (m words : ℕ) where
+  pub front-book : {r : Refusal} → bookStep book ≡ refused r → front book pattern need m words ≡ refused r
   front-book e = rw e refl
 
   module _ {ms : List Macro} (e : bookStep book ≡ settled ms) where
-    pub front-pattern : {r : Refusal} → patternStep pattern ≡ refused r → front book pattern width m words ≡ refused r
+    pub front-pattern : {r : Refusal} → patternStep pattern ≡ refused r → front book pattern need m words ≡ refused r
     front-pattern f = rw (e, f) refl
 
     module _ {t : Pattern} (f : patternStep pattern ≡ settled t) where
-      pub front-space : {r : Refusal} → spaceStep (length ms) m (width t) words ≡ refused r → front book pattern width m words ≡ refused r
+      pub front-space : {r : Refusal} → spaceStep (length ms) m (need t) words ≡ refused r → front book pattern need m words ≡ refused r
       front-space g = rw (e, f, g) refl
 
-      pub front-settled : spaceStep (length ms) m (width t) words ≡ settled tt → front book pattern width m words ≡ settled (ms, t)
+      pub front-settled : spaceStep (length ms) m (need t) words ≡ settled tt → front book pattern need m words ≡ settled (ms, t)
       front-settled g = rw (e, f, g) refl
 
 -- A sound book and an accepted pattern: the third step's answer is that of them all.
-module _ {book offsets : List ℕ} {macros : ℕ} (i : InBook book offsets macros) {s keys enter : List ℕ} {p : Accepting} (a : PatternIn s keys enter p) where
-  module _ (width : Pattern → ℕ) (m words : ℕ) (x : Space) (e : settledBy x ≡ spaceStep macros m (width (a .tree)) words) where
-    told : settledBy x ≡ spaceStep (length (macrosIn book)) m (width (a .tree)) words
+module _ {book offsets : List ℕ} {macros : ℕ} (i : InBook book offsets macros) {s keys enter : List ℕ} {p : Accepting} (a : InPattern s keys enter p) where
+  module _ (need : Pattern → ℕ) (m words : ℕ) (x : Space) (e : settledBy x ≡ spaceStep macros m (need (a .tree)) words) where
+    told : settledBy x ≡ spaceStep (length (macrosIn book)) m (need (a .tree)) words
     told = rw (← i .many) e
 
-    pub front-refuses : {r : Refusal} → x ≡ Space.Refused r → front (readBook book) (reader.readPattern s) width m words ≡ refused r
+    pub front-refuses : {r : Refusal} → x ≡ Space.Refused r → front (readBook book) (reader.readPattern s) need m words ≡ refused r
     front-refuses f =
-        front-space (readBook book) (reader.readPattern s) width m words (i .sound) (a .sound)
-        (space-refuses (length (macrosIn book)) m (width (a .tree)) words x told f)
+        front-space (readBook book) (reader.readPattern s) need m words (i .sound) (a .sound)
+        (space-refuses (length (macrosIn book)) m (need (a .tree)) words x told f)
 
-    pub front-settles : x ≡ Space.Enough → front (readBook book) (reader.readPattern s) width m words ≡ settled (macrosIn book, a .tree)
+    pub front-settles : x ≡ Space.Enough → front (readBook book) (reader.readPattern s) need m words ≡ settled (macrosIn book, a .tree)
     front-settles f =
-        front-settled (readBook book) (reader.readPattern s) width m words (i .sound) (a .sound)
-        (space-settles (length (macrosIn book)) m (width (a .tree)) words x told f)
+        front-settled (readBook book) (reader.readPattern s) need m words (i .sound) (a .sound)
+        (space-settles (length (macrosIn book)) m (need (a .tree)) words x told f)
 
 -- what is answered then, by the two tests
-pub front-answer : {B : Type 0} (f : Refusal → B) (g : List Macro × Pattern → B) (ms : List Macro) (rest : List ℕ) (t : Pattern) (width : Pattern → ℕ) (m words : ℕ) →
-    answerBy f g (front (Reading.got ms rest) (reader.accepted t) width m words)
-    ≡ cond (ltb m (length ms)) (cond (ltb words (suc m * width t)) (f InsufficientSpace) (g (ms, t))) (f NoSuchMacro)
+pub front-answer : {B : Type 0} (f : Refusal → B) (g : List Macro × Pattern → B) (ms : List Macro) (rest : List ℕ) (t : Pattern) (need : Pattern → ℕ) (m words : ℕ) →
+    answerBy f g (front (Reading.got ms rest) (reader.accepted t) need m words)
+    ≡ cond (ltb m (length ms)) (cond (ltb words (need t)) (f InsufficientSpace) (g (ms, t))) (f NoSuchMacro)
 unfolding spaceStep
-front-answer f g ms rest t width m words = go (ltb m (length ms)) (ltb words (suc m * width t))
+front-answer f g ms rest t need m words = go (ltb m (length ms)) (ltb words (need t))
   where
-    go : (a b : Bool) → answerBy f g (_>>=_ (spaceIf a b) (λ x. settled (ms, t))) ≡ cond a (cond b (f InsufficientSpace) (g (ms, t))) (f NoSuchMacro)
+    go : (a b : Bool) → answerBy f g (_>>=_ (spaceBy a b) (λ x. settled (ms, t))) ≡ cond a (cond b (f InsufficientSpace) (g (ms, t))) (f NoSuchMacro)
     go true true = refl
     go true false = refl
     go false b = refl
@@ -174,4 +162,4 @@ module _ (m : ℕ) (work : List ℕ) where
         countResult (Reading.got ms rest) (reader.accepted t) m work
         ≡ cond (ltb m (length ms)) (cond (ltb (length work) (needed t m)) (stopped InsufficientSpace work) (countOf t ms m work)) (stopped NoSuchMacro work)
     unfolding countResult
-    count-accepted t = front-answer (λ r. stopped r work) (λ x. countOf (x .1) (x .0) m work) ms rest t reportSize m (length work)
+    count-accepted t = front-answer (λ r. stopped r work) (λ (ms, t). countOf t ms m work) ms rest t (λ t. needed t m) m (length work)

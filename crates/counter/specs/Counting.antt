@@ -1,8 +1,6 @@
 -- Document 01, "States and steps", "Reports" and "Refused": the count over a book, its steps and its work words.
 use Prim.Native.Nat.{ℕ, suc, _+_, _*_}
-use mathlib.Core.Bool.{Bool, cond}
 use mathlib.Core.List.{List, []}
-use lib.Dec.{leb}
 use lib.ListN.{length, getD, take}
 use Rattle.refusal.specs.declared.Refusal.{Refusal}
 use Rattle.refusal.specs.declared.Refusal.the-variants.{CountOverflow}
@@ -14,7 +12,8 @@ use Rattle.pattern.specs.Moves.{states}
 use Rattle.pattern.specs.Reader as reader
 use Rattle.lines.specs.Lines.{matching}
 use Rattle.spans.specs.Pairs.{pairs}
-use Rattle.reports.specs.Totals.{most}
+use Rattle.reports.specs.declared.total.Total.{Total}
+use Rattle.reports.specs.Totals.{totalOf}
 use Rattle.reports.specs.Reports.{report}
 use Rattle.reports.specs.Words.{reportWords}
 use Rattle.runs.specs.Kept.{wordsOver}
@@ -82,18 +81,19 @@ finished n k work = record { refusal = 0; lines = n; steps = k; work = work }
 abbrev pub matchingLines : Pattern → List Macro → ℕ → ℕ
 matchingLines t ms m = matching t (expansion ms m)
 
--- n lines and k steps where b says that the lines are within the largest count, or 12
-abbrev pub finishedIf : Bool → ℕ → ℕ → List ℕ → Outcome
-finishedIf b n k work = cond b (finished n k work) (stopped CountOverflow work)
+-- so many lines, with k steps, or 12
+abbrev pub finishedBy : Total → ℕ → List ℕ → Outcome
+finishedBy (Total.Lines n) k work = finished n k work
+finishedBy Total.TooMany k work = stopped CountOverflow work
 
 -- 12: "over 2^64 − 1", which "leaves the reports written"
 abbrev pub countOf : Pattern → List Macro → ℕ → List ℕ → Outcome
-countOf t ms m work = finishedIf (leb (matchingLines t ms m) most) (matchingLines t ms m) (steps t ms m) (filled t ms m work)
+countOf t ms m work = finishedBy (totalOf (matchingLines t ms m)) (steps t ms m) (filled t ms m work)
 
 -- "1 to 6 come in reading order, item by item; then 7; then 8 over the whole pattern; 9; 10; 11; 12."; "other lent memory is
 -- unchanged"
 unfoldable pub countResult : Reading (List Macro) → reader.Read → ℕ → List ℕ → Outcome
-countResult book pattern m work = answerBy (λ r. stopped r work) (λ x. countOf (x .1) (x .0) m work) (front book pattern reportSize m (length work))
+countResult book pattern m work = answerBy (λ r. stopped r work) (λ (ms, t). countOf t ms m work) (front book pattern (λ t. needed t m) m (length work))
 
 -- what the count of macro m answers, of a book and under a pattern as they are lent
 abbrev pub bookResult : List ℕ → List ℕ → ℕ → List ℕ → Outcome

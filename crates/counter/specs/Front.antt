@@ -1,15 +1,20 @@
 -- Document 01, "Refused": what is refused before any work, in three steps: the book, a pattern, then the macro and the work words.
-use Prim.Native.Nat.{ℕ, suc, _*_}
-use mathlib.Core.Bool.{cond}
+use Prim.Native.Nat.{ℕ, _≤_}
+use mathlib.Core.Path.{_≡_}
+use mathlib.Core.Bool.{Bool, cond}
 use mathlib.Core.List.{List}
 use lib.Dec.{ltb}
 use lib.ListN.{length}
 use Rattle.refusal.specs.declared.Refusal.{Refusal}
 use Rattle.refusal.specs.declared.Refusal.the-variants.{NoSuchMacro, InsufficientSpace}
 use Rattle.book.specs.Format.{Macro}
-use Rattle.book.specs.Reading.{Reading}
+use Rattle.book.specs.Reading.{Reading, readBook, macrosIn}
+use Rattle.book.specs.Answer.{layout}
 use Rattle.pattern.specs.Form.{Pattern}
 use Rattle.pattern.specs.Reader as reader
+use Rattle.pattern.specs.Automata.{Automaton}
+use Rattle.pattern.specs.declared.automaton.Accepting.{Accepting}
+use Rattle.counter.specs.declared.front.Space.{Space}
 
 -- a step refuses, or hands something on
 pub data Settled (A : Type 0) : Type 0 where
@@ -36,17 +41,38 @@ abbrev pub patternStep : reader.Read → Settled Pattern
 patternStep (reader.refused r) = refused r
 patternStep (reader.accepted t) = settled t
 
--- 10: "m not below M"; 11: "fewer words .. than stated", where each of macros 0 to m needs `width` words
-unfoldable pub spaceStep : ℕ → ℕ → ℕ → ℕ → Settled (Unit {0})
-spaceStep macros m width words =
-    cond (ltb m macros)
-    (cond (ltb words (suc m * width)) (refused InsufficientSpace) (settled tt))
-    (refused NoSuchMacro)
+-- "10; 11": whether m is inside, and whether the words are short
+abbrev pub spaceBy : Bool → Bool → Settled (Unit {0})
+spaceBy inside short = cond inside (cond short (refused InsufficientSpace) (settled tt)) (refused NoSuchMacro)
 
--- the steps for a book and one pattern, whose tree gives the words that a macro needs: the macros and the tree
+-- 10: "m not below M"; 11: "fewer words .. than stated", which are `need` words
+unfoldable pub spaceStep : ℕ → ℕ → ℕ → ℕ → Settled (Unit {0})
+spaceStep macros m need words = spaceBy (ltb m macros) (ltb words need)
+
+-- the steps for a book and one pattern, whose tree gives the words that are needed: the macros and the tree
 abbrev pub front : Reading (List Macro) → reader.Read → (Pattern → ℕ) → ℕ → ℕ → Settled (List Macro × Pattern)
-front book pattern width m words = do
+front book pattern need m words = do
   ms ← bookStep book
   t ← patternStep pattern
-  enough ← spaceStep (length ms) m (width t) words
+  enough ← spaceStep (length ms) m (need t) words
   settled (ms, t)
+
+-- What the code hands on with each step.
+
+-- the first: the places of a sound book's macros, and how many there are
+pub record InBook (book offsets : List ℕ) (macros : ℕ) : Type 0 where
+  pub table : offsets ≡ layout book .offsets
+  pub many : macros ≡ length (macrosIn book)
+  pub sound : bookStep (readBook book) ≡ settled (macrosIn book)
+
+-- the second: an accepted pattern's tables
+pub record InPattern (s keys enter : List ℕ) (p : Accepting) : Type 0 where
+  pub tree : Pattern
+  pub sound : patternStep (reader.readPattern s) ≡ settled tree
+  pub tables : Automaton tree keys enter p
+  pub small : p .states ≤ 32
+
+-- the third: nothing
+abbrev pub settledBy : Space → Settled (Unit {0})
+settledBy Space.Enough = settled tt
+settledBy (Space.Refused r) = refused r

@@ -10,7 +10,7 @@ use Rattle.book.specs.declared.item.Item.the-variants.{Key, Call}
 use Rattle.book.specs.declared.macro_items.Items.{Items}
 use Rattle.book.specs.Format.{Macro}
 use Rattle.book.specs.Expansion.{keysOf, expand}
-use Rattle.book.specs.Reading.{readBook, macrosIn}
+use Rattle.book.specs.Reading.{macrosIn}
 use Rattle.book.specs.Answer.{layout}
 use Rattle.pattern.specs.Form.{Pattern}
 use Rattle.pattern.specs.Moves.{states}
@@ -21,7 +21,6 @@ use Rattle.reports.specs.Reports.{spanCount, report}
 use Rattle.reports.specs.Words.{loadedAt}
 use Rattle.counter.specs.declared.counting.BookCount.{BookCount}
 use Rattle.counter.specs.declared.items.MacroCount.{MacroCount}
-use Rattle.counter.specs.Front.{settled, bookStep}
 use Rattle.counter.specs.Counting.{itemSteps, steps, filled, countOf}
 use Rattle.counter.specs.Answers.{outcome}
 
@@ -69,9 +68,3 @@ pub record Filled (keys enter : List ℕ) (p : Accepting) (ms : List Macro) (m :
 -- the count of macro m, where the work words suffice
 unfoldable pub BookCounted : List ℕ → List ℕ → Accepting → List Macro → ℕ → List ℕ → List ℕ → BookCount → Type 0
 BookCounted keys enter p ms m before after r = (t : Pattern) → Automaton t keys enter p → outcome r after ≡ countOf t ms m before
-
--- a sound book, by its layout
-pub record InBook (book offsets : List ℕ) (macros : ℕ) : Type 0 where
-  pub table : offsets ≡ layout book .offsets
-  pub many : macros ≡ length (macrosIn book)
-  pub sound : bookStep (readBook book) ≡ settled (macrosIn book)

@@ -20,7 +20,8 @@ ghost use Rattle.book.specs.Reading.{macrosIn, readBook};
 ghost use Rattle.pattern.specs.Reader.{readPattern};
 ghost use Rattle.counter.specs.Answers.{outcome};
 ghost use Rattle.counter.specs.Counting.{countResult};
-ghost use Rattle.counter.specs.Promises.{BookCounted, Filled, InBook, MacroFits};
+ghost use Rattle.counter.specs.Front.{InBook};
+ghost use Rattle.counter.specs.Promises.{BookCounted, Filled, MacroFits};
 
 // Work words that are enough for every book and pattern: the reports of 1,024 macros with 32 states.
 pub const MOST_WORDS: usize = 1024 * (32 + BEHIND_ROWS);

@@ -1,9 +1,10 @@
 // What is refused before any work, after a sound book and an accepted pattern: the macro's number and the work words.
 use refusal::Refusal;
 ghost use mathlib.Core.Path.{_≡_};
-ghost use Rattle.counter.specs.Answers.{settledBy};
-ghost use Rattle.counter.specs.Front.{spaceStep};
+ghost use Prim.Native.Nat.{suc, _*_};
+ghost use Rattle.counter.specs.Front.{settledBy, spaceStep};
 
+// Whether an operation has its macro and its work words.
 pub enum Space {
     Enough,
     Refused(Refusal),
@@ -12,7 +13,7 @@ pub enum Space {
 // 10 and 11 of the table, for macro m of so many, where each of macros 0 to m needs `width` of the work words. No product
 // is made, so none is too large.
 pub fn space_for(macros: usize, m: usize, width: usize, words: usize) -> Space
-    ensures { λ r. ⌜ settledBy r ≡ spaceStep macros m width words ⌝ }
+    ensures { λ r. ⌜ settledBy r ≡ spaceStep macros m (suc m * width) words ⌝ }
 {
     if macros <= m {
         return Space::Refused(Refusal::NoSuchMacro);

@@ -1,4 +1,5 @@
 -- `front::space_for`: the quotient says the same as the product.
+use Prim.Native.Nat.{suc, _*_}
 use native.Mathlib.Omega.{arith}
 use Rattle.counter.proofs.FrontLaws.{no-macro, none-needed, quotient-short, quotient-enough}
 use borrow.Author.Needs.{needs}
@@ -6,7 +7,7 @@ use Rattle.counter.proofs.front.space_for.Statement.{statement}
 use Rattle.counter.proofs.front.space_for.Tie as tie
 
 returns : tie.Need-returns
-returns c = let a = c .before .args in no-macro (a .macros) (a .m) (a .width) (a .words) (omega arith)
+returns c = let a = c .before .args in no-macro (a .macros) (a .m) (suc (a .m) * a .width) (a .words) (omega arith)
 
 returns-2 : tie.Need-returns-2
 returns-2 c = let a = c .before .before .args in none-needed (a .macros) (a .m) (a .width) (a .words) (omega arith) (omega arith)
