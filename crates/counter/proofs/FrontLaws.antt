@@ -19,12 +19,12 @@ use Rattle.book.specs.declared.layout.Layout.{Layout}
 use Rattle.book.proofs.LayoutLaws.{layout-refused, layout-sound, layout-count}
 use Rattle.pattern.specs.Form.{Pattern}
 use Rattle.pattern.specs.Reader as reader
-use Rattle.pattern.specs.Automata.{Automaton, VerdictOn, KeysFrom, EnterFrom}
+use Rattle.pattern.specs.Automata.{VerdictOn, KeysFrom, EnterFrom}
 use Rattle.pattern.specs.declared.automaton.Accepting.{Accepting}
 use Rattle.pattern.specs.declared.automaton.Verdict.{Verdict}
 use Rattle.pattern.proofs.Readings.{read-accepted, read-refused, states-of}
 use Rattle.counter.specs.declared.front.Space.{Space}
-use Rattle.counter.specs.Front.{Settled, refused, settled, _>>=_, answerBy, bookStep, patternStep, spaceBy, spaceStep, front, InBook, InPattern, settledBy}
+use Rattle.counter.specs.Front.{refused, settled, _>>=_, answerBy, bookStep, patternStep, spaceBy, spaceStep, front, InBook, InPattern, settledBy}
 use Rattle.counter.specs.Counting.{stopped, countOf, needed, countResult}
 
 -- The book, by what `layout_of` answers.
@@ -33,7 +33,7 @@ module _ (book : List ℕ) {l : Layout} (e : l ≡ layout book) where
   book-refuses f = ap bookStep (layout-refused book e f)
 
   module _ {n : ℕ} (f : l .answer ≡ Checked.Sound n) where
-    pub book-settles : bookStep (readBook book) ≡ settled (macrosIn book)
+    book-settles : bookStep (readBook book) ≡ settled (macrosIn book)
     book-settles = ap bookStep (layout-sound book e f)
 
     pub book-in : InBook book (l .offsets) n
@@ -113,10 +113,10 @@ module _ (book : Reading (List Macro)) (pattern : reader.Read) (need : Pattern �
     front-pattern f = rw (e, f) refl
 
     module _ {t : Pattern} (f : patternStep pattern ≡ settled t) where
-      pub front-space : {r : Refusal} → spaceStep (length ms) m (need t) words ≡ refused r → front book pattern need m words ≡ refused r
+      front-space : {r : Refusal} → spaceStep (length ms) m (need t) words ≡ refused r → front book pattern need m words ≡ refused r
       front-space g = rw (e, f, g) refl
 
-      pub front-settled : spaceStep (length ms) m (need t) words ≡ settled tt → front book pattern need m words ≡ settled (ms, t)
+      front-settled : spaceStep (length ms) m (need t) words ≡ settled tt → front book pattern need m words ≡ settled (ms, t)
       front-settled g = rw (e, f, g) refl
 
 -- A sound book and an accepted pattern: the third step's answer is that of them all.
@@ -136,7 +136,7 @@ module _ {book offsets : List ℕ} {macros : ℕ} (i : InBook book offsets macro
         (space-settles (length (macrosIn book)) m (need (a .tree)) words x told f)
 
 -- what is answered then, by the two tests
-pub front-answer : {B : Type 0} (f : Refusal → B) (g : List Macro × Pattern → B) (ms : List Macro) (rest : List ℕ) (t : Pattern) (need : Pattern → ℕ) (m words : ℕ) →
+front-answer : {B : Type 0} (f : Refusal → B) (g : List Macro × Pattern → B) (ms : List Macro) (rest : List ℕ) (t : Pattern) (need : Pattern → ℕ) (m words : ℕ) →
     answerBy f g (front (Reading.got ms rest) (reader.accepted t) need m words)
     ≡ cond (ltb m (length ms)) (cond (ltb words (need t)) (f InsufficientSpace) (g (ms, t))) (f NoSuchMacro)
 unfolding spaceStep

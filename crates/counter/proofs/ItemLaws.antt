@@ -38,11 +38,11 @@ use Rattle.counter.specs.Counting.{itemSteps}
 use Rattle.counter.specs.Promises.{Served, AllServed, AfterItem, ItemsFit, ItemsCounted}
 
 -- the steps of no item, and of one more
-pub steps-none : (t : Pattern) (called : ℕ → List ℕ) → itemSteps t called [] ≡ 0
+steps-none : (t : Pattern) (called : ℕ → List ℕ) → itemSteps t called [] ≡ 0
 unfolding itemSteps
 steps-none t called = sum-none (λ k. pairs t (expand called (take k [])))
 
-pub steps-more : (t : Pattern) (called : ℕ → List ℕ) (is : List Item) (i : Item) → itemSteps t called (is ++ (i ∷ [])) ≡ itemSteps t called is + pairs t (expand called is)
+steps-more : (t : Pattern) (called : ℕ → List ℕ) (is : List Item) (i : Item) → itemSteps t called (is ++ (i ∷ [])) ≡ itemSteps t called is + pairs t (expand called is)
 unfolding itemSteps
 steps-more t called is i =
     ap (λ (n : ℕ). sumBelow n (λ k. pairs t (expand called (take k (is ++ (i ∷ [])))))) (length-append is (i ∷ []))

@@ -14,7 +14,7 @@ use reports::Total;
 use reports::in_report;
 use reports::load;
 use reports::store;
-use reports::total_of;
+use reports::total_in;
 ghost use mathlib.Core.Path.{_≡_};
 ghost use Rattle.book.specs.Reading.{macrosIn, readBook};
 ghost use Rattle.pattern.specs.Reader.{readPattern};
@@ -88,7 +88,7 @@ fn counted_macro(
     let steps = fill(book, offsets, task, work, keys, enter);
     let at = m * (p.states + BEHIND_ROWS);
     let report = load(work, at, p.states as u64);
-    match total_of(in_report(report), p) {
+    match total_in(in_report(report), p) {
         Total::Lines(lines) => BookCount::Lines(lines, steps),
         Total::TooMany => BookCount::Refused(Refusal::CountOverflow),
     }

@@ -1,4 +1,5 @@
-// The count over a book; and, for whoever links the counter, the operations of document 01 from the crates below.
+// The count over a book, and the last of the steps before any work, which operations share; and, for whoever links the counter, the
+// operations of document 01 from the crates below.
 mod counting;
 mod front;
 mod items;

@@ -1,13 +1,11 @@
 -- A report and the joining of two reports, field by field, as document 01 lists them.
 use Prim.Native.Nat.{ℕ, suc, _+_, _≤_}
 use native.Mathlib.Omega.{arith}
-use native.Mathlib.Nat.{add-zero, zero-add}
 use mathlib.Core.Path.{_≡_, refl, sym, ap, _∙_}
-use mathlib.Core.Bool.{Bool, true, false, not, cond, _&&_}
+use mathlib.Core.Bool.{Bool, true, false, not, cond}
 use mathlib.Core.List.{List, [], _∷_}
 use lib.Dec.{leb, eqb}
 use lib.ListN.{getD}
-use borrow.Author.Tests.{le-leb, leb-true, leb-false}
 use Rattle.stateset.specs.Set.{bit, word, common}
 use Rattle.pattern.specs.Form.{Pattern}
 use Rattle.pattern.specs.Meaning.{matches}
@@ -16,16 +14,16 @@ use Rattle.lines.specs.Lines.{countIn}
 use Rattle.lines.specs.Parts.{firstPart, laterParts, partsBefore, lastPart}
 use Rattle.spans.specs.declared.span.Span.{Span}
 use Rattle.spans.specs.declared.span.JoinedSpan.{JoinedSpan}
-use Rattle.spans.specs.Spans.{rowsOf, noRows, openSpan, endedSpan, spanWith, span, closedWith, closedLines}
-use Rattle.spans.specs.Joining.{stateCount, onward, joinedWith}
-use Rattle.spans.proofs.RowLaws.{count-all}
+use Rattle.spans.specs.Spans.{rowsOf, noRows, openSpan, endedSpan, spanWith, span, closedWith}
+use Rattle.spans.specs.Joining.{onward, joinedWith}
+use Rattle.spans.proofs.RowLaws.{states-all}
 use Rattle.spans.proofs.SpanLaws.{span-by, closed-by, joined-by}
 use Rattle.reports.specs.declared.report.Report.{Report}
 use Rattle.reports.specs.declared.span_count.SpanCount.{SpanCount}
 use Rattle.reports.specs.declared.total.Total.{Total}
 use Rattle.reports.specs.Totals.{most, totalOf, bothTotals, lineIf}
 use Rattle.reports.specs.Reports.{flagOf, shownOf, spanCount, reportOf, report, withLine, joinedCounts, closedIn, inReport, joinedReports}
-use Rattle.reports.proofs.TotalLaws.{few-lines, many-lines, total-sum}
+use Rattle.reports.proofs.TotalLaws.{few-lines, many-lines, total-sum, line-told}
 
 -- flag 0, "without LF": "heads, closed, tail are 0"
 abbrev pub withoutEnd : ℕ → (ℕ → ℕ → Bool) → Report
@@ -87,11 +85,6 @@ module _ (a : Report) (small : a .closed ≤ most) where
       go true = sym (many-lines (suc most) (omega arith))
       go false = sym (few-lines (a .closed) small)
 
--- a line, or none
-line-number : (c : Bool) → lineIf c ≡ totalOf (cond c 1 0)
-line-number true = refl
-line-number false = refl
-
 pub joined-fields : (a b : Report) → a .s ≤ 32 → a .closed ≤ most → b .closed ≤ most → joinedReports a b ≡ joinedFields (a .s) (eqb (a .flag) 0) (eqb (b .flag) 0) a b
 unfolding joinedReports joinedCounts inReport reportOf
 joined-fields a b small f g = go (eqb (a .flag) 0) (eqb (b .flag) 0) refl refl
@@ -111,7 +104,7 @@ joined-fields a b small f g = go (eqb (a .flag) 0) (eqb (b .flag) 0) refl refl
         let both : bothTotals (closedIn a) (closedIn b) ≡ totalOf (m + n) = rw (e, h) (total-sum m n) in
         ap (λ (c : Total). record { span = j .span; closed = c })
         (ap (λ (x : Total). bothTotals x (lineIf (j .closes))) both
-        ∙ ap (bothTotals (totalOf (m + n))) (line-number (j .closes))
+        ∙ ap (bothTotals (totalOf (m + n))) (line-told (j .closes))
         ∙ total-sum (m + n) (cond (j .closes) 1 0))
 
     go : (x y : Bool) → eqb (a .flag) 0 ≡ x → eqb (b .flag) 0 ≡ y → joinedReports a b ≡ joinedFields s x y a b
@@ -120,7 +113,7 @@ joined-fields a b small f g = go (eqb (a .flag) 0) (eqb (b .flag) 0) refl refl
         let n : ℕ = cond y 0 (closedNumber b) in
         let same =
         joined-by left right
-        ∙ ap (λ (k : ℕ). joinedWith k (not (eqb (a .flag) 0)) (not (eqb (b .flag) 0)) left right) (count-all s small)
+        ∙ ap (λ (k : ℕ). joinedWith k (not (eqb (a .flag) 0)) (not (eqb (b .flag) 0)) left right) (states-all s small)
         ∙ ap (λ (z : Bool). joinedWith s (not z) (not (eqb (b .flag) 0)) left right) d
         ∙ ap (λ (z : Bool). joinedWith s (not x) (not z) left right) e in
         ap (λ (j : JoinedSpan). reportOf (withLine j (bothTotals (closedIn a) (closedIn b)))) same

@@ -4,7 +4,7 @@ use native.Mathlib.Omega.{arith}
 use mathlib.Core.Path.{_≡_, refl, sym, ap, _∙_}
 use mathlib.Core.Bool.{Bool, true, false, not, cond}
 use mathlib.Core.List.{List, [], _∷_, _++_, append-nil}
-use lib.Dec.{leb, eqb}
+use lib.Dec.{eqb}
 use Rattle.runs.specs.Keys.{isKey, isRun}
 use Rattle.pattern.specs.Form.{Pattern, atomCount}
 use Rattle.pattern.specs.Moves.{states}
@@ -16,29 +16,22 @@ use Rattle.spans.specs.declared.span.Span.{Span}
 use Rattle.spans.specs.Spans.{span, closedLines, closesBetween}
 use Rattle.spans.specs.Joining.{endLines}
 use Rattle.spans.specs.Pairs.{pairs, pairsIn}
-use Rattle.spans.proofs.RowLaws.{count-few}
+use Rattle.spans.proofs.RowLaws.{states-few}
 use Rattle.spans.proofs.JoinLaw.{join-spans, closed-append}
-use Rattle.spans.proofs.KeyLaw.{span-size, extend-span, closed-more}
+use Rattle.spans.proofs.KeyLaw.{extend-span, closed-more}
 use Rattle.spans.proofs.EndLaws.{matching-ends, ends-few}
 use Rattle.spans.proofs.PairLaws.{pairs-of}
-use Rattle.spans.proofs.SpanLaws.{empty-span, closed-empty, closed-none, joined-few, extended-few}
-use Rattle.reports.specs.declared.report.Report.{Report}
+use Rattle.spans.proofs.SpanLaws.{span-size, empty-span, closed-empty, closed-none, joined-few, extended-few}
 use Rattle.reports.specs.declared.span_count.SpanCount.{SpanCount}
 use Rattle.reports.specs.declared.total.Total.{Total}
-use Rattle.reports.specs.Totals.{totalOf, bothTotals, lineIf}
+use Rattle.reports.specs.Totals.{totalOf, bothTotals}
 use Rattle.reports.specs.Reports.{spanCount, flagOf, shownOf, flat, reportOf, report, withLine, emptyCount, extendedCount, joinedCounts, totalIn, closedIn, inReport, joinedReports}
-use Rattle.reports.proofs.TotalLaws.{few-lines, total-sum}
-use Rattle.reports.proofs.Made.{spanWhere}
+use Rattle.reports.proofs.TotalLaws.{few-lines, total-sum, line-told}
 
 -- the empty run
 pub empty-count : (t : Pattern) → atomCount t ≤ 29 → emptyCount (states t) ≡ spanCount t []
 unfolding spanCount
 empty-count t few = rw (empty-span t few, closed-empty t) refl
-
--- a line more, or none
-line-told : (b : Bool) → lineIf b ≡ totalOf (cond b 1 0)
-line-told true = refl
-line-told false = refl
 
 -- n closed lines and perhaps one more
 with-line : (x : Span) (b : Bool) (n m : ℕ) → m ≡ n + cond b 1 0 → withLine (record { span = x; closes = b }) (totalOf n) ≡ record { span = x; closed = totalOf m }
@@ -82,7 +75,7 @@ count-size t w = span-size t w
 
 -- what is made has at most 32 states
 pub empty-small : (s : ℕ) → emptyCount s .span .s ≤ 32
-empty-small s = count-few s
+empty-small s = states-few s
 
 pub extended-small : (keys enter : List ℕ) (p : Accepting) (a : SpanCount) (k : ℕ) → extendedCount keys enter p a k .span .s ≤ 32
 unfolding extendedCount

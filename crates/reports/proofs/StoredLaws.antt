@@ -55,7 +55,7 @@ module _ (t : Pattern) (few : atomCount t ≤ 29) (w : List ℕ) where
       ap (λ (r : Report). length (reportWords r)) whole
       ∙ made-length (states t) (report t w .rows) _ _ _ _ (omega arith) (ap length rows-in ∙ span-rows t w)
 
-  pub loaded-words : (rest : List ℕ) → loaded (states t) (reportWords (report t w) ++ rest) ≡ report t w
+  loaded-words : (rest : List ℕ) → loaded (states t) (reportWords (report t w) ++ rest) ≡ report t w
   loaded-words rest =
       ap (λ (r : Report). loaded (states t) (reportWords r ++ rest)) whole
       ∙ made-loaded (states t) (report t w .rows) _ _ _ _ (omega arith) (ap length rows-in ∙ span-rows t w) rest (rw rows-in (span-padded t few w))

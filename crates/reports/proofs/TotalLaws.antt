@@ -1,14 +1,12 @@
 -- Laws of totals.
 use Prim.Native.Nat.{ℕ, suc, _+_, _-_, _^_, _<_, _≤_}
 use native.Mathlib.Omega.{arith}
-use mathlib.Core.Path.{_≡_, refl, sym, ap, _∙_}
+use mathlib.Core.Path.{_≡_, refl, sym, _∙_}
 use mathlib.Core.Bool.{Bool, true, false, cond}
 use lib.Dec.{leb}
-use mir.Val.{Fits}
-use mir.Syntax.{w64}
-use borrow.Author.Tests.{leb-true, leb-false, le-leb, lt-leb}
+use borrow.Author.Tests.{leb-false, le-leb, lt-leb}
 use Rattle.reports.specs.declared.total.Total.{Total}
-use Rattle.reports.specs.Totals.{most, totalOf, valueOf, bothTotals}
+use Rattle.reports.specs.Totals.{most, totalOf, valueOf, bothTotals, lineIf}
 
 -- a number within the largest, and one beyond it
 pub few-lines : (n : ℕ) → n ≤ most → totalOf n ≡ Total.Lines n
@@ -32,6 +30,11 @@ total-sum m n = go (leb m most) (leb n most) refl refl
     go true false e f = let h = leb-false n most f in over (m + suc most) (omega arith) (omega arith)
     go false true e f = let h = leb-false m most e in over (suc most + n) (omega arith) (omega arith)
     go false false e f = let h = leb-false m most e in over (suc most + suc most) (omega arith) (omega arith)
+
+-- a line, or none
+pub line-told : (b : Bool) → lineIf b ≡ totalOf (cond b 1 0)
+line-told true = refl
+line-told false = refl
 
 -- What `sum` makes of its parts.
 module _ (a b : Total) where

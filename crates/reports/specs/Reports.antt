@@ -29,7 +29,7 @@ shownOf false n = 0
 shownOf true (Total.Lines n) = n
 shownOf true Total.TooMany = 0
 
--- both, flat
+-- the fields of a report
 abbrev pub flat : ℕ → ℕ → SpanCount → Report
 flat flag closed a = record { s = a .span .s; rows = a .span .rows; flag = flag; heads = a .span .heads; closed = closed; tail = a .span .tail }
 
@@ -40,7 +40,7 @@ reportOf a = flat (flagOf (a .span .ended) (a .closed)) (shownOf (a .span .ended
 unfoldable pub report : Pattern → List ℕ → Report
 report t w = reportOf (spanCount t w)
 
--- Operations on any numbers.
+-- Operations on any numbers. Closed lines that a caller says of a run without a line end are added up like any others.
 
 -- a span after n closed lines, and the line that it closes
 abbrev pub withLine : JoinedSpan → Total → SpanCount
@@ -64,9 +64,11 @@ totalIn p a = bothTotals (a .closed) (Total.Lines (endLines p (a .span)))
 
 -- Joining reports: "it ignores rows and state bits at s and above and fields that the flag empties; a flag over 2 is read as 2".
 
+-- the closed lines in a report
 abbrev pub closedIn : Report → Total
 closedIn a = cond (eqb (a .flag) 0) (Total.Lines 0) (cond (leb 2 (a .flag)) Total.TooMany (Total.Lines (a .closed)))
 
+-- its span and they
 unfoldable pub inReport : Report → SpanCount
 inReport a = record { span = record { s = a .s; rows = a .rows; ended = not (eqb (a .flag) 0); heads = a .heads; tail = a .tail }; closed = closedIn a }
 

@@ -12,7 +12,7 @@ most = 2 ^ 64 - 1
 abbrev pub totalOf : ℕ → Total
 totalOf n = cond (leb n most) (Total.Lines n) Total.TooMany
 
--- a number that gives a total; beyond the largest count any would do
+-- a number whose total this is; beyond the largest count any would do
 abbrev pub valueOf : Total → ℕ
 valueOf (Total.Lines n) = n
 valueOf Total.TooMany = suc most

@@ -15,7 +15,7 @@ pub use span_count::SpanCount;
 pub use span_count::empty_count;
 pub use span_count::extended;
 pub use span_count::joined;
-pub use span_count::total_of;
+pub use span_count::total_in;
 pub use total::Total;
 pub use total::sum;
 pub use words::load;

@@ -12,7 +12,7 @@ use stateset::chosen;
 ghost use mathlib.Core.Path.{_≡_};
 ghost use Rattle.reports.specs.Reports.{emptyCount, extendedCount, joinedCounts, totalIn, withLine};
 
-// What is kept of a run.
+// A run's span, and how many closed lines it has.
 pub struct SpanCount {
     pub span: Span,
     // How many lines match between the first line end and the last.
@@ -68,7 +68,7 @@ pub fn joined(a: SpanCount, b: SpanCount) -> SpanCount
 }
 
 // How many lines of the run match.
-pub fn total_of(a: SpanCount, p: Accepting) -> Total
+pub fn total_in(a: SpanCount, p: Accepting) -> Total
     ensures { λ r. ⌜ r ≡ totalIn p a ⌝ }
 {
     let closed = a.closed;

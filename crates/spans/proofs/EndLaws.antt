@@ -3,7 +3,7 @@ use Prim.Native.Nat.{ℕ, _+_, _<_, _≤_}
 use native.Mathlib.Omega.{arith}
 use native.Mathlib.Nat.{zero-add}
 use mathlib.Core.Path.{_≡_, refl, sym, ap, _∙_}
-use mathlib.Core.Bool.{Bool, true, false, not, cond, _&&_, and-comm, Bool·not-not}
+use mathlib.Core.Bool.{Bool, true, false, not, _&&_, and-comm, Bool·not-not}
 use mathlib.Core.List.{List, [], _∷_}
 use lib.Dec.{eqb}
 use lib.ListN.{getD}
@@ -24,8 +24,8 @@ use Rattle.lines.proofs.Tallying.{at-most-one}
 use Rattle.spans.specs.declared.span.Span.{Span}
 use Rattle.spans.specs.Spans.{spanWith, span, closedWith, closedLines}
 use Rattle.spans.specs.Joining.{stateCount, lastLine, endsWith, endLines}
-use Rattle.spans.proofs.RowLaws.{count-all}
-use Rattle.spans.proofs.JoinLaw.{runRows, headsOf, row-of}
+use Rattle.spans.proofs.RowLaws.{states-all, row-of}
+use Rattle.spans.proofs.JoinLaw.{headsOf}
 
 -- a set that has line-start
 common-start : (s x : ℕ) → 0 < s → common s x 1 ≡ bit x 0
@@ -62,7 +62,7 @@ module _ (t : Pattern) (few : atomCount t ≤ 29) (p : Accepting) (tables : p .a
   matching-ends w run = go (laterParts w) refl
     where
       all : stateCount (states t) ≡ states t
-      all = count-all (states t) (omega arith)
+      all = states-all (states t) (omega arith)
 
       go : (ls : List (List ℕ)) → laterParts w ≡ ls → matching t w ≡ closedWith t ls + endsWith (stateCount (spanWith t w ls .s)) p (spanWith t w ls .ended) (spanWith t w ls)
       go [] e =

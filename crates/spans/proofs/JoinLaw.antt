@@ -1,19 +1,15 @@
 -- The joined spans of two runs are the span of the one after the other, and tell whether a line that matches is closed between.
 use Prim.Native.Nat.{ℕ, _+_, _<_, _≤_}
 use native.Mathlib.Omega.{arith}
-use native.Mathlib.Nat.{add-comm, add-assoc, add-zero, zero-add}
 use mathlib.Core.Path.{_≡_, refl, sym, ap, _∙_}
 use mathlib.Core.Bool.{Bool, true, false, cond, _&&_}
 use mathlib.Core.List.{List, [], _∷_, _++_}
-use lib.Dec.{ltb}
 use lib.ListN.{getD}
-use borrow.Author.Tests.{lt-ltb, ltb-true}
 use Rattle.runs.specs.Keys.{isLine, isRun}
 use Rattle.runs.proofs.KeyLaws.{line-append}
 use Rattle.stateset.specs.Set.{bit, word, anyBelow, common}
-use Rattle.stateset.proofs.Sets.{word-ext, bit-word}
+use Rattle.stateset.proofs.Sets.{bit-word}
 use Rattle.stateset.proofs.Some.{any-ext}
-use Rattle.stateset.proofs.Tabled.{tabled-at, tabled-same}
 use Rattle.pattern.specs.Form.{Pattern, atomCount}
 use Rattle.pattern.specs.Meaning.{matches}
 use Rattle.pattern.specs.Moves.{states, leads, acceptedFrom}
@@ -23,13 +19,10 @@ use Rattle.lines.specs.Parts.{firstPart, laterParts, lastPart}
 use Rattle.lines.proofs.PartLaws.{countBefore, countOne, lineAcross, first-into, later-into, first-kept, later-kept, lastThen, last-open, before-open, last-closed, before-closed, first-line, later-lines, last-line}
 use Rattle.spans.specs.declared.span.Span.{Span}
 use Rattle.spans.specs.declared.span.JoinedSpan.{JoinedSpan}
-use Rattle.spans.specs.Spans.{rowsOf, endedSpan, spanWith, span, closedWith, closedLines, closesWith, closesBetween}
-use Rattle.spans.specs.Joining.{stateCount, onward, joinedWith, joinedSpans}
-use Rattle.spans.proofs.RowLaws.{count-all}
-
--- the row of a state that there is
-pub row-of : (s : ℕ) (X : ℕ → ℕ → Bool) (q : ℕ) → q < s → s ≤ 32 → getD (rowsOf s X) q 0 ≡ word s (X q)
-row-of s X q h l = tabled-at (λ q. cond (ltb q s) (word s (X q)) 0) 32 q (omega arith) ∙ rw (lt-ltb q s h) refl
+use Rattle.spans.specs.Spans.{rowsOf, spanWith, span, closedWith, closedLines, closesWith, closesBetween}
+use Rattle.spans.specs.Joining.{onward, joinedSpans}
+use Rattle.spans.proofs.RowLaws.{states-all, row-of, rows-same}
+use Rattle.spans.proofs.SpanLaws.{ends-same}
 
 -- the rows of a run without a line end: where it leads from each state
 abbrev pub runRows : Pattern → List ℕ → List ℕ
@@ -38,18 +31,6 @@ runRows t w = rowsOf (states t) (λ q p. leads t q w p)
 -- the states from which a line is accepted
 abbrev pub headsOf : Pattern → List ℕ → ℕ
 headsOf t l = word (states t) (λ q. acceptedFrom t q l)
-
--- rows with the same states are the same
-pub rows-same : (s : ℕ) (X Y : ℕ → ℕ → Bool) → ((q p : ℕ) → q < s → p < s → X q p ≡ Y q p) → rowsOf s X ≡ rowsOf s Y
-rows-same s X Y e = tabled-same (λ q. cond (ltb q s) (word s (X q)) 0) (λ q. cond (ltb q s) (word s (Y q)) 0) 32 0 (λ q g h. go q (ltb q s) refl)
-  where
-    go : (q : ℕ) (b : Bool) → ltb q s ≡ b → cond b (word s (X q)) 0 ≡ cond b (word s (Y q)) 0
-    go q true i = word-ext s (X q) (Y q) (λ p l. e q p (ltb-true q s i) l)
-    go q false i = refl
-
--- a span with the same heads and tail is the same
-pub ends-same : (s : ℕ) (H I T U : ℕ → Bool) → ((q : ℕ) → q < s → H q ≡ I q) → ((p : ℕ) → p < s → T p ≡ U p) → endedSpan s H T ≡ endedSpan s I U
-ends-same s H I T U f g = rw (word-ext s H I f, word-ext s T U g) refl
 
 -- a span, and whether a line is closed
 abbrev pub spanAnd : Bool → Span → JoinedSpan
@@ -102,11 +83,11 @@ module _ (t : Pattern) (few : atomCount t ≤ 29) where
         → joinedSpans (spanWith t u lu) (spanWith t v lv) ≡ spanAnd (closesWith t lu v lv) (spanWith t (u ++ v) (laterParts (u ++ v)))
     unfolding joinedSpans
     join-with [] [] e f =
-        rw (later-into u v e, f, count-all (states t) (omega (arith, few)))
+        rw (later-into u v e, f, states-all (states t) (omega (arith, few)))
         (ap (λ (rows : List ℕ). spanAnd false (record { s = states t; rows = rows; ended = false; heads = 0; tail = 0 }))
         (rows-same (states t) (λ q. onward (states t) (getD (runRows t u) q 0) (runRows t v)) (λ q p. leads t q (u ++ v) p) (rows-join u v)))
     join-with [] (m ∷ ms) e f =
-        rw (later-into u v e, f, count-all (states t) (omega (arith, few)))
+        rw (later-into u v e, f, states-all (states t) (omega (arith, few)))
         (both-same refl
         (ends-same (states t)
         (λ q. common (states t) (getD (runRows t u) q 0) (headsOf t (firstPart v)))
@@ -116,7 +97,7 @@ module _ (t : Pattern) (few : atomCount t ≤ 29) where
         (heads-join u v e)
         (kept (leads t 0 (lastPart m ms)))))
     join-with (l ∷ ls) [] e f =
-        rw (later-kept u v e, count-all (states t) (omega (arith, few)))
+        rw (later-kept u v e, states-all (states t) (omega (arith, few)))
         (both-same refl
         (ends-same (states t)
         (bit (headsOf t (firstPart u)))
@@ -129,7 +110,7 @@ module _ (t : Pattern) (few : atomCount t ≤ 29) where
         ∙ sym (leads-append t (lastPart l ls) v 0 p (omega arith))
         ∙ ap (λ (w : List ℕ). leads t 0 w p) (sym (last-open l ls v f)))))
     join-with (l ∷ ls) (m ∷ ms) e f =
-        rw (later-kept u v e, count-all (states t) (omega (arith, few)))
+        rw (later-kept u v e, states-all (states t) (omega (arith, few)))
         (both-same (across (lastPart l ls) (firstPart v) (last-line l ls (rw e at (later-lines u runs-u))) (first-line v runs-v))
         (ends-same (states t)
         (bit (headsOf t (firstPart u)))

@@ -7,10 +7,10 @@ use mathlib.Core.Bool.{Bool, true, false, cond, _&&_}
 use mathlib.Core.List.{List, [], _∷_, _++_}
 use lib.Dec.{ltb, eqb}
 use lib.ListN.{getD}
-use borrow.Author.Tests.{ltb-true, ltb-false, eqb-true, eqb-false, eq-eqb, ne-eqb}
+use borrow.Author.Tests.{ltb-true, ltb-false, eqb-true, eqb-false, ne-eqb}
 use Rattle.runs.specs.Keys.{isKey, lineEnd, isRun, lineKey}
-use Rattle.runs.proofs.KeyLaws.{key-of-line, run-none, run-cons}
-use Rattle.stateset.specs.Set.{bit, word, anyBelow, common}
+use Rattle.runs.proofs.KeyLaws.{key-of-line}
+use Rattle.stateset.specs.Set.{bit, word, common}
 use Rattle.stateset.proofs.Sets.{bit-word, bits-ext, word-ext, word-high, word-one}
 use Rattle.stateset.proofs.Some.{any-ext, any-at}
 use Rattle.pattern.specs.Form.{Pattern, atomCount}
@@ -20,21 +20,21 @@ use Rattle.pattern.specs.Automata.{Automaton}
 use Rattle.pattern.specs.declared.automaton.Accepting.{Accepting}
 use Rattle.pattern.proofs.Readings.{accepting-of}
 use Rattle.pattern.proofs.Leading.{leads-none, accepted-is}
-use Rattle.lines.specs.Moving.{moved, lookedUp}
+use Rattle.lines.specs.Moving.{moved}
 use Rattle.lines.specs.Parts.{firstPart, laterParts, lastPart}
 use Rattle.lines.proofs.Reaching.{looked-up, leads-high, leads-more}
 use Rattle.lines.proofs.PartLaws.{lastThen, first-kept, later-into, later-kept, last-open, end-part, end-first, key-part, last-one, before-none}
 use Rattle.spans.specs.declared.span.Span.{Span}
-use Rattle.spans.specs.declared.span.JoinedSpan.{JoinedSpan}
 use Rattle.spans.specs.Spans.{noRows, spanWith, span, closedWith, closedLines, closesWith, closesBetween}
 use Rattle.spans.specs.Joining.{stateCount, endSpan, joinedWith, joinedSpans, keyed, movedWith, movedSpan, extendedSpan}
-use Rattle.spans.proofs.RowLaws.{count-all}
-use Rattle.spans.proofs.JoinLaw.{spanAnd, runRows, headsOf, row-of, rows-same, ends-same, join-spans, closed-append}
+use Rattle.spans.proofs.RowLaws.{states-all, row-of, rows-same}
+use Rattle.spans.proofs.SpanLaws.{span-size, ends-same}
+use Rattle.spans.proofs.JoinLaw.{spanAnd, runRows, headsOf, join-spans, closed-append}
 
 -- Words of a run.
 module _ (t : Pattern) (few : atomCount t ≤ 29) (q : ℕ) (inside : q < states t) where
   -- a word has no more states than the pattern
-  pub row-wide : (w : List ℕ) → word (states t) (leads t q w) ≡ word 32 (leads t q w)
+  row-wide : (w : List ℕ) → word (states t) (leads t q w) ≡ word 32 (leads t q w)
   row-wide w = bits-ext (word (states t) (leads t q w)) (word 32 (leads t q w)) (λ p. go p (ltb p (states t)) refl)
     where
       high : (p : ℕ) → states t ≤ p → (b : Bool) → ltb p 32 ≡ b → bit (word 32 (leads t q w)) p ≡ false
@@ -84,15 +84,6 @@ heads-same a s h i z e rows = go (a .ended)
     go true = rw (e (a .tail)) refl
     go false = rw (word-ext (stateCount (a .s)) (λ q. common (stateCount (a .s)) (getD (a .rows) q 0) h) (λ q. common (stateCount (a .s)) (getD (a .rows) q 0) i) (λ q l. e (getD (a .rows) q 0))) refl
 
--- the span of a run has the pattern's states
-pub span-size : (t : Pattern) (w : List ℕ) → span t w .s ≡ states t
-unfolding span
-span-size t w = go (laterParts w)
-  where
-    go : (ls : List (List ℕ)) → spanWith t w ls .s ≡ states t
-    go [] = refl
-    go (l ∷ ls) = refl
-
 -- a key that is no line end closes none
 none-closed : (t : Pattern) (w : List ℕ) (k : ℕ) → eqb lineEnd k ≡ false → closesBetween t w (k ∷ []) ≡ false
 unfolding closesBetween
@@ -117,8 +108,8 @@ unfolding span
 end-span t = rw (end-part, end-first, last-one [], ← start-word t) refl
 
 module _ {t : Pattern} {keys enter : List ℕ} {p : Accepting} (d : Automaton t keys enter p) where
-  pub span-count : (w : List ℕ) → stateCount (span t w .s) ≡ states t
-  span-count w = ap stateCount (span-size t w) ∙ count-all (states t) (omega (arith, d .few))
+  span-count : (w : List ℕ) → stateCount (span t w .s) ≡ states t
+  span-count w = ap stateCount (span-size t w) ∙ states-all (states t) (omega (arith, d .few))
 
   -- a line end
   end-joined : (w : List ℕ) → joinedSpans (span t w) (endSpan (span t w .s) p) ≡ joinedSpans (span t w) (span t (lineEnd ∷ []))

@@ -3,7 +3,7 @@ use Prim.Native.Nat.{ℕ, _+_, _≤_}
 use native.Mathlib.Omega.{arith}
 use mir.Val.{Fits}
 use mir.Syntax.{w64}
-use mathlib.Core.Path.{_≡_, refl, sym, ap, _∙_}
+use mathlib.Core.Path.{_≡_, refl}
 use mathlib.Core.Bool.{Bool, true, false, not, cond, _&&_}
 use mathlib.Core.List.{List}
 use lib.Dec.{eqb}
@@ -20,7 +20,7 @@ use Rattle.spans.specs.declared.span.JoinedSpan.{JoinedSpan}
 use Rattle.spans.specs.Spans.{rowsOf, noRows}
 use Rattle.spans.specs.Joining.{stateCount, emptySpan, onward, joinedSpans, keyed, movedSpan, extendedSpan, lastLine, endLines}
 use Rattle.spans.specs.Pairs.{pairsIn}
-use Rattle.spans.proofs.RowLaws.{Building, building-done, size-made, count-few}
+use Rattle.spans.proofs.RowLaws.{Building, building-done, size-made, states-few}
 
 -- a span without a line end, and one with
 abbrev pub ofRows : ℕ → List ℕ → Span
@@ -95,7 +95,7 @@ module _ (p : Accepting) (a : Span) {s : ℕ} (c : s ≡ stateCount (a .s)) wher
 module _ (a : Span) {s : ℕ} (c : s ≡ stateCount (a .s)) where
   pub pairs-tail : {w n : ℕ} → a .ended ≡ true → w ≡ word s (bit (a .tail)) → n ≡ countBelow 64 (bit w) → n ≡ pairsIn a
   unfolding pairsIn
-  pairs-tail e w n = let few : s ≤ 32 = rw c (count-few (a .s)) in rw (e, ← c) (size-made s (a .tail) few w n)
+  pairs-tail e w n = let few : s ≤ 32 = rw c (states-few (a .s)) in rw (e, ← c) (size-made s (a .tail) few w n)
 
   pub pairs-rows : {n : ℕ} → a .ended ≡ false → n ≡ sumBelow s (λ q. countBelow s (bit (getD (a .rows) q 0))) → n ≡ pairsIn a
   unfolding pairsIn

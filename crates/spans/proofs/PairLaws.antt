@@ -2,11 +2,11 @@
 use Prim.Native.Nat.{ℕ, zero, suc, _*_, _≤_}
 use native.Mathlib.Omega.{arith}
 use native.Mathlib.Nat.{mul-le-mul, mul-le-mul-left}
-use mathlib.Core.Path.{_≡_, refl, ap, _∙_}
+use mathlib.Core.Path.{_≡_, ap, _∙_}
 use mathlib.Core.Bool.{Bool, true, false}
 use mathlib.Core.List.{List, [], _∷_}
 use lib.ListN.{getD}
-use Rattle.runs.specs.Counts.{countBelow, sumBelow}
+use Rattle.runs.specs.Counts.{countBelow}
 use Rattle.runs.proofs.CountLaws.{count-ext, count-le, sum-ext, sum-le}
 use Rattle.stateset.specs.Set.{bit, word}
 use Rattle.stateset.proofs.Sets.{bit-word}
@@ -17,8 +17,7 @@ use Rattle.spans.specs.declared.span.Span.{Span}
 use Rattle.spans.specs.Spans.{rowsOf, spanWith, span}
 use Rattle.spans.specs.Joining.{stateCount}
 use Rattle.spans.specs.Pairs.{pairsWith, pairs, pairsInWith, pairsIn}
-use Rattle.spans.proofs.RowLaws.{count-all, count-few}
-use Rattle.spans.proofs.JoinLaw.{row-of}
+use Rattle.spans.proofs.RowLaws.{states-all, states-few, row-of}
 
 -- a word of s states has as many members below s
 members : (s : ℕ) (X : ℕ → Bool) → countBelow s (bit (word s X)) ≡ countBelow s X
@@ -30,7 +29,7 @@ unfolding span pairs pairsIn
 pairs-of t few w = go (laterParts w)
   where
     all : stateCount (states t) ≡ states t
-    all = count-all (states t) (omega arith)
+    all = states-all (states t) (omega arith)
 
     go : (ls : List (List ℕ)) → pairsInWith (stateCount (spanWith t w ls .s)) (spanWith t w ls .ended) (spanWith t w ls) ≡ pairsWith t w ls
     go [] =
@@ -52,7 +51,7 @@ square s true a = one s (count-le s (bit (a .tail)))
 pub pairs-le : (a : Span) → pairsIn a ≤ 1024
 unfolding pairsIn
 pairs-le a =
-    let few = count-few (a .s) in
+    let few = states-few (a .s) in
     omega (arith, square (stateCount (a .s)) (a .ended) a, mul-le-mul few few)
 
 -- a run has no more pairs than the square of the number of states

@@ -19,30 +19,43 @@ use Rattle.stateset.proofs.Sets.{bit-zero, bit-word, word-ext, word-high, word-
 use Rattle.stateset.proofs.Some.{any-ext, any-widen}
 use Rattle.stateset.proofs.Images.{bit-image}
 use Rattle.stateset.proofs.Counts.{count-word}
+use Rattle.stateset.proofs.Tabled.{tabled-at, tabled-same}
 use Rattle.stateset.proofs.Gathering.{begun, begun-none, begun-more, gathered-none, gathered-more}
 use Rattle.spans.specs.Spans.{rowsOf}
 use Rattle.spans.specs.Joining.{stateCount, onward}
 
 -- How many states there are.
-pub count-some : (s : ℕ) → s < 32 → s ≡ stateCount s
-count-some s h = rw (lt-ltb s 32 h) refl
+pub states-some : (s : ℕ) → s < 32 → s ≡ stateCount s
+states-some s h = rw (lt-ltb s 32 h) refl
 
-pub count-most : (s : ℕ) → 32 ≤ s → 32 ≡ stateCount s
-count-most s h = rw (le-ltb s 32 h) refl
+pub states-most : (s : ℕ) → 32 ≤ s → 32 ≡ stateCount s
+states-most s h = rw (le-ltb s 32 h) refl
 
-pub count-few : (s : ℕ) → stateCount s ≤ 32
-count-few s = go (ltb s 32) refl
+pub states-few : (s : ℕ) → stateCount s ≤ 32
+states-few s = go (ltb s 32) refl
   where
     go : (b : Bool) → ltb s 32 ≡ b → cond b s 32 ≤ 32
     go true e = let h : s < 32 = ltb-true s 32 e in omega arith
     go false e = omega arith
 
-pub count-all : (s : ℕ) → s ≤ 32 → stateCount s ≡ s
-count-all s h = go (ltb s 32) refl
+pub states-all : (s : ℕ) → s ≤ 32 → stateCount s ≡ s
+states-all s h = go (ltb s 32) refl
   where
     go : (b : Bool) → ltb s 32 ≡ b → cond b s 32 ≡ s
     go true e = refl
     go false e = omega (arith, ltb-false s 32 e)
+
+-- the row of a state that there is
+pub row-of : (s : ℕ) (X : ℕ → ℕ → Bool) (q : ℕ) → q < s → s ≤ 32 → getD (rowsOf s X) q 0 ≡ word s (X q)
+row-of s X q h l = tabled-at (λ q. cond (ltb q s) (word s (X q)) 0) 32 q (omega arith) ∙ rw (lt-ltb q s h) refl
+
+-- rows with the same states are the same
+pub rows-same : (s : ℕ) (X Y : ℕ → ℕ → Bool) → ((q p : ℕ) → q < s → p < s → X q p ≡ Y q p) → rowsOf s X ≡ rowsOf s Y
+rows-same s X Y e = tabled-same (λ q. cond (ltb q s) (word s (X q)) 0) (λ q. cond (ltb q s) (word s (Y q)) 0) 32 0 (λ q g h. go q (ltb q s) refl)
+  where
+    go : (q : ℕ) (b : Bool) → ltb q s ≡ b → cond b (word s (X q)) 0 ≡ cond b (word s (Y q)) 0
+    go q true i = word-ext s (X q) (Y q) (λ p l. e q p (ltb-true q s i) l)
+    go q false i = refl
 
 -- Rows, one after the other: the first q of s are made.
 pub record Building (s : ℕ) (X : ℕ → ℕ → Bool) (rows : List ℕ) (q : ℕ) : Type 0 where

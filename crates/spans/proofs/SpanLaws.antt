@@ -1,4 +1,4 @@
--- Laws of the span of a run: of the empty one, its rows, and the closed lines of a run without a line end.
+-- Laws of the span of a run: its size, of the empty run, its rows, the closed lines of a run without a line end; and of what the operations make.
 use Prim.Native.Nat.{ℕ, zero, suc, _-_, _<_, _≤_}
 use native.Mathlib.Omega.{arith}
 use mathlib.Core.Path.{_≡_, refl, sym, ap, _∙_}
@@ -11,6 +11,7 @@ use Rattle.runs.specs.Keys.{lineEnd}
 use Rattle.runs.proofs.KeptLaws.{zeros-at}
 use Rattle.runs.proofs.Tests.{torn}
 use Rattle.stateset.specs.Set.{word}
+use Rattle.stateset.proofs.Sets.{word-ext}
 use Rattle.stateset.proofs.Tabled.{tabled-length, tabled-at}
 use Rattle.pattern.specs.Form.{Pattern, atomCount}
 use Rattle.pattern.specs.Moves.{states, leads}
@@ -19,16 +20,28 @@ use Rattle.pattern.proofs.Leading.{leads-none}
 use Rattle.lines.specs.Parts.{laterParts}
 use Rattle.lines.proofs.PartLaws.{later-none}
 use Rattle.spans.specs.declared.span.Span.{Span}
-use Rattle.spans.specs.Spans.{rowsOf, noRows, spanWith, span, closedWith, closedLines}
+use Rattle.spans.specs.Spans.{rowsOf, noRows, endedSpan, spanWith, span, closedWith, closedLines}
 use Rattle.spans.specs.Joining.{stateCount, emptySpan, joinedWith, joinedSpans, keyed, movedWith, movedSpan, endSpan, extendedSpan}
-use Rattle.spans.proofs.RowLaws.{count-all, count-few}
-use Rattle.spans.proofs.JoinLaw.{rows-same}
+use Rattle.spans.proofs.RowLaws.{states-all, states-few, rows-same}
+
+-- the span of a run has the pattern's states
+pub span-size : (t : Pattern) (w : List ℕ) → span t w .s ≡ states t
+unfolding span
+span-size t w = go (laterParts w)
+  where
+    go : (ls : List (List ℕ)) → spanWith t w ls .s ≡ states t
+    go [] = refl
+    go (l ∷ ls) = refl
+
+-- a span with the same heads and tail is the same
+pub ends-same : (s : ℕ) (H I T U : ℕ → Bool) → ((q : ℕ) → q < s → H q ≡ I q) → ((p : ℕ) → p < s → T p ≡ U p) → endedSpan s H T ≡ endedSpan s I U
+ends-same s H I T U f g = rw (word-ext s H I f, word-ext s T U g) refl
 
 -- the empty run
 pub empty-span : (t : Pattern) → atomCount t ≤ 29 → emptySpan (states t) ≡ span t []
 unfolding span
 empty-span t few =
-    rw (later-none, count-all (states t) (omega arith))
+    rw (later-none, states-all (states t) (omega arith))
     (ap (λ (rows : List ℕ). record { s = states t; rows = rows; ended = false; heads = 0; tail = 0 })
     (rows-same (states t) (λ q p. eqb q p) (λ q p. leads t q [] p) (λ q p h l. sym (leads-none t q p))))
 
@@ -87,7 +100,7 @@ span-padded t few w = go (laterParts w)
     go [] = rows-padded (states t) (λ q p. leads t q w p) (omega arith)
     go (l ∷ ls) = zeros-padded (states t) (omega arith)
 
--- The fields of a run's span, by the parts behind its line ends.
+-- A run's span and closed lines, by the parts behind its line ends.
 module _ (t : Pattern) (w : List ℕ) where
   pub span-by : span t w ≡ spanWith t w (laterParts w)
   unfolding span
@@ -108,18 +121,18 @@ unfolding joinedSpans
 joined-few a b = go (a .ended) (b .ended)
   where
     go : (x y : Bool) → joinedWith (stateCount (a .s)) x y a b .span .s ≤ 32
-    go true true = count-few (a .s)
-    go true false = count-few (a .s)
-    go false true = count-few (a .s)
-    go false false = count-few (a .s)
+    go true true = states-few (a .s)
+    go true false = states-few (a .s)
+    go false true = states-few (a .s)
+    go false false = states-few (a .s)
 
 pub extended-few : (keys enter : List ℕ) (p : Accepting) (a : Span) (k : ℕ) → extendedSpan keys enter p a k .span .s ≤ 32
 unfolding extendedSpan movedSpan
 extended-few keys enter p a k = go (eqb k lineEnd)
   where
     key : (x : Bool) → movedWith (stateCount (a .s)) (keyed keys enter p k (stateCount (a .s))) x a .s ≤ 32
-    key true = count-few (a .s)
-    key false = count-few (a .s)
+    key true = states-few (a .s)
+    key false = states-few (a .s)
 
     go : (x : Bool) → cond x (joinedSpans a (endSpan (a .s) p)) (record { span = movedSpan keys enter p a k; closes = false }) .span .s ≤ 32
     go true = joined-few a (endSpan (a .s) p)

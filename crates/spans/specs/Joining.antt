@@ -1,6 +1,6 @@
 -- Spans of any words: joined, with one key more, and the lines at their ends. Rows and bits at s and above are ignored, where s is the
--- left span's. That they give the span of the one run after the other, and whether a line that matches is closed between, are the
--- theorems `join-spans` and `extend-span`.
+-- left span's. That they give the span of the one run after the other, and whether the line between them matches, are the theorems
+-- `join-spans` and `extend-span`.
 use Prim.Native.Nat.{ℕ, _+_}
 use mathlib.Core.Bool.{Bool, true, false, not, cond, _&&_}
 use mathlib.Core.List.{List}

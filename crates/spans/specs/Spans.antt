@@ -21,7 +21,7 @@ rowsOf s X = tabled (λ q. cond (ltb q s) (word s (X q)) 0) 32 0
 abbrev pub noRows : List ℕ
 noRows = replicate 32 0
 
--- without a line end: "heads, closed, tail are 0"
+-- without a line end: "heads, .. tail are 0"
 abbrev pub openSpan : ℕ → (ℕ → ℕ → Bool) → Span
 openSpan s X = record { s = s; rows = rowsOf s X; ended = false; heads = 0; tail = 0 }
 
@@ -46,8 +46,8 @@ closedWith t (l ∷ ls) = countIn (matches t) (partsBefore l ls)
 unfoldable pub closedLines : Pattern → List ℕ → ℕ
 closedLines t w = closedWith t (laterParts w)
 
--- where one run follows another, the keys behind the last line end of the left one and those before the first of the right one are a
--- line; whether there are both line ends, and it matches
+-- Where one run follows another, the keys behind the left one's last line end and those before the right one's first are one line.
+-- Whether there are both line ends, and that line matches:
 abbrev pub closesWith : Pattern → List (List ℕ) → List ℕ → List (List ℕ) → Bool
 closesWith t [] v ms = false
 closesWith t (l ∷ ls) v [] = false

@@ -12,8 +12,8 @@ use stateset::within;
 ghost use mathlib.Core.Path.{_≡_};
 ghost use Rattle.spans.specs.Joining.{joinedSpans};
 
-// The span of one run after the other. The last line of the left one and the first of the right one are one line: it is closed where
-// both have a line end.
+// The span of one run after the other. The last line of the left one and the first of the right one are one line: it is between two
+// line ends where both runs have one.
 pub fn join_spans(a: Span, b: Span) -> JoinedSpan
     ensures { λ r. ⌜ r ≡ joinedSpans a b ⌝ }
 {

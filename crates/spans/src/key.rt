@@ -26,7 +26,7 @@ fn moved_span(a: Span, key: u8, keys: &[u64; 256], enter: &[u64; 32], p: Accepti
     open_span(s, moved_rows(s, &rows, key, keys, enter, p))
 }
 
-// The span of a run with one key more, and whether that closes a line which matches.
+// The span of a run with one key more, and whether that closes a line between two line ends which matches.
 pub fn extended_span(
     a: Span,
     key: u8,

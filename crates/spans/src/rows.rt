@@ -10,7 +10,7 @@ use stateset::within;
 ghost use Prim.Native.Nat.{_≤_};
 ghost use mathlib.Core.Path.{_≡_};
 ghost use lib.ListN.{getD};
-ghost use Rattle.stateset.specs.Set.{bit, common, word};
+ghost use Rattle.stateset.specs.Set.{common, word};
 ghost use Rattle.spans.specs.Spans.{rowsOf};
 ghost use Rattle.spans.specs.Joining.{keyed, onward, stateCount};
 

@@ -20,7 +20,7 @@ pub struct Span {
     pub tail: u64,
 }
 
-// The span of one run after the other, and whether a line that matches was closed between.
+// The span of one run after the other, and whether the line between them, with a line end on both sides, matches.
 pub struct JoinedSpan {
     pub span: Span,
     pub closes: bool,

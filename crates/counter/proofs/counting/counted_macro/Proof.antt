@@ -19,8 +19,8 @@ load-requires c κs = search needs
 in-report-requires : tie.Need-in-report-requires
 in-report-requires c κs = search needs
 
-total-of-requires : tie.Need-total-of-requires
-total-of-requires c κs = search needs
+total-in-requires : tie.Need-total-in-requires
+total-in-requires c κs = search needs
 
 enum-known-lines : tie.Need-enum-known-lines
 enum-known-lines c = search needs
@@ -41,4 +41,4 @@ returns-2 : tie.Need-returns-2
 returns-2 c = search (macro-over)
 
 pub counted-macro-spec : {M : Type 1} → statement M
-counted-macro-spec = tie.close (tie.spec fill-requires add-at mul-at load-requires in-report-requires total-of-requires enum-known-lines enum-told same-length returns same-length-2 returns-2)
+counted-macro-spec = tie.close (tie.spec fill-requires add-at mul-at load-requires in-report-requires total-in-requires enum-known-lines enum-told same-length returns same-length-2 returns-2)

@@ -1,6 +1,5 @@
 -- `report::closed_in`: by the flag.
 use Rattle.reports.proofs.Made.{closed-empty, closed-over, closed-lines}
-use borrow.Author.Needs.{needs}
 use Rattle.reports.proofs.report.closed_in.Statement.{statement}
 use Rattle.reports.proofs.report.closed_in.Tie as tie
 

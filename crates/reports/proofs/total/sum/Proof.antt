@@ -1,5 +1,4 @@
 -- `total::sum`: the test comes before the sum.
-use native.Mathlib.Omega.{arith}
 use Rattle.reports.proofs.TotalLaws.{sum-left, sum-right, sum-over, sum-fits}
 use borrow.Author.Needs.{needs}
 use Rattle.reports.proofs.total.sum.Statement.{statement}
