@@ -18,8 +18,6 @@ pub fn join_spans(a: Span, b: Span) -> JoinedSpan
     ensures { λ r. ⌜ r ≡ joinedSpans a b ⌝ }
 {
     let s = state_count(a.s);
-    let left = a.rows;
-    let right = b.rows;
     if a.ended {
         let heads = within(s, a.heads);
         if b.ended {
@@ -27,12 +25,14 @@ pub fn join_spans(a: Span, b: Span) -> JoinedSpan
             let closes = meeting(s, a.tail, b.heads);
             return JoinedSpan { span: both, closes };
         }
+        let right = b.rows;
         let ending = ended_span(s, heads, onward_from(s, a.tail, &right));
         return JoinedSpan {
             span: ending,
             closes: false,
         };
     }
+    let left = a.rows;
     if b.ended {
         let opening = ended_span(s, heads_through(s, &left, b.heads), within(s, b.tail));
         return JoinedSpan {
@@ -40,6 +40,7 @@ pub fn join_spans(a: Span, b: Span) -> JoinedSpan
             closes: false,
         };
     }
+    let right = b.rows;
     let whole = open_span(s, rows_through(s, &left, &right));
     JoinedSpan {
         span: whole,
