@@ -65,7 +65,8 @@ module _ {keys enter : List ℕ} {p : Accepting} {work : List ℕ} {a : SpanCoun
         extends = λ t h called w run served e. rw e (extend-count h w k run served);
       })
 
-  pub item-call : {j : ℕ} {r : Report} {d b : SpanCount} → item ≡ Call j → r ≡ loadedAt work (j * (a .span .s + 4)) (a .span .s) → d ≡ inReport r → b ≡ joinedCounts a d → AfterItem keys enter p work a item b
+  pub item-call : {j : ℕ} {r : Report} {d b : SpanCount} → item ≡ Call j → r ≡ loadedAt work (j * (a .span .s + 4)) (a .span .s)
+      → d ≡ inReport r → b ≡ joinedCounts a d → AfterItem keys enter p work a item b
   item-call {j} {r} {d} i f g l =
       rw (i, l)
       (record {

@@ -36,7 +36,8 @@ AllServed t called work items = (item : Item) → List·Memᴰ item items → Se
 -- what is kept of a run with the run of one item more
 pub record AfterItem (keys enter : List ℕ) (p : Accepting) (work : List ℕ) (a : SpanCount) (item : Item) (b : SpanCount) : Type 0 where
   pub small : b .span .s ≤ 32
-  pub extends : (t : Pattern) → Automaton t keys enter p → (called : ℕ → List ℕ) (w : List ℕ) → isRun w ≡ true → Served t called work item → a ≡ spanCount t w → b ≡ spanCount t (w ++ keysOf called item)
+  pub extends : (t : Pattern) → Automaton t keys enter p → (called : ℕ → List ℕ) (w : List ℕ) → isRun w ≡ true → Served t called work item → a ≡ spanCount t w
+      → b ≡ spanCount t (w ++ keysOf called item)
 
 -- items and states within the limits of the code
 pub record ItemsFit (items : Items) (p : Accepting) : Type 0 where

@@ -99,7 +99,8 @@ joined-fields a b small f g = go (eqb (a .flag) 0) (eqb (b .flag) 0) refl refl
     right = inReport b .span
 
     -- from the numbers of both
-    sums : (j : JoinedSpan) (m n : ℕ) → closedIn a ≡ totalOf m → closedIn b ≡ totalOf n → withLine j (bothTotals (closedIn a) (closedIn b)) ≡ record { span = j .span; closed = totalOf (m + n + cond (j .closes) 1 0) }
+    sums : (j : JoinedSpan) (m n : ℕ) → closedIn a ≡ totalOf m → closedIn b ≡ totalOf n
+        → withLine j (bothTotals (closedIn a) (closedIn b)) ≡ record { span = j .span; closed = totalOf (m + n + cond (j .closes) 1 0) }
     sums j m n e h =
         let both : bothTotals (closedIn a) (closedIn b) ≡ totalOf (m + n) = rw (e, h) (total-sum m n) in
         ap (λ (c : Total). record { span = j .span; closed = c })

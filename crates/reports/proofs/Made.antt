@@ -20,11 +20,13 @@ use Rattle.reports.specs.Answers.{joinResult}
 pub line-made : (j : JoinedSpan) (n : Total) {l : ℕ} {c : Total} → l ≡ cond (j .closes) 1 0 → c ≡ bothTotals n (Total.Lines l) → record { span = j .span; closed = c } ≡ withLine j n
 line-made j n l c = rw (c, l) refl
 
-pub extended-made : (keys enter : List ℕ) (p : Accepting) (a : SpanCount) (k : ℕ) {j : JoinedSpan} {r : SpanCount} → j ≡ extendedSpan keys enter p (a .span) k → r ≡ withLine j (a .closed) → r ≡ extendedCount keys enter p a k
+pub extended-made : (keys enter : List ℕ) (p : Accepting) (a : SpanCount) (k : ℕ) {j : JoinedSpan} {r : SpanCount}
+    → j ≡ extendedSpan keys enter p (a .span) k → r ≡ withLine j (a .closed) → r ≡ extendedCount keys enter p a k
 unfolding extendedCount
 extended-made keys enter p a k j r = rw (r, j) refl
 
-pub joined-made : (a b : SpanCount) {j : JoinedSpan} {n : Total} {r : SpanCount} → n ≡ bothTotals (a .closed) (b .closed) → j ≡ joinedSpans (a .span) (b .span) → r ≡ withLine j n → r ≡ joinedCounts a b
+pub joined-made : (a b : SpanCount) {j : JoinedSpan} {n : Total} {r : SpanCount}
+    → n ≡ bothTotals (a .closed) (b .closed) → j ≡ joinedSpans (a .span) (b .span) → r ≡ withLine j n → r ≡ joinedCounts a b
 unfolding joinedCounts
 joined-made a b n j r = rw (r, n, j) refl
 
@@ -67,7 +69,8 @@ module _ (a : SpanCount) where
 
 module _ (a b : Report) where
   -- reports of one size are joined
-  pub join-made : {t : Bool} {x y z : SpanCount} {r : Report} → t ≡ alike a b → not t ≡ false → x ≡ inReport a → y ≡ inReport b → z ≡ joinedCounts x y → r ≡ reportOf z → record { refused = 0; report = r } ≡ joinResult a b
+  pub join-made : {t : Bool} {x y z : SpanCount} {r : Report} → t ≡ alike a b → not t ≡ false
+      → x ≡ inReport a → y ≡ inReport b → z ≡ joinedCounts x y → r ≡ reportOf z → record { refused = 0; report = r } ≡ joinResult a b
   unfolding joinedReports
   join-made {t = u} t e x y z r = rw (← t, not-false u e, r, z, x, y) refl
 

@@ -100,7 +100,8 @@ in-flat a none = both (ended (a .span .ended) (a .closed)) (closed (a .span .end
     closed true (Total.Lines k) e = refl
     closed true Total.TooMany e = refl
 
-    both : {b : Bool} {n : Total} → b ≡ a .span .ended → n ≡ a .closed → record { span = record { s = a .span .s; rows = a .span .rows; ended = b; heads = a .span .heads; tail = a .span .tail }; closed = n } ≡ a
+    both : {b : Bool} {n : Total} → b ≡ a .span .ended → n ≡ a .closed
+        → record { span = record { s = a .span .s; rows = a .span .rows; ended = b; heads = a .span .heads; tail = a .span .tail }; closed = n } ≡ a
     both e f = rw (e, f) refl
 
 -- the report of a run is what is kept of it, flat

@@ -149,11 +149,13 @@ module _ {t : Pattern} {keys enter : List ℕ} {p : Accepting} (d : Automaton t 
     moved-span = rw (span-count w) (moved-with (laterParts w) refl)
 
   -- The span of w, with key k more, is the span of w followed by k.
-  pub extend-span : (w : List ℕ) (k : ℕ) → isRun w ≡ true → isKey k ≡ true → extendedSpan keys enter p (span t w) k ≡ record { span = span t (w ++ (k ∷ [])); closes = closesBetween t w (k ∷ []) }
+  pub extend-span : (w : List ℕ) (k : ℕ) → isRun w ≡ true → isKey k ≡ true
+      → extendedSpan keys enter p (span t w) k ≡ record { span = span t (w ++ (k ∷ [])); closes = closesBetween t w (k ∷ []) }
   unfolding extendedSpan
   extend-span w k run key = go (eqb k lineEnd) refl
     where
-      go : (b : Bool) → eqb k lineEnd ≡ b → cond b (joinedSpans (span t w) (endSpan (span t w .s) p)) (spanAnd false (movedSpan keys enter p (span t w) k)) ≡ spanAnd (closesBetween t w (k ∷ [])) (span t (w ++ (k ∷ [])))
+      go : (b : Bool) → eqb k lineEnd ≡ b
+          → cond b (joinedSpans (span t w) (endSpan (span t w .s) p)) (spanAnd false (movedSpan keys enter p (span t w) k)) ≡ spanAnd (closesBetween t w (k ∷ [])) (span t (w ++ (k ∷ [])))
       go true e =
           let same : k ≡ lineEnd = eqb-true k lineEnd e in
           rw same (end-joined w ∙ join-spans t (d .few) w (lineEnd ∷ []) run refl)

@@ -52,4 +52,21 @@ returns : tie.Need-returns Inv-loop μ-loop
 returns c = search (items-done)
 
 pub items-report-spec : {M : Type 1} → statement M
-items-report-spec = tie.close (tie.spec Inv-loop μ-loop empty-count-requires loop-holds pairs-in-requires add-steps mul-item-of array-read-item-of item-of-requires after-item-requires add-k loop-less loop-again report-of-requires returns)
+items-report-spec =
+    tie.close
+    (tie.spec
+    Inv-loop
+    μ-loop
+    empty-count-requires
+    loop-holds
+    pairs-in-requires
+    add-steps
+    mul-item-of
+    array-read-item-of
+    item-of-requires
+    after-item-requires
+    add-k
+    loop-less
+    loop-again
+    report-of-requires
+    returns)

@@ -35,4 +35,16 @@ returns-2 : tie.Need-returns-2
 returns-2 c = search (ends-one)
 
 pub end-lines-spec : {M : Type 1} → statement M
-end-lines-spec = tie.close (tie.spec state-count-requires set-requires meeting-requires chosen-requires last-line-requires add-result returns array-read-last-line last-line-requires-2 returns-2)
+end-lines-spec =
+    tie.close
+    (tie.spec
+    state-count-requires
+    set-requires
+    meeting-requires
+    chosen-requires
+    last-line-requires
+    add-result
+    returns
+    array-read-last-line
+    last-line-requires-2
+    returns-2)

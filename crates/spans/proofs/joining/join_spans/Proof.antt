@@ -53,4 +53,22 @@ returns-4 : tie.Need-returns-4
 returns-4 c = search (join-whole)
 
 pub join-spans-spec : {M : Type 1} → statement M
-join-spans-spec = tie.close (tie.spec state-count-requires within-requires within-requires-2 ended-span-requires meeting-requires returns onward-from-requires ended-span-requires-2 returns-2 heads-through-requires within-requires-3 ended-span-requires-3 returns-3 rows-through-requires open-span-requires returns-4)
+join-spans-spec =
+    tie.close
+    (tie.spec
+    state-count-requires
+    within-requires
+    within-requires-2
+    ended-span-requires
+    meeting-requires
+    returns
+    onward-from-requires
+    ended-span-requires-2
+    returns-2
+    heads-through-requires
+    within-requires-3
+    ended-span-requires-3
+    returns-3
+    rows-through-requires
+    open-span-requires
+    returns-4)

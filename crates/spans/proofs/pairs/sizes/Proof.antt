@@ -43,4 +43,18 @@ returns : tie.Need-returns Inv-loop μ-loop
 returns c = let a = c .before .before .before .args in summing-done (a .s) (a .rows .now) (c .before .loop .inv) (omega arith)
 
 pub sizes-spec : {M : Type 1} → statement M
-sizes-spec = tie.close (tie.spec Inv-loop μ-loop loop-holds mul-within shared-slice-read-within within-requires size-requires add-sum add-q loop-less loop-again returns)
+sizes-spec =
+    tie.close
+    (tie.spec
+    Inv-loop
+    μ-loop
+    loop-holds
+    mul-within
+    shared-slice-read-within
+    within-requires
+    size-requires
+    add-sum
+    add-q
+    loop-less
+    loop-again
+    returns)

@@ -50,4 +50,20 @@ returns : tie.Need-returns Inv-loop μ-loop
 returns c = let a = c .before .before .args in gathering-done (a .s) (a .a .now) (a .y) (c .before .loop .inv) (omega arith)
 
 pub heads-through-spec : {M : Type 1} → statement M
-heads-through-spec = tie.close (tie.spec Inv-loop μ-loop loop-holds mul-meeting element-copy-out-meeting meeting-requires cast-only only-requires chosen-requires union-requires add-q loop-less loop-again returns)
+heads-through-spec =
+    tie.close
+    (tie.spec
+    Inv-loop
+    μ-loop
+    loop-holds
+    mul-meeting
+    element-copy-out-meeting
+    meeting-requires
+    cast-only
+    only-requires
+    chosen-requires
+    union-requires
+    add-q
+    loop-less
+    loop-again
+    returns)

@@ -45,4 +45,18 @@ returns : tie.Need-returns Inv-loop μ-loop
 returns c = search (building-done)
 
 pub moved-rows-spec : {M : Type 1} → statement M
-moved-rows-spec = tie.close (tie.spec Inv-loop μ-loop loop-holds mul-moved element-copy-out-moved moved-requires mul-rows array-write-rows add-q loop-less loop-again returns)
+moved-rows-spec =
+    tie.close
+    (tie.spec
+    Inv-loop
+    μ-loop
+    loop-holds
+    mul-moved
+    element-copy-out-moved
+    moved-requires
+    mul-rows
+    array-write-rows
+    add-q
+    loop-less
+    loop-again
+    returns)

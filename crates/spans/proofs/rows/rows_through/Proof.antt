@@ -45,4 +45,18 @@ returns : tie.Need-returns Inv-loop μ-loop
 returns c = search (building-done)
 
 pub rows-through-spec : {M : Type 1} → statement M
-rows-through-spec = tie.close (tie.spec Inv-loop μ-loop loop-holds mul-onward-from element-copy-out-onward-from onward-from-requires mul-rows array-write-rows add-q loop-less loop-again returns)
+rows-through-spec =
+    tie.close
+    (tie.spec
+    Inv-loop
+    μ-loop
+    loop-holds
+    mul-onward-from
+    element-copy-out-onward-from
+    onward-from-requires
+    mul-rows
+    array-write-rows
+    add-q
+    loop-less
+    loop-again
+    returns)

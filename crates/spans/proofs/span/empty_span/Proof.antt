@@ -39,7 +39,11 @@ loop-less : tie.Need-loop-less Inv-loop μ-loop
 loop-less c = omega arith
 
 loop-again : tie.Need-loop-again Inv-loop μ-loop
-loop-again c = let l = c .before .before .loop in let few = c .before .before .before .state-count .ensures .1 in let k = c .before .before .before .state-count .result in building-more k (λ q p. eqb q p) (l .inv) (omega arith) few (own-row k (l .q) (omega arith) few (c .only .ensures))
+loop-again c =
+    let l = c .before .before .loop in
+    let few = c .before .before .before .state-count .ensures .1 in
+    let k = c .before .before .before .state-count .result in
+    building-more k (λ q p. eqb q p) (l .inv) (omega arith) few (own-row k (l .q) (omega arith) few (c .only .ensures))
 
 open-span-requires : tie.Need-open-span-requires Inv-loop μ-loop
 open-span-requires c κs = search needs
@@ -48,4 +52,19 @@ returns : tie.Need-returns Inv-loop μ-loop
 returns c = search (empty-made)
 
 pub empty-span-spec : {M : Type 1} → statement M
-empty-span-spec = tie.close (tie.spec Inv-loop μ-loop state-count-requires loop-holds cast-only only-requires mul-rows array-write-rows add-q loop-less loop-again open-span-requires returns)
+empty-span-spec =
+    tie.close
+    (tie.spec
+    Inv-loop
+    μ-loop
+    state-count-requires
+    loop-holds
+    cast-only
+    only-requires
+    mul-rows
+    array-write-rows
+    add-q
+    loop-less
+    loop-again
+    open-span-requires
+    returns)
