@@ -2,6 +2,8 @@
 use Prim.Native.Nat.{ℕ, suc, _+_, _*_, _<_, _≤_}
 use native.Mathlib.Omega.{arith}
 use native.Mathlib.Nat.{mul-le-mul-right, lt-of-le-of-lt}
+use mir.Val.{Fits}
+use mir.Syntax.{w64}
 use mathlib.Core.Path.{_≡_, refl, sym, ap, _∙_}
 use mathlib.Core.Bool.{true}
 use mathlib.Core.List.{List, [], _++_}
@@ -10,6 +12,7 @@ use Rattle.runs.specs.Kept.{firstWords}
 use Rattle.runs.specs.Counts.{sumBelow}
 use Rattle.runs.proofs.KeptLaws.{words-none, words-at, words-stored}
 use Rattle.runs.proofs.CountLaws.{sum-none, sum-more}
+use Rattle.book.specs.declared.item.Item.{Item}
 use Rattle.book.specs.declared.item.Item.the-variants.{Key, Call}
 use Rattle.book.specs.declared.macro_items.Items.{Items}
 use Rattle.book.specs.Format.{Macro, wellFormed}
@@ -29,7 +32,7 @@ use Rattle.reports.specs.Words.{loadedAt, storedAt}
 use Rattle.reports.proofs.ReportLaws.{report-size}
 use Rattle.reports.proofs.StoredLaws.{words-length, loaded-from, stored-there}
 use Rattle.counter.specs.declared.items.MacroCount.{MacroCount}
-use Rattle.counter.specs.Counting.{mostWords, stepsWithin, steps, macroWords, reportsOver}
+use Rattle.counter.specs.Counting.{stepsWithin, steps, macroWords, reportsOver}
 use Rattle.counter.specs.Promises.{placeOf, AllServed, ItemsFit, ItemsCounted, MacroFits, Filled}
 
 module _ (t : Pattern) (few : atomCount t ≤ 29) (ms : List Macro) where
@@ -68,18 +71,34 @@ module _ {keys enter : List ℕ} {p : Accepting} {ms : List Macro} {m : ℕ} {be
       let all : i ≡ suc m = omega (arith, x .inside) in
       record { long = x .long; counts = λ t d. rw all at (x .counts t d) }
 
--- The items of macro i.
-pub items-fit : (book offsets : List ℕ) (i : ℕ) {p : Accepting} {items : Items} → p .states ≤ 32 → items ≡ itemsFrom book offsets i → ItemsFit items p
-items-fit book offsets i h e = record { few = count-few book offsets i e; there = count-fits book offsets i e; small = h }
+module _ {book offsets : List ℕ} {m : ℕ} {p : Accepting} {before : List ℕ} (g : MacroFits book offsets m p before) where
+  -- the width of a report is small
+  pub width-fits : Fits w64 (p .states + 4)
+  width-fits = omega (arith, g .small)
+
+  -- the items of macro i
+  pub items-fit : {items : Items} (i : ℕ) → items ≡ itemsFrom book offsets i → ItemsFit items p
+  items-fit i e = record { few = count-few book offsets i e; there = count-fits book offsets i e; small = g .small }
 
 module _ {keys enter : List ℕ} {p : Accepting} {book : List ℕ} {m : ℕ} {before work : List ℕ} {n i : ℕ} (x : FillSoFar keys enter p (macrosIn book) m before work n i) where
   module _ {offsets : List ℕ} (g : MacroFits book offsets m p before) (below : i ≤ m) where
-    -- a place is small: a book has at most 1,024 macros
-    pub place-small : placeOf p i ≤ mostWords
-    place-small =
-        let low : i ≤ 1024 = omega (arith, g .inside, macros-few book) in
+    -- a book has at most 1,024 macros
+    few : i < 1024
+    few = omega (arith, g .inside, macros-few book)
+
+    pub next-fits : Fits w64 (i + 1)
+    next-fits = omega (arith, few)
+
+    -- so a place is small
+    pub place-fits : Fits w64 (placeOf p i)
+    place-fits =
+        let low : i ≤ 1024 = omega (arith, few) in
         let thin : p .states + 4 ≤ 36 = omega (arith, g .small) in
         omega (arith, mul-le-mul-right (p .states + 4) low)
+
+    -- and so are the steps
+    pub steps-fit : {items : List Item} {a : MacroCount} → ItemsCounted keys enter p work items a → Fits w64 (n + a .steps)
+    steps-fit h = omega (arith, few, x .few, h .few)
 
     -- macro i, whose items are counted
     module _ {items : Items} (f : items ≡ itemsFrom book offsets i) {a : MacroCount} (h : ItemsCounted keys enter p work (decoded items) a) where

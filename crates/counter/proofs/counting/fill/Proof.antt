@@ -1,10 +1,8 @@
 -- `counting::fill`: the first i macros' reports stand in the work words, and the words behind them are untouched.
-use Prim.Native.Nat.{suc, _-_, _<_}
+use Prim.Native.Nat.{suc, _-_}
 use native.Mathlib.Omega.{arith}
-use denote.Ref.{now}
 use Rattle.book.specs.Reading.{macrosIn}
-use Rattle.book.proofs.LayoutLaws.{macros-few}
-use Rattle.counter.proofs.FillLaws.{FillSoFar, fill-start, items-fit, place-small, fill-on, fill-done}
+use Rattle.counter.proofs.FillLaws.{FillSoFar, fill-start, width-fits, items-fit, next-fits, place-fits, steps-fit, fill-on, fill-done}
 use borrow.Author.Needs.{needs}
 use Rattle.counter.proofs.counting.fill.Statement.{statement}
 use Rattle.counter.proofs.counting.fill.Tie as tie
@@ -15,12 +13,8 @@ Inv-loop book offsets work₀ keys enter m p width steps₀ i₀ work steps i = 
 abbrev μ-loop : tie.MeasureT-loop
 μ-loop book offsets work₀ keys enter m p width steps₀ i₀ work steps i = suc m - i
 
--- a book has at most 1,024 macros
-few : (c : tie.Start Inv-loop μ-loop) → c .args .task .m < 1024
-few c = omega (arith, c .pre .inside, macros-few (now (c .args .book)))
-
 add-width : tie.Need-add-width Inv-loop μ-loop
-add-width c = omega (arith, c .before .before .before .before .pre .small)
+add-width c = search (width-fits)
 
 loop-holds : tie.Need-loop-holds Inv-loop μ-loop
 loop-holds c = search (fill-start)
@@ -29,25 +23,29 @@ items-of-requires : tie.Need-items-of-requires Inv-loop μ-loop
 items-of-requires c κs = search needs
 
 items-report-requires : tie.Need-items-report-requires Inv-loop μ-loop
-items-report-requires c κs = search (items-fit, c .before .before .before .before .before .before .before .before .pre .small)
+items-report-requires c κs = search (items-fit)
 
 add-steps : tie.Need-add-steps Inv-loop μ-loop
-add-steps c = omega (arith, few (c .before .before .before .before .before .before .before .before .before .before), c .before .items-report .ensures .few, c .before .before .before .before .before .loop .inv .few)
+add-steps c = search (steps-fit)
 
 mul-store : tie.Need-mul-store Inv-loop μ-loop
-mul-store c = omega (arith, place-small (c .before .before .before .before .before .before .loop .inv) (c .before .before .before .before .before .before .before .before .before .before .before .pre) (c .before .before .before .before .before .loop-test .taken))
+mul-store c = search (place-fits, needs)
 
 store-requires : tie.Need-store-requires Inv-loop μ-loop
 store-requires c κs = search needs
 
 add-i : tie.Need-add-i Inv-loop μ-loop
-add-i c = omega (arith, few (c .before .before .before .before .before .before .before .before .before .before .before .before .before .before))
+add-i c = search (next-fits)
 
 loop-less : tie.Need-loop-less Inv-loop μ-loop
 loop-less c = omega arith
 
 loop-again : tie.Need-loop-again Inv-loop μ-loop
-loop-again c = fill-on (c .before .before .before .before .before .before .before .before .before .loop .inv) (c .before .before .before .before .before .before .before .before .before .before .before .before .before .before .pre) (c .before .before .before .before .before .before .before .before .loop-test .taken) (c .before .before .before .before .before .before .before .items-of .ensures) (c .before .before .before .before .before .items-report .ensures) (search needs) (c .before .before .store .ensures)
+loop-again c =
+    let r = c .before .before .before .before .before in
+    let l = r .before .before .before in
+    let start = l .before .before .before .before .before .before in
+    fill-on (l .before .loop .inv) (start .pre) (l .loop-test .taken) (r .before .before .items-of .ensures) (r .items-report .ensures) (search needs) (c .before .before .store .ensures)
 
 same-length : tie.Need-same-length Inv-loop μ-loop
 same-length c = search needs
