@@ -11,6 +11,6 @@ use Rattle.reports.specs.Reports.{alike, joinedReports, noReport}
 abbrev pub joinedIf : Bool → Report → Joined
 joinedIf b r = cond b (record { refused = 0; report = r }) (record { refused = number ReportMismatch; report = noReport })
 
--- the joining of two reports: 13 where they are "unlike reports", and then a report of zeros
+-- 13 where they are "unlike reports"
 abbrev pub joinResult : Report → Report → Joined
 joinResult a b = joinedIf (alike a b) (joinedReports a b)

@@ -68,7 +68,7 @@ totalIn p a = bothTotals (a .closed) (Total.Lines (endLines p (a .span)))
 abbrev pub closedIn : Report → Total
 closedIn a = cond (eqb (a .flag) 0) (Total.Lines 0) (cond (leb 2 (a .flag)) Total.TooMany (Total.Lines (a .closed)))
 
--- its span and they
+-- the span in a report, and its closed lines
 unfoldable pub inReport : Report → SpanCount
 inReport a = record { span = record { s = a .s; rows = a .rows; ended = not (eqb (a .flag) 0); heads = a .heads; tail = a .tail }; closed = closedIn a }
 

@@ -26,6 +26,7 @@ emptySpan s = openSpan (stateCount s) (λ q p. eqb q p)
 abbrev pub onward : ℕ → ℕ → List ℕ → ℕ → Bool
 onward s x rows p = anyBelow s (λ r. bit x r && bit (getD rows r 0) p)
 
+-- by whether each has a line end; the left run's last line and the right one's first are one line
 abbrev pub joinedWith : ℕ → Bool → Bool → Span → Span → JoinedSpan
 joinedWith s false false a b = record { span = openSpan s (λ q. onward s (getD (a .rows) q 0) (b .rows)); closes = false }
 joinedWith s false true a b = record { span = endedSpan s (λ q. common s (getD (a .rows) q 0) (b .heads)) (bit (b .tail)); closes = false }
