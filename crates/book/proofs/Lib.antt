@@ -1,4 +1,5 @@
--- Laws of the book's definitions. Other crates cite LayoutLaws, MacroItems, Requiring, Expansion, Reach, Coding and Sizes.
+-- Laws of the book's definitions. Other crates cite LayoutLaws, MacroItems, Requiring, Expansion, Reach, Coding,
+-- Sizes, Prefix and Refusals.
 pub mod Readings
 pub mod Items
 pub mod Walks
@@ -13,3 +14,5 @@ pub mod Requiring
 pub mod Expansion
 pub mod Reach
 pub mod Sizes
+pub mod Prefix
+pub mod Refusals
