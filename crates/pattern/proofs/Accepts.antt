@@ -1,13 +1,16 @@
 -- Document 01, "Patterns": what is accepted and what is refused. A pattern is accepted exactly if it is written of a tree of the form, of 1 to 128 bytes and at most 29 atoms.
 use Prim.Native.Nat.{ℕ, _<_, _≤_}
 use native.Mathlib.Omega.{arith}
-use mathlib.Core.Path.{_≡_, refl}
+use mathlib.Core.Path.{_≡_, refl, sym, ap, _∙_}
 use mathlib.Core.Logic.{_↔_, _⊎_, inl, inr, ⊎-elim}
 use mathlib.Core.Bool.{Bool, true, false, cond}
 use mathlib.Core.List.{List, []}
 use lib.Dec.{leb}
-use lib.ListN.{length}
+use lib.ListN.{length, take}
+use lib.Seq.{take-all, length-take-le}
 use borrow.Author.Tests.{leb-true, leb-false, le-leb, lt-leb}
+use Rattle.refusal.specs.declared.Refusal.{Refusal}
+use Rattle.refusal.specs.Number.{number}
 use Rattle.refusal.specs.declared.Refusal.the-variants.{PatternLength, PatternSyntax, TooManyAtoms}
 use Rattle.brackets.specs.Brackets.{Parsed, parsed, fault}
 use Rattle.pattern.specs.Reader.{readBranches, accepted, refused, counted, readPattern}
@@ -173,3 +176,27 @@ refused-atoms p = (from, back)
 
     back : RightLength p × Overfull p → readPattern p ≡ refused TooManyAtoms
     back ((low, high), (t, (g, w), over)) = rw (tree-read p t low high g w, lt-leb (atomCount t) 29 over)
+
+-- 7 to 9, and nothing else
+pub pattern-refusals : (p : List ℕ) (r : Refusal) → readPattern p ≡ refused r → (7 ≤ number r) × (number r ≤ 9)
+pattern-refusals p r e = ⊎-elim (λ (wrong, f). is PatternLength f (omega arith, omega arith)) (λ (low, high). of (verdict p low high)) (lengths p)
+  where
+    is : (q : Refusal) → readPattern p ≡ refused q → (7 ≤ number q) × (number q ≤ 9) → (7 ≤ number r) × (number r ≤ 9)
+    is q f h = let same : r ≡ q = cc in rw same h
+
+    of : Finding p → (7 ≤ number r) × (number r ≤ 9)
+    of (bad n f) = is PatternSyntax f (omega arith, omega arith)
+    of (many t g w over f) = is TooManyAtoms f (omega arith, omega arith)
+    of (fine t g w few f) = clash (cc)
+
+-- a pattern of any length is read as its first 129 bytes
+pub pattern-prefix : (n : ℕ) (p : List ℕ) → 129 ≤ n → readPattern (take n p) ≡ readPattern p
+pattern-prefix n p h = go (leb (length p) n) refl
+  where
+    go : (b : Bool) → leb (length p) n ≡ b → readPattern (take n p) ≡ readPattern p
+    go true e = ap readPattern (take-all n p (leb-true (length p) n e))
+    go false e =
+        let long : n < length p = leb-false (length p) n e in
+        let short : length (take n p) ≡ n = length-take-le n p (omega arith) in
+        let left : 128 < length (take n p) = omega arith in
+        refused-length (take n p) .1 (inr left) ∙ sym (refused-length p .1 (inr (omega arith)))
