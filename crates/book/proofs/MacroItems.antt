@@ -37,7 +37,8 @@ codes-more (suc k) b =
     let e : width * suc k ≡ width + width * k = omega arith in
     rw (suc-add k 1, e, ← drop-drop (width * k) width b) (ap (λ (l : List ℕ). le16 b ∷ l) (codes-more k (drop width b)))
 
-drop-take : (m n : ℕ) (l : List ℕ) → drop m (take n l) ≡ take (n - m) (drop m l)
+-- a first part behind some elements
+pub drop-take : (m n : ℕ) (l : List ℕ) → drop m (take n l) ≡ take (n - m) (drop m l)
 drop-take zero n l = let e : n - 0 ≡ n = omega arith in rw e
 drop-take (suc m) zero l = let e : 0 - suc m ≡ 0 = omega arith in rw e
 drop-take (suc m) (suc n) [] = sym (take-nil (suc n - suc m))

@@ -6,7 +6,7 @@ use mathlib.Core.Bool.{Bool, true, false, cond, _&&_}
 use mathlib.Core.List.{List, [], _∷_}
 use lib.Dec.{leb, ltb, eqb}
 use lib.ListN.{length, take, drop, getD, length-take}
-use lib.Seq.{getD-take, getD-drop, take-nil}
+use lib.Seq.{getD-take, getD-drop}
 use borrow.Author.Tests.{lt-ltb, le-ltb, lt-leb, le-leb, ltb-true, ltb-false, leb-true, leb-false, ne-eqb}
 use Rattle.refusal.specs.declared.Refusal.{Refusal}
 use Rattle.refusal.specs.declared.Refusal.the-variants.{BadMagic, UnsupportedVersion, BadMacroCount, MalformedBody, InvalidKey, ForwardReference}
@@ -16,14 +16,9 @@ use Rattle.book.specs.declared.item.Item.the-variants.{Key, Call}
 use Rattle.book.specs.Format.{Macro, width}
 use Rattle.book.specs.Reading.{Reading, Reader, got, refused, next, done, le16, itemOf, checkItem, readItem, readItems, readMacro, readMacros, hasMagic, readHeader, atEnd, readAll, readBook}
 use Rattle.book.proofs.Header.{header-got}
+use Rattle.book.proofs.MacroItems.{drop-take}
 
 -- A first part of a list.
-
-drop-take : (k n : ℕ) (l : List ℕ) → drop k (take n l) ≡ take (n - k) (drop k l)
-drop-take zero n l = let same : n - 0 ≡ n = omega arith in rw same refl
-drop-take (suc k) n [] = rw (take-nil n, take-nil (n - suc k)) refl
-drop-take (suc k) zero (x ∷ l) = let none : 0 - suc k ≡ 0 = omega arith in rw none refl
-drop-take (suc k) (suc n) (x ∷ l) = let less : suc n - suc k ≡ n - k = omega arith in rw less (drop-take k n l)
 
 -- the number at a place within the part
 le16-take : (k n : ℕ) (l : List ℕ) → k + 2 ≤ n → le16 (drop k (take n l)) ≡ le16 (drop k l)

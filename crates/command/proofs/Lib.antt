@@ -1,4 +1,6 @@
 -- Laws of the definitions, which the proofs of functions cite.
-pub mod AskedLaws
+pub mod NamedLaws
 pub mod InputLaws
+pub mod ReadLaws
+pub mod Demands
 pub mod PaperRuns

@@ -1,3 +1,5 @@
 -- What the programs answer to their input.
+pub mod Buffers
 pub mod Input
-pub mod Asked
+pub mod Named
+pub mod Reads

@@ -1,4 +1,5 @@
 // What the program `cuecount` does with its input (document 01, "The program `cuecount`").
+use crate::buffer::read_part;
 use crate::last::last_in;
 use counter::BookCount;
 use refusal::Refusal;
@@ -6,6 +7,7 @@ ghost use Prim.Native.Nat.{_≤_, _+_, min};
 ghost use mathlib.Core.Path.{_≡_};
 ghost use lib.ListN.{length};
 ghost use Rattle.counter.specs.Answers.{outcome};
+ghost use Rattle.command.specs.Reads.{ProgramAnswers};
 ghost use Rattle.command.specs.Input.{patternEnd, programAnswer, programResult, toldBy};
 
 // The most bytes that the program takes.
@@ -49,9 +51,16 @@ fn answer_in(input: &[u8], work: &mut [u64]) -> BookCount
 }
 
 // What the program answers, with its 4,096 work words.
-pub fn answer(input: &[u8]) -> BookCount
+fn answer_to(input: &[u8]) -> BookCount
     ensures { λ r. ⌜ toldBy r ≡ programAnswer (now (input .entry)) ⌝ }
 {
     let mut work = [0; 4096];
     answer_in(input, &mut work)
+}
+
+// What it answers to every input of which these n bytes were read.
+pub fn answer(input: &[u8; READ], n: usize) -> BookCount
+    ensures { λ r. ⌜ ProgramAnswers (now (input .entry)) n r ⌝ }
+{
+    answer_to(read_part(input, n))
 }

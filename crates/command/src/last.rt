@@ -9,7 +9,7 @@ ghost use Rattle.counter.specs.Answers.{outcome};
 ghost use Rattle.command.specs.Input.{lastMacro, lastResult};
 
 // The number of the book's last macro; a book that is not sound has none, and is refused whatever is asked of it.
-fn last_macro(book: &[u8]) -> usize
+pub fn last_macro(book: &[u8]) -> usize
     ensures { λ r. ⌜ r ≡ lastMacro (readBook (now (book .entry))) ⌝ }
 {
     match check(book) {

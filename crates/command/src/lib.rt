@@ -1,12 +1,15 @@
-// What the programs do with their input: `cuecount`'s one input, and the macro that a command names.
-mod any_book;
-mod asked;
+// What the programs do with their input: `cuecount`'s one input, and the books and patterns that a command counts.
+mod buffer;
+mod counts;
 mod input;
 mod last;
 
-pub use any_book::LONGEST_BOOK;
-pub use any_book::NamedCount;
-pub use any_book::count_last;
-pub use any_book::count_named;
+pub use buffer::BOOK_READ;
+pub use buffer::PATTERN_READ;
+pub use buffer::read_part;
+pub use counts::NamedCount;
+pub use counts::count_last;
+pub use counts::count_named;
 pub use input::READ;
 pub use input::answer;
+pub use last::last_macro;

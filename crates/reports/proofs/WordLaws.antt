@@ -12,10 +12,11 @@ use borrow.Author.Tests.{ltb-true, ltb-false, leb-true, le-leb, lt-leb}
 use Rattle.reports.specs.Reports.{noReport}
 use mir.Val.{Fits}
 use mir.Syntax.{w64}
-use lib.ListN.{length, getD, take, drop, set, replicate, length-set, length-drop}
-use lib.Seq.{length-take-le, take-suc, append-snoc, set-at, getD-drop, drop-drop, paste, paste-zero, paste-suc, length-paste, take-paste, drop-paste, sets-eq}
+use lib.ListN.{length, getD, take, drop, set, replicate, length-drop}
+use lib.Seq.{length-take-le, take-suc, append-snoc, set-at, getD-drop, drop-drop, paste, length-paste, take-paste, drop-paste, sets-eq}
 use Rattle.reports.specs.declared.report.Report.{Report}
 use Rattle.reports.specs.Words.{loaded, roomFor, loadedAt, wordsWith, storedAt}
+use Rattle.runs.proofs.CopyLaws.{Copying, copying-more}
 use Rattle.runs.proofs.Tests.{and-fst, and-snd, neither, or-cases, tests-ext}
 
 -- Reading rows.
@@ -66,30 +67,10 @@ loaded-all work at s e = rw (e, word-at work at s 1, word-at work at s 2, word-a
 
 -- Storing rows.
 
--- the first q of s rows are stored
-pub record Storing (old : List ℕ) (at : ℕ) (rows : List ℕ) (s : ℕ) (work : List ℕ) (q : ℕ) : Type 0 where
-  pub inside : q ≤ s
-  pub long : length work ≡ length old
-  pub stored : work ≡ paste old at rows q
-
-module _ {old : List ℕ} {at : ℕ} {rows : List ℕ} {s : ℕ} where
-  -- no row stored yet
-  pub storing-none : Storing old at rows s old 0
-  storing-none = record { inside = omega arith; long = refl; stored = paste-zero old at rows }
-
-  module _ {work : List ℕ} {q : ℕ} (i : Storing old at rows s work q) where
-    -- one more row stored
-    pub storing-more : q < s → (s ≤ 32) × (at + s ≤ length old) → length rows ≡ 32 → Storing old at rows s (set work (at + q) (getD rows q 0)) (q + 1)
-    storing-more h p l =
-        record {
-          inside = omega arith;
-          long = length-set work (at + q) (getD rows q 0) ∙ i .long;
-          stored = rw (i .stored, add-one q) (paste-suc old at rows q 0 (omega arith) (omega arith));
-        }
-
-    -- all rows stored
-    pub storing-done : s ≤ q → work ≡ paste old at rows s
-    storing-done h = let e : q ≡ s = omega (arith, i .inside) in rw e at (i .stored)
+-- one more row stored, where there are s of 32
+pub storing-more : {old : List ℕ} {at : ℕ} {rows : List ℕ} {s : ℕ} {work : List ℕ} {q : ℕ} → Copying old at rows s work q → q < s → (s ≤ 32) × (at + s ≤ length old) → length rows ≡ 32
+    → Copying old at rows s (set work (at + q) (getD rows q 0)) (q + 1)
+storing-more c h p l = copying-more c h (omega arith) (omega arith)
 
 -- n words hold those of a report of s states from `at` on
 abbrev pub Holds : ℕ → ℕ → ℕ → Type 0

@@ -3,3 +3,4 @@ pub mod Tests
 pub mod KeyLaws
 pub mod CountLaws
 pub mod KeptLaws
+pub mod CopyLaws

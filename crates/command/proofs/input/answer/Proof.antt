@@ -1,17 +1,17 @@
--- `input::answer`: what `answer_in` tells with 4,096 words.
+-- `input::answer`: what is answered to the part that was read is answered to the whole.
 use borrow.Author.Needs.{needs}
-use Rattle.command.proofs.InputLaws.{program-told}
+use Rattle.command.proofs.ReadLaws.{answers-read}
 use Rattle.command.proofs.input.answer.Statement.{statement}
 use Rattle.command.proofs.input.answer.Tie as tie
 
-slice-aggregate-answer-in : tie.Need-slice-aggregate-answer-in
-slice-aggregate-answer-in c = search needs
+read-part-requires : tie.Need-read-part-requires
+read-part-requires c κs = search needs
 
-answer-in-requires : tie.Need-answer-in-requires
-answer-in-requires c κs = search needs
+answer-to-requires : tie.Need-answer-to-requires
+answer-to-requires c κs = search needs
 
 returns : tie.Need-returns
-returns c = search (program-told)
+returns c = search (answers-read, needs)
 
 pub answer-spec : {M : Type 1} → statement M
-answer-spec = tie.close (tie.spec slice-aggregate-answer-in answer-in-requires returns)
+answer-spec = tie.close (tie.spec read-part-requires answer-to-requires returns)

@@ -1,18 +1,19 @@
 -- `store_rows`. Invariant: the rows below q are stored.
 use Prim.Native.Nat.{_-_}
 use borrow.Author.Needs.{needs}
-use Rattle.reports.proofs.WordLaws.{Storing, storing-none, storing-more, storing-done}
+use Rattle.runs.proofs.CopyLaws.{Copying, copying-none, copying-done}
+use Rattle.reports.proofs.WordLaws.{storing-more}
 use Rattle.reports.proofs.words.store_rows.Statement.{statement}
 use Rattle.reports.proofs.words.store_rows.Tie as tie
 
 abbrev Inv-loop : tie.InvT-loop
-Inv-loop work₀ at rows s all q₀ work q = Storing work₀ at rows s work q
+Inv-loop work₀ at rows s all q₀ work q = Copying work₀ at rows s work q
 
 abbrev μ-loop : tie.MeasureT-loop
 μ-loop work₀ at rows s all q₀ work q = s - q
 
 loop-holds : tie.Need-loop-holds Inv-loop μ-loop
-loop-holds c = search (storing-none)
+loop-holds c = search (copying-none)
 
 mul-work : tie.Need-mul-work Inv-loop μ-loop
 mul-work c = search needs
@@ -42,7 +43,7 @@ same-length : tie.Need-same-length Inv-loop μ-loop
 same-length c = search needs
 
 returns : tie.Need-returns Inv-loop μ-loop
-returns c = search (storing-done)
+returns c = search (copying-done)
 
 pub store-rows-spec : {M : Type 1} → statement M
 store-rows-spec =

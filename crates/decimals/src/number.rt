@@ -1,11 +1,11 @@
-// The macro that a command names.
+// The number that a text writes.
 ghost use mathlib.Core.Path.{_≡_};
 ghost use Prim.Native.Nat.{_≤_, _+_, _*_, _-_, min};
-ghost use Rattle.command.specs.Asked.{askedResult, isDigit};
+ghost use Rattle.decimals.specs.Decimals.{isDigit, numberIn};
 
-// A macro's number; or the text is no number.
-pub(crate) enum Asked {
-    Macro(usize),
+// A number; or the text is none.
+pub enum Number {
+    Value(usize),
     Malformed,
 }
 
@@ -29,22 +29,22 @@ fn with_digit(n: usize, c: u8) -> usize
     if more < BEYOND { more } else { BEYOND }
 }
 
-// The macro that a text of decimal digits names.
-pub(crate) fn macro_asked(text: &[u8]) -> Asked
-    ensures { λ r. ⌜ r ≡ askedResult (now (text .entry)) ⌝ }
+// The number that decimal digits write, BEYOND for all from there on.
+pub fn number_in(text: &[u8]) -> Number
+    ensures { λ r. ⌜ r ≡ numberIn (now (text .entry)) ⌝ }
 {
     if text.len() == 0 {
-        return Asked::Malformed;
+        return Number::Malformed;
     }
     let mut n = 0;
     let mut at = 0;
     while at < text.len() {
         let c = text[at];
         if !is_digit(c) {
-            return Asked::Malformed;
+            return Number::Malformed;
         }
         n = with_digit(n, c);
         at += 1;
     }
-    Asked::Macro(n)
+    Number::Value(n)
 }

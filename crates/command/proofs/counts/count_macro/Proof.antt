@@ -1,8 +1,8 @@
--- `any_book::count_macro`: what the count tells with 36,864 words.
+-- `counts::count_macro`: what the count tells with 36,864 words.
 use borrow.Author.Needs.{needs}
 use Rattle.command.proofs.InputLaws.{macro-told}
-use Rattle.command.proofs.any_book.count_macro.Statement.{statement}
-use Rattle.command.proofs.any_book.count_macro.Tie as tie
+use Rattle.command.proofs.counts.count_macro.Statement.{statement}
+use Rattle.command.proofs.counts.count_macro.Tie as tie
 
 slice-aggregate-count-book : tie.Need-slice-aggregate-count-book
 slice-aggregate-count-book c = search needs

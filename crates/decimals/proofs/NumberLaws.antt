@@ -1,4 +1,4 @@
--- Laws of the macro number that a command names.
+-- Laws of the number that a text writes.
 use Prim.Native.Nat.{ℕ, suc, _+_, _-_, _*_, _^_, _<_, _≤_, min}
 use native.Mathlib.Nat.{pow-succ', mul-assoc, mul-comm, zero-mul, zero-add, add-mul, add-assoc}
 use native.Mathlib.Omega.{arith}
@@ -6,20 +6,13 @@ use native.Mathlib.Numerals.{add-one}
 use mathlib.Core.Path.{_≡_, refl, sym, ap, _∙_}
 use mathlib.Core.Bool.{Bool, true, false, not, cond, _&&_}
 use mathlib.Core.List.{List, [], _∷_}
-use mathlib.Core.Option.{none, some}
 use lib.Dec.{leb}
-use lib.ListN.{length, getD, drop, replicate, drop-of-length-le}
+use lib.ListN.{length, getD, drop, drop-of-length-le}
 use lib.Seq.{drop-cons}
 use borrow.Author.Tests.{leb-true, leb-false, not-true, not-false}
-use Rattle.book.specs.Format.{Macro}
-use Rattle.book.specs.Reading.{readBook}
-use Rattle.pattern.specs.Reader as reader
-use Rattle.counter.specs.Counting.{Outcome, countResult, mostWords}
-use Rattle.command.specs.declared.asked.Asked.{Asked}
-use Rattle.command.specs.Input.{Told, told, macroAnswer}
-use Rattle.command.specs.Asked.{isDigit, allDigits, isNumber, decimal, namedAnswer, askedResult}
+use Rattle.decimals.specs.declared.number.Number.{Number}
+use Rattle.decimals.specs.Decimals.{isDigit, allDigits, isNumber, decimal, numberIn}
 use Rattle.runs.proofs.Tests.{clash}
-use Rattle.counter.proofs.Demands.{beyond-alike}
 
 never : {A : Type 0} → false ≡ true → A
 never e = clash (ap (λ (b : Bool). cond b 1 0) e)
@@ -80,10 +73,10 @@ pub record Written (w : List ℕ) (at n : ℕ) : Type 0 where
 pub written-none : (w : List ℕ) → (length w ≡ 0 → ⊥) → Written w 0 0
 written-none w h = record { some = omega (arith, h); small = omega arith; inside = omega arith; digits = refl; number = ap (λ (x : ℕ). min x 1024) (sym (number-from 0 w ∙ simp (zero-mul, zero-add) refl)) }
 
-pub nothing-asked : (w : List ℕ) → length w ≡ 0 → Asked.Malformed ≡ askedResult w
-unfolding askedResult
-nothing-asked [] h = refl
-nothing-asked (c ∷ w) h = absurd (omega (arith, h))
+pub nothing-written : (w : List ℕ) → length w ≡ 0 → Number.Malformed ≡ numberIn w
+unfolding numberIn
+nothing-written [] h = refl
+nothing-written (c ∷ w) h = absurd (omega (arith, h))
 
 -- where there is a byte, a number is digits
 is-number : (w : List ℕ) → 1 ≤ length w → isNumber w ≡ allDigits w
@@ -104,51 +97,33 @@ module _ {w : List ℕ} {at n : ℕ} (x : Written w at n) where
         number = x .number ∙ ap (λ (v : List ℕ). min (numberFrom n v) 1024) rest ∙ sym (number-capped (10 * n + (c - 48)) (drop (at + 1) w)) ∙ ap (λ (v : ℕ). min (numberFrom v (drop (at + 1) w)) 1024) (sym f);
       }
 
-  pub written-bad : {b : Bool} → at < length w → b ≡ isDigit (getD w at 0) → not b ≡ true → Asked.Malformed ≡ askedResult w
-  unfolding allDigits askedResult
+  pub written-bad : {b : Bool} → at < length w → b ≡ isDigit (getD w at 0) → not b ≡ true → Number.Malformed ≡ numberIn w
+  unfolding allDigits numberIn
   written-bad {b} h e t =
       let none : allDigits w ≡ false = x .digits ∙ ap allDigits (drop-cons w at 0 h) ∙ rw (sym e, not-true b t) refl in
       rw (is-number w (x .some), none) refl
 
-  pub written-all : length w ≤ at → Asked.Macro n ≡ askedResult w
-  unfolding allDigits numberFrom askedResult
+  pub written-all : length w ≤ at → Number.Value n ≡ numberIn w
+  unfolding allDigits numberFrom numberIn
   written-all h =
       let all : allDigits w ≡ true = x .digits ∙ ap allDigits (drop-of-length-le w h) in
       let value : min (decimal w) 1024 ≡ n = x .number ∙ ap (λ (v : List ℕ). min (numberFrom n v) 1024) (drop-of-length-le w h) ∙ omega (arith, x .small) in
       rw (is-number w (x .some), all, value) refl
 
--- A number from 1,024 on is refused like 1,024: no book has such a macro.
-pub asked-alike : (b : List ℕ) (p : reader.Read) (n : ℕ) (work : List ℕ) → countResult (readBook b) p (min n 1024) work ≡ countResult (readBook b) p n work
-asked-alike b p n work = go (leb n 1024) refl
-  where
-    go : (x : Bool) → leb n 1024 ≡ x → countResult (readBook b) p (min n 1024) work ≡ countResult (readBook b) p n work
-    go true l = let h = leb-true n 1024 l in let same : min n 1024 ≡ n = omega arith in rw same refl
-    go false l = let h = leb-false n 1024 l in beyond-alike b p (min n 1024) n work (omega arith) (omega arith)
-
--- What is told of the macro that a text names.
-macroOf : Asked → ℕ
-macroOf (Asked.Macro n) = n
-macroOf Asked.Malformed = 0
-
-hasMacro : Asked → ℕ
-hasMacro (Asked.Macro n) = 0
-hasMacro Asked.Malformed = 1
-
-module _ (book pattern text : List ℕ) {a : Asked} (e : a ≡ askedResult text) where
-  pub named-told : {t : Told} {m : ℕ} → a ≡ Asked.Macro m → t ≡ macroAnswer book pattern m → some t ≡ namedAnswer book pattern text
-  unfolding askedResult namedAnswer macroAnswer macroOf hasMacro
-  named-told {t} {m} f g = go (isNumber text) (sym f ∙ e)
+-- What a number that was read says of the text.
+module _ (w : List ℕ) {a : Number} (e : a ≡ numberIn w) where
+  pub number-value : {n : ℕ} → a ≡ Number.Value n → (isNumber w ≡ true) × (n ≡ min (decimal w) 1024)
+  unfolding numberIn
+  number-value {n} f = go (isNumber w) (sym f ∙ e)
     where
-      go : (b : Bool) → Asked.Macro m ≡ cond b (Asked.Macro (min (decimal text) 1024)) Asked.Malformed → some t ≡ cond b (some (macroAnswer book pattern (decimal text))) none
-      go true h =
-          let number : m ≡ min (decimal text) 1024 = ap macroOf h in
-          ap some (g ∙ ap (λ (n : ℕ). macroAnswer book pattern n) number ∙ ap (λ (o : Outcome). told o) (asked-alike book (reader.readPattern pattern) (decimal text) (replicate mostWords 0)))
-      go false h = clash (ap hasMacro h)
+      go : (b : Bool) → Number.Value n ≡ cond b (Number.Value (min (decimal w) 1024)) Number.Malformed → (b ≡ true) × (n ≡ min (decimal w) 1024)
+      go true h = (refl, cc)
+      go false h = clash (cc)
 
-  pub named-none : a ≡ Asked.Malformed → none ≡ namedAnswer book pattern text
-  unfolding askedResult namedAnswer hasMacro
-  named-none f = go (isNumber text) (sym f ∙ e)
+  pub number-none : a ≡ Number.Malformed → isNumber w ≡ false
+  unfolding numberIn
+  number-none f = go (isNumber w) (sym f ∙ e)
     where
-      go : (b : Bool) → Asked.Malformed ≡ cond b (Asked.Macro (min (decimal text) 1024)) Asked.Malformed → none ≡ cond b (some (macroAnswer book pattern (decimal text))) none
-      go true h = clash (sym (ap hasMacro h))
+      go : (b : Bool) → Number.Malformed ≡ cond b (Number.Value (min (decimal w) 1024)) Number.Malformed → b ≡ false
+      go true h = clash (cc)
       go false h = refl

@@ -1,11 +1,11 @@
--- `asked::macro_asked`: the digits before `at` write n.
+-- `number_in`: the digits before `at` write n.
 use Prim.Native.Nat.{_-_}
 use native.Mathlib.Omega.{arith}
 use lib.ListN.{length}
 use borrow.Author.Needs.{needs}
-use Rattle.command.proofs.AskedLaws.{Written, written-none, written-more, written-bad, written-all, nothing-asked, digit-least, digit-most}
-use Rattle.command.proofs.asked.macro_asked.Statement.{statement}
-use Rattle.command.proofs.asked.macro_asked.Tie as tie
+use Rattle.decimals.proofs.NumberLaws.{Written, written-none, written-more, written-bad, written-all, nothing-written, digit-least, digit-most}
+use Rattle.decimals.proofs.number.number_in.Statement.{statement}
+use Rattle.decimals.proofs.number.number_in.Tie as tie
 
 abbrev Inv-loop : tie.InvT-loop
 Inv-loop text n₀ at₀ n at = Written text at n
@@ -14,7 +14,7 @@ abbrev μ-loop : tie.MeasureT-loop
 μ-loop text n₀ at₀ n at = length text - at
 
 returns : tie.Need-returns Inv-loop μ-loop
-returns c = search (nothing-asked)
+returns c = search (nothing-written)
 
 loop-holds : tie.Need-loop-holds Inv-loop μ-loop
 loop-holds c = search (written-none)
@@ -43,8 +43,8 @@ loop-again c = search (written-more)
 returns-3 : tie.Need-returns-3 Inv-loop μ-loop
 returns-3 c = search (written-all)
 
-pub macro-asked-spec : {M : Type 1} → statement M
-macro-asked-spec =
+pub number-in-spec : {M : Type 1} → statement M
+number-in-spec =
     tie.close
     (tie.spec
     Inv-loop

@@ -1,0 +1,2 @@
+-- What the command is refused for.
+use Prim.Native.Nat.{ℕ}

@@ -1,0 +1,20 @@
+// What was read into a buffer.
+ghost use mathlib.Core.Path.{_≡_};
+ghost use lib.ListN.{take};
+
+// The bytes of a book that are read: one more than the longest sound book has, 7 and 1,024 macros of 64 items, 130 bytes each. A book of
+// any length is answered by these.
+pub const BOOK_READ: usize = 133127 + 1;
+
+// The bytes of a pattern that are read: one more than the longest pattern has.
+pub const PATTERN_READ: usize = 128 + 1;
+
+// The first n bytes of a buffer, or all of it.
+pub fn read_part<'a>(buffer: &'a [u8], n: usize) -> &'a [u8]
+    ensures { λ r. ⌜ now r ≡ take n (now (buffer .entry)) ⌝ }
+{
+    if n < buffer.len() {
+        return &buffer[..n];
+    }
+    buffer
+}

@@ -1,0 +1,71 @@
+// What the command for people answers to a count: it takes any book, and has work words for each of them.
+use crate::buffer::BOOK_READ;
+use crate::buffer::PATTERN_READ;
+use crate::buffer::read_part;
+use crate::last::last_in;
+use counter::BookCount;
+use counter::MOST_WORDS;
+use counter::count_book;
+use decimals::Number;
+use decimals::number_in;
+ghost use mathlib.Core.Path.{_≡_};
+ghost use Rattle.command.specs.Input.{lastAnswer, macroAnswer, toldBy};
+ghost use Rattle.command.specs.Named.{namedAnswer, toldNamed};
+ghost use Rattle.command.specs.Reads.{LastAnswers, NamedAnswers};
+
+// The count of the macro that a text names; or the text is no number.
+pub enum NamedCount {
+    Count(BookCount),
+    NoNumber,
+}
+
+// How many lines of macro m's run match the pattern, and the steps.
+fn count_macro(book: &[u8], pattern: &[u8], m: usize) -> BookCount
+    ensures { λ r. ⌜ toldBy r ≡ macroAnswer (now (book .entry)) (now (pattern .entry)) m ⌝ }
+{
+    let mut work = [0; MOST_WORDS];
+    count_book(book, pattern, m, &mut work)
+}
+
+// The same of the macro whose number a text has in decimal digits.
+fn named_in(book: &[u8], pattern: &[u8], text: &[u8]) -> NamedCount
+    ensures { λ r. ⌜ toldNamed r ≡ namedAnswer (now (book .entry)) (now (pattern .entry)) (now (text .entry)) ⌝ }
+{
+    match number_in(text) {
+        Number::Value(m) => NamedCount::Count(count_macro(book, pattern, m)),
+        Number::Malformed => NamedCount::NoNumber,
+    }
+}
+
+// The same of the last macro.
+fn last_of(book: &[u8], pattern: &[u8]) -> BookCount
+    ensures { λ r. ⌜ toldBy r ≡ lastAnswer (now (book .entry)) (now (pattern .entry)) ⌝ }
+{
+    let mut work = [0; MOST_WORDS];
+    last_in(book, pattern, &mut work)
+}
+
+// The count of the macro that a text names, in every book of which these n bytes were read, under every pattern of which these k were.
+pub fn count_named(
+    book: &[u8; BOOK_READ],
+    n: usize,
+    pattern: &[u8; PATTERN_READ],
+    k: usize,
+    text: &[u8],
+) -> NamedCount
+    ensures { λ r. ⌜ NamedAnswers (now (book .entry)) n (now (pattern .entry)) k (now (text .entry)) r ⌝ }
+{
+    named_in(read_part(book, n), read_part(pattern, k), text)
+}
+
+// The same of the last macro.
+pub fn count_last(
+    book: &[u8; BOOK_READ],
+    n: usize,
+    pattern: &[u8; PATTERN_READ],
+    k: usize,
+) -> BookCount
+    ensures { λ r. ⌜ LastAnswers (now (book .entry)) n (now (pattern .entry)) k r ⌝ }
+{
+    last_of(read_part(book, n), read_part(pattern, k))
+}

@@ -1,0 +1,23 @@
+-- Texts that are put into a buffer, one behind the other.
+use Prim.Native.Nat.{ℕ, _+_}
+use mathlib.Core.Bool.{Bool, cond}
+use mathlib.Core.List.{List, _++_}
+use lib.Dec.{leb}
+use lib.ListN.{length, drop}
+use lib.Seq.{paste}
+
+-- there is room for a text from a place on
+abbrev pub fits : List ℕ → ℕ → List ℕ → Bool
+fits out at w = leb (at + length w) (length out)
+
+-- the buffer with a text from a place on, or as it was where there is no room for all of it
+unfoldable pub putAt : List ℕ → ℕ → List ℕ → List ℕ
+putAt out at w = cond (fits out at w) (paste out at w (length w)) out
+
+-- the place behind that text, or the same place
+unfoldable pub placeAfter : List ℕ → ℕ → List ℕ → ℕ
+placeAfter out at w = cond (fits out at w) (at + length w) at
+
+-- a text at the front of a buffer, and what stood behind it
+abbrev pub over : List ℕ → List ℕ → List ℕ
+over w out = w ++ drop (length w) out
