@@ -1,2 +1,75 @@
--- What the command is refused for.
-use Prim.Native.Nat.{ℕ}
+-- What the command for people is refused for: 1 to 10 and 12 of the table. It has work words enough for every book (11), joins no reports
+-- (13), and takes input of any length (14).
+use Prim.Native.Nat.{ℕ, _<_, _≤_}
+use native.Mathlib.Omega.{arith}
+use mathlib.Core.Path.{_≡_, refl}
+use mathlib.Core.Logic.{_⊎_, inl, inr, ⊎-elim}
+use mathlib.Core.Bool.{Bool, true, false, cond}
+use mathlib.Core.List.{List}
+use mathlib.Core.Option.{none, some}
+use lib.Dec.{ltb}
+use lib.ListN.{length, replicate, length-replicate}
+use borrow.Author.Tests.{ltb-true, le-ltb}
+use Rattle.refusal.specs.declared.Refusal.the-variants.{NoSuchMacro, InsufficientSpace}
+use Rattle.runs.proofs.Tests.{clash}
+use Rattle.book.specs.Format.{Macro}
+use Rattle.book.specs.Reading.{Reading, got, refused, readBook}
+use Rattle.book.proofs.Refusals.{book-refusals}
+use Rattle.pattern.specs.Form.{Pattern}
+use Rattle.pattern.specs.Reader as reader
+use Rattle.pattern.proofs.Accepts.{pattern-refusals}
+use Rattle.reports.specs.declared.total.Total.{Total}
+use Rattle.reports.specs.Totals.{totalOf}
+use Rattle.counter.specs.Counting.{stopped, finishedBy, needed, mostWords, matchingLines, steps, filled, countOf, countResult}
+use Rattle.counter.proofs.FrontLaws.{count-refused-book, count-refused-pattern, count-accepted}
+use Rattle.counter.proofs.Demands.{needed-most}
+use Rattle.decimals.specs.Decimals.{isNumber, decimal}
+use Rattle.command.specs.Input.{Told, lastMacro, lastResult, macroAnswer, lastAnswer}
+use Rattle.command.specs.Named.{namedAnswer}
+
+-- the number of a refusal of the command, or 0 for a count
+abbrev pub CommandRefusal : ℕ → Type 0
+CommandRefusal r = (r ≤ 10) ⊎ (r ≡ 12)
+
+-- 11, 13 and 14 are none of them
+pub never-answered : (r : ℕ) → CommandRefusal r → (r ≡ 11 → ⊥) × (r ≡ 13 → ⊥) × (r ≡ 14 → ⊥)
+never-answered r h = (λ e. ⊎-elim (λ l. omega arith) (λ l. omega arith) h, λ e. ⊎-elim (λ l. omega arith) (λ l. omega arith) h, λ e. ⊎-elim (λ l. omega arith) (λ l. omega arith) h)
+
+counted : (z : Total) (k : ℕ) (v : List ℕ) → CommandRefusal (finishedBy z k v .refusal)
+counted (Total.Lines n) k v = inl (omega arith)
+counted Total.TooMany k v = inr refl
+
+module _ (b p : List ℕ) (m : ℕ) (work : List ℕ) (enough : length work ≡ mostWords) where
+  of-count : CommandRefusal (countResult (readBook b) (reader.readPattern p) m work .refusal)
+  of-count = go (readBook b) refl (reader.readPattern p) refl
+    where
+      space : (ms : List Macro) (t : Pattern) → (m < length ms → needed t m ≤ mostWords) → (x : Bool) → ltb m (length ms) ≡ x → CommandRefusal (cond x (cond (ltb (length work) (needed t m)) (stopped InsufficientSpace work) (countOf t ms m work)) (stopped NoSuchMacro work) .refusal)
+      space ms t room true e =
+          let few : needed t m ≤ length work = rw enough (room (ltb-true m (length ms) e)) in
+          rw (le-ltb (length work) (needed t m) few) (counted (totalOf (matchingLines t ms m)) (steps t ms m) (filled t ms m work))
+      space ms t room false e = inl (omega arith)
+
+      go : (g : Reading (List Macro)) → readBook b ≡ g → (q : reader.Read) → reader.readPattern p ≡ q → CommandRefusal (countResult g q m work .refusal)
+      go (refused r) d q e = rw (count-refused-book m work r q) (inl (omega (arith, book-refusals b r d)))
+      go (got ms rest) d (reader.refused r) e = rw (count-refused-pattern m work ms rest r) (inl (omega (arith, pattern-refusals p r e .1)))
+      go (got ms rest) d (reader.accepted t) e =
+          rw (count-accepted m work ms rest t)
+          (space ms t (λ l. needed-most b p t m e (rw d l)) (ltb m (length ms)) refl)
+
+-- the count of a macro, of the last one, and of the one that a text names
+module _ (b p : List ℕ) where
+  pub macro-refusals : (m : ℕ) → CommandRefusal (macroAnswer b p m .refusal)
+  unfolding macroAnswer
+  macro-refusals m = of-count b p m (replicate mostWords 0) (length-replicate {A = ℕ} mostWords 0)
+
+  pub last-refusals : CommandRefusal (lastAnswer b p .refusal)
+  unfolding lastAnswer lastResult
+  last-refusals = of-count b p (lastMacro (readBook b)) (replicate mostWords 0) (length-replicate {A = ℕ} mostWords 0)
+
+  pub named-refusals : (text : List ℕ) (t : Told) → namedAnswer b p text ≡ some t → CommandRefusal (t .refusal)
+  unfolding namedAnswer
+  named-refusals text t e = go (isNumber text) e
+    where
+      go : (x : Bool) → cond x (some (macroAnswer b p (decimal text))) none ≡ some t → CommandRefusal (t .refusal)
+      go true h = let same : macroAnswer b p (decimal text) ≡ t = cc in rw (← same) (macro-refusals (decimal text))
+      go false h = clash (cc)

@@ -1,10 +1,11 @@
 -- Laws of texts in a buffer.
 use Prim.Native.Nat.{ℕ, _+_, _-_, _<_, _≤_}
+use native.Mathlib.Nat.{add-assoc}
 use native.Mathlib.Omega.{arith}
 use mathlib.Core.Path.{_≡_, refl, sym, ap, _∙_}
 use mathlib.Core.List.{List, [], _∷_, _++_, append-assoc}
 use lib.ListN.{length, take, drop, length-append, length-drop}
-use lib.Seq.{paste, take-all, take-append-seam, drop-append-add, drop-drop, take-length}
+use lib.Seq.{paste, take-append-seam, drop-append-add, drop-drop, take-length, length-paste, take-paste, drop-paste}
 use borrow.Author.Tests.{le-leb, lt-leb}
 use Rattle.io.specs.Digits.{Fewest}
 use Rattle.io.specs.Digits as io
@@ -92,3 +93,38 @@ module _ (out digits : List ℕ) (at n k : ℕ) (few : Fewest 10 1 n k) (e : tak
 
   pub place-digits : {place : ℕ} → place ≡ placeAfter out at (take k digits) → place ≡ placeAfter out at (numeral n)
   place-digits f = f ∙ ap (λ (w : List ℕ). placeAfter out at w) (e ∙ decimal-digits n k few)
+
+-- two texts put one behind the other are one text
+module _ (out : List ℕ) (at : ℕ) (u v : List ℕ) (room : at + (length u + length v) ≤ length out) where
+  module _ {mid : List ℕ} {place : ℕ} (e : mid ≡ putAt out at u) (f : place ≡ placeAfter out at u) where
+    first : mid ≡ paste out at u (length u)
+    first = e ∙ sym (put-all out at u (omega arith))
+
+    behind : place ≡ at + length u
+    behind = f ∙ sym (place-all out at u (omega arith))
+
+    long : length mid ≡ length out
+    long = ap length first ∙ length-paste out at u (length u) (omega arith) (omega arith)
+
+    front : take place mid ≡ take at out ++ u
+    front = rw (behind, first) (take-paste out at u (length u) (omega arith) (omega arith) ∙ ap (λ (l : List ℕ). take at out ++ l) (take-length u))
+
+    rest : drop (place + length v) mid ≡ drop (at + length (u ++ v)) out
+    rest =
+        let ends : at + length u + length v ≡ at + length (u ++ v) = omega (arith, length-append u v) in
+        sym (drop-drop (length v) place mid)
+        ∙ ap (λ (l : List ℕ). drop (length v) l) (rw (behind, first) (drop-paste out at u (length u) (omega arith) (omega arith)))
+        ∙ drop-drop (length v) (at + length u) out
+        ∙ ap (λ (n : ℕ). drop n out) ends
+
+    pub put-both : {new : List ℕ} → new ≡ putAt mid place v → new ≡ putAt out at (u ++ v)
+    put-both g =
+        let whole : at + length (u ++ v) ≤ length out = rw (length-append u v) room in
+        g ∙ sym (put-all mid place v (omega (arith, behind, long)))
+        ∙ rw (front, rest, take-length v, take-length (u ++ v)) (ap (λ (l : List ℕ). l ++ drop (at + length (u ++ v)) out) (append-assoc (take at out) u v))
+        ∙ put-all out at (u ++ v) whole
+
+    pub place-both : {new : ℕ} → new ≡ placeAfter mid place v → new ≡ placeAfter out at (u ++ v)
+    place-both g =
+        let whole : at + length (u ++ v) ≤ length out = rw (length-append u v) room in
+        g ∙ sym (place-all mid place v (omega (arith, behind, long))) ∙ rw (behind, length-append u v) (add-assoc at (length u) (length v)) ∙ place-all out at (u ++ v) whole

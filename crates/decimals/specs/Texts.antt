@@ -1,10 +1,18 @@
 -- Texts that are put into a buffer, one behind the other.
 use Prim.Native.Nat.{ℕ, _+_}
+use Prim.Native.Char.{code}
+use Prim.Native.String as string
+use Prim.Native.String.{String}
 use mathlib.Core.Bool.{Bool, cond}
-use mathlib.Core.List.{List, _++_}
+use mathlib.Core.List.{List, [], _∷_, _++_}
 use lib.Dec.{leb}
 use lib.ListN.{length, drop}
 use lib.Seq.{paste}
+
+-- the bytes of a text in ASCII
+abbrev pub ascii : String → List ℕ
+ascii string.[] = []
+ascii (string._∷_ c s) = code c ∷ ascii s
 
 -- there is room for a text from a place on
 abbrev pub fits : List ℕ → ℕ → List ℕ → Bool

@@ -33,10 +33,11 @@ pub fn put_text(out: &mut [u8], at: usize, text: &[u8]) -> usize
     at + text.len()
 }
 
-// The same with a number's digits.
+// The same with a number's digits, of which there are 20 at the most.
 pub fn put_number(out: &mut [u8], at: usize, n: u64) -> usize
     ensures buffer { λ _. ⌜ now (out .exit) ≡ putAt (now (out .entry)) at (numeral n) ⌝ }
     ensures place { λ r. ⌜ r ≡ placeAfter (now (out .entry)) at (numeral n) ⌝ }
+    ensures short { λ _. ⌜ length (numeral n) ≤ 20 ⌝ }
 {
     let mut digits = [0; 20];
     let k = io::decimal(n, &mut digits);

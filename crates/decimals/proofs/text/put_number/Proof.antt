@@ -1,5 +1,10 @@
 -- `text::put_number`: the digits that `io::decimal` writes are the numeral.
 use borrow.Author.Needs.{needs}
+use native.Mathlib.Omega.{arith}
+use Prim.Native.Nat.{_≤_}
+use lib.ListN.{length}
+use Rattle.decimals.specs.Decimals.{numeral}
+use Rattle.decimals.proofs.NumeralLaws.{numeral-short}
 use Rattle.decimals.proofs.TextLaws.{put-digits, place-digits}
 use Rattle.decimals.proofs.text.put_number.Statement.{statement}
 use Rattle.decimals.proofs.text.put_number.Tie as tie
@@ -20,7 +25,9 @@ same-length : tie.Need-same-length
 same-length c = search needs
 
 returns : tie.Need-returns
-returns c = (search (put-digits), search (place-digits))
+returns c =
+    let a = c .before .before .before .before .before .before .before .before in
+    (search (put-digits), (search (place-digits), numeral-short 20 (a .args .n) (omega arith) (omega arith)))
 
 pub put-number-spec : {M : Type 1} → statement M
 put-number-spec = tie.close (tie.spec decimal-requires array-share-prefix-digits slice-aggregate-put-text put-text-requires same-length returns)
