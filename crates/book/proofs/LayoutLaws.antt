@@ -4,12 +4,13 @@ use native.Mathlib.Omega.{arith}
 use mathlib.Core.Path.{_≡_, refl, sym, ap, _∙_}
 use mathlib.Core.Bool.{true}
 use mathlib.Core.List.{List, []}
-use lib.ListN.{length}
+use lib.ListN.{length, drop}
+use borrow.Author.Tests.{lt-ltb, le-ltb}
 use Rattle.refusal.specs.declared.Refusal.{Refusal}
 use Rattle.book.specs.declared.layout.Checked.{Checked}
 use Rattle.book.specs.declared.layout.Layout.{Layout}
 use Rattle.book.specs.Format.{Macro, wellFormed}
-use Rattle.book.specs.Reading.{Reading, got, refused, readBook, macrosOf, macrosIn}
+use Rattle.book.specs.Reading.{Reading, got, refused, le16, readBook, versionIn, macrosOf, macrosIn}
 use Rattle.book.specs.Answer.{layout, layoutFor, checkResult, checkedFigures}
 use Rattle.book.proofs.Offsets.{whole}
 use Rattle.book.proofs.Coding.{read-well}
@@ -72,3 +73,18 @@ macros-few b = go (readBook b) refl
     go : (g : Reading (List Macro)) → readBook b ≡ g → length (macrosOf g) ≤ 1024
     go (got ms rest) e = whole b ms rest e .few
     go (refused r) e = omega arith
+
+-- The version.
+module _ (b : List ℕ) where
+  pub version-short : length b < 5 → 0 ≡ versionIn b
+  unfolding versionIn
+  version-short h = rw (lt-ltb (length b) 5 h) refl
+
+  pub version-told : 5 ≤ length b → {v : ℕ} → v ≡ le16 (drop 3 b) → v ≡ versionIn b
+  unfolding versionIn
+  version-told h e = rw (le-ltb (length b) 5 h) e
+
+  -- a sound book's is 1
+  pub version-sound : (ms : List Macro) (rest : List ℕ) → readBook b ≡ got ms rest → versionIn b ≡ 1
+  unfolding versionIn
+  version-sound ms rest e = let w = whole b ms rest e in let long : 5 ≤ length b = omega (arith, w .long) in rw (le-ltb (length b) 5 long) (w .version)

@@ -1,6 +1,6 @@
 -- What is read of macro m of a book: the refusal of the book, no such macro, or the book's macros.
 use Prim.Native.Nat.{ℕ, _<_, _≤_}
-use mathlib.Core.Path.{_≡_}
+use mathlib.Core.Path.{_≡_, refl}
 use mathlib.Core.List.{List}
 use lib.ListN.{length}
 use borrow.Author.Tests.{lt-ltb, le-ltb}
@@ -23,3 +23,8 @@ module _ (m : ℕ) (b : List ℕ) where
     pub require-in : m < length ms → requireMacro m b ≡ got ms rest
     unfolding requireMacro
     require-in h = rw (e, lt-ltb _ _ h)
+
+-- it rests on what is read of the book alone
+pub require-alike : (m : ℕ) (b c : List ℕ) → readBook b ≡ readBook c → requireMacro m b ≡ requireMacro m c
+unfolding requireMacro
+require-alike m b c e = rw e refl

@@ -1,29 +1,32 @@
 -- How many bytes a book has at the most.
-use Prim.Native.Nat.{ℕ, suc, _+_, _*_, _≤_}
+use Prim.Native.Nat.{ℕ, zero, suc, _+_, _-_, _*_, _≤_}
 use native.Mathlib.Omega.{arith}
 use mathlib.Core.Path.{_≡_}
-use mathlib.Core.Bool.{true, _&&_, and-eq-true-iff}
-use mathlib.Core.List.{List, [], _∷_}
-use lib.Dec.{leb}
-use lib.ListN.{length, length-append}
-use borrow.Author.Tests.{leb-true}
-use Rattle.book.specs.Format.{Macro, Sound, encode, encodeMacros, soundItems, soundMacro, soundMacros, wellFormed, width}
-use Rattle.book.proofs.Coding.{length-items}
+use mathlib.Core.List.{List, []}
+use lib.ListN.{length, drop, length-drop}
+use Rattle.book.specs.Format.{Macro, Sound, encode, width}
+use Rattle.book.specs.Reading.{got, readMacro, readMacros, readBook}
+use Rattle.book.proofs.Coding.{encode-read}
+use Rattle.book.proofs.Readings.{more-got}
+use Rattle.book.proofs.Offsets.{macro-got, whole}
 
--- each macro has its count and 64 items at the most
-macros-length : (n : ℕ) (ms : List Macro) → soundMacros n ms ≡ true → length (encodeMacros ms) ≤ (2 + width * 64) * length ms
-unfolding encodeMacros soundMacros soundMacro
-macros-length n [] h = omega arith
-macros-length n (m ∷ ms) h =
-    let (one, rest) = and-eq-true-iff (soundMacro n m) (soundMacros (suc n) ms) .0 h in
-    let (low, others) = and-eq-true-iff (leb 1 (length m)) (leb (length m) 64 && soundItems n m) .0 one in
-    let short = leb-true (length m) 64 (and-eq-true-iff (leb (length m) 64) (soundItems n m) .0 others .0) in
-    simp length-append (omega (arith, length-items m, macros-length (suc n) ms rest, short))
+-- macros that were read took at most 130 bytes each
+macros-took : (n k : ℕ) (b rest : List ℕ) (ms : List Macro) → readMacros n k b ≡ got ms rest → length b ≤ 130 * k + length rest
+unfolding readMacros
+macros-took n zero b rest ms e = let same : b ≡ rest = cc in rw same (omega arith)
+macros-took n (suc k) b rest ms e =
+    let (m, ns, mid, same, one, others) = more-got (readMacro n b) (readMacros (suc n) k) ms rest e in
+    let (there, fits, few) = macro-got n b mid m one in
+    let left : length mid ≡ length b - (2 + width * length m) = rw there (length-drop (2 + width * length m) b) in
+    omega (arith, macros-took (suc n) k mid rest ns others)
+
+-- so a book that was read has no more than 133,127
+pub longest-read : (b : List ℕ) (ms : List Macro) (rest : List ℕ) → readBook b ≡ got ms rest → length b ≤ 133127
+longest-read b ms rest e =
+    let w = whole b ms rest e in
+    let took : length (drop 7 b) ≤ 130 * length ms + 0 = macros-took 0 (length ms) (drop 7 b) [] ms (w .macros) in
+    omega (arith, length-drop 7 b, w .few)
 
 -- 133,127 bytes are the most that a sound book has
 pub longest : (b : List ℕ) → Sound b → length b ≤ 133127
-unfolding encode wellFormed
-longest b (ms, h, e) =
-    let all = and-eq-true-iff (leb 1 (length ms)) (leb (length ms) 1024 && soundMacros 0 ms) .0 h .1 in
-    let (few, sound) = and-eq-true-iff (leb (length ms) 1024) (soundMacros 0 ms) .0 all in
-    rw e (omega (arith, macros-length 0 ms sound, leb-true (length ms) 1024 few))
+longest b (ms, h, e) = rw e (longest-read (encode ms) ms [] (encode-read ms h))

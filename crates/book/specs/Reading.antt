@@ -84,6 +84,10 @@ readHeader b =
     (refused UnsupportedVersion))
     (refused BadMagic)
 
+-- "Then a two-byte version": the one that some bytes give, 0 where they do not reach so far
+unfoldable pub versionIn : List ℕ → ℕ
+versionIn b = cond (ltb (length b) 5) 0 (le16 (drop 3 b))
+
 -- "Nothing follows"; 4, "bytes left over"
 abbrev pub atEnd : {A : Type 0} → A → Reader A
 atEnd a b = cond (eqb (length b) 0) (got a b) (refused MalformedBody)

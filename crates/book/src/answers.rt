@@ -1,4 +1,5 @@
 // What is asked of a whole book.
+use crate::item::le16_at;
 use crate::layout::Checked;
 use crate::layout::layout_of;
 use crate::macro_items::part_of;
@@ -6,7 +7,7 @@ use refusal::Refusal;
 use refusal::code;
 ghost use denote.Ref.{ptr};
 ghost use mathlib.Core.Path.{_≡_};
-ghost use Rattle.book.specs.Reading.{readBook};
+ghost use Rattle.book.specs.Reading.{readBook, versionIn};
 ghost use Rattle.book.specs.Answer.{bodyAt, bodyOf, checkResult, checkedFigures, requireMacro, refusalOf};
 
 // Whether a book is sound (document 01, "The book"): its macro count, or the first fault in reading order.
@@ -15,6 +16,16 @@ pub fn check(book: &[u8]) -> Checked
 {
     let found = layout_of(book);
     found.answer
+}
+
+// The version that a book's bytes give, 0 where they do not reach so far.
+pub fn version_of(book: &[u8]) -> u16
+    ensures { λ r. ⌜ r ≡ versionIn (now (book .entry)) ⌝ }
+{
+    if book.len() < 5 {
+        return 0;
+    }
+    le16_at(book, 3)
 }
 
 // The body of macro m, as that part of the book; the refusal's number goes to `refused`, 0 if there is none.

@@ -6,6 +6,7 @@ mod macro_items;
 
 pub use answers::body;
 pub use answers::check;
+pub use answers::version_of;
 pub use item::Item;
 pub use item::item_of;
 pub use layout::Checked;

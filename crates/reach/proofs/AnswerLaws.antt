@@ -2,18 +2,23 @@
 use Prim.Native.Nat.{ℕ, _+_, _<_, _≤_}
 use native.Mathlib.Omega.{arith}
 use mathlib.Core.Path.{_≡_, refl, ap}
+use mathlib.Core.Logic.{_⊎_, inl, inr}
+use mathlib.Core.Bool.{Bool, true, false}
 use mathlib.Core.List.{List, []}
+use lib.Dec.{ltb}
 use lib.ListN.{length}
-use borrow.Author.Tests.{lt-ltb, le-ltb}
+use borrow.Author.Tests.{lt-ltb, le-ltb, ltb-true, ltb-false}
 use Rattle.refusal.specs.declared.Refusal.{Refusal}
 use Rattle.refusal.specs.declared.Refusal.the-variants.{NoSuchMacro, InsufficientSpace}
-use Rattle.refusal.specs.Figures.{answered, refusedFor}
+use Rattle.refusal.specs.Figures.{Figures, answered, refusedFor}
 use Rattle.book.specs.declared.layout.Checked.{Checked}
 use Rattle.book.specs.declared.layout.Layout.{Layout}
-use Rattle.book.specs.Reading.{got, refused, macrosIn}
+use Rattle.book.specs.Format.{Macro}
+use Rattle.book.specs.Reading.{Reading, got, refused, readBook, macrosIn}
 use Rattle.book.specs.Answer.{layout, requireMacro}
-use Rattle.book.proofs.LayoutLaws.{layout-refused, layout-sound, layout-count}
-use Rattle.book.proofs.Requiring.{require-refused, require-out, require-in}
+use Rattle.book.proofs.LayoutLaws.{layout-refused, layout-sound, layout-count, macros-few}
+use Rattle.book.proofs.Requiring.{require-refused, require-out, require-in, require-alike}
+use Rattle.book.proofs.Refusals.{book-refusals}
 use Rattle.reach.specs.Reach.{ReachList}
 use Rattle.reach.specs.Answer.{ReachAnswer, requireEntries}
 use Rattle.reach.specs.Promises.{MacroOf}
@@ -56,3 +61,45 @@ module _ (b before : List ℕ) (m : ℕ) {l : Layout} (e : l ≡ layout b) where
         list-written w =
             let enough : m + 1 ≤ length before = omega arith in
             rw (required b m e f h, le-ltb _ _ enough) (refl, w)
+
+-- What is answered, for those who lend a list.
+
+-- it rests on what is read of the book alone
+pub entries-alike : (m entries : ℕ) (b c : List ℕ) → readBook b ≡ readBook c → requireEntries m entries b ≡ requireEntries m entries c
+unfolding requireEntries
+entries-alike m entries b c e = rw (require-alike m b c e) refl
+
+-- no book has a macro from 1,024 on: all such numbers are refused alike
+entries-refused : (b : List ℕ) (entries m : ℕ) {r : Refusal} → requireMacro m b ≡ refused r → requireEntries m entries b ≡ refused r
+unfolding requireEntries
+entries-refused b entries m e = rw e refl
+
+entries-beyond : (b : List ℕ) (entries m k : ℕ) → 1024 ≤ m → 1024 ≤ k → (r : Refusal) × (requireEntries m entries b ≡ refused r) × (requireEntries k entries b ≡ refused r)
+entries-beyond b entries m k h l = go (readBook b) refl
+  where
+    go : (g : Reading (List Macro)) → readBook b ≡ g → (r : Refusal) × (requireEntries m entries b ≡ refused r) × (requireEntries k entries b ≡ refused r)
+    go (got ms rest) e =
+        let few : length ms ≤ 1024 = rw e at (macros-few b) in
+        (NoSuchMacro, entries-refused b entries m (require-out m b e (omega arith)), entries-refused b entries k (require-out k b e (omega arith)))
+    go (refused r) e = (r, entries-refused b entries m (require-refused m b e), entries-refused b entries k (require-refused k b e))
+
+pub reached-beyond : (b before after : List ℕ) (m k : ℕ) (f : Figures ℕ) → 1024 ≤ m → 1024 ≤ k → ReachAnswer (requireEntries m (length before) b) m f before after → ReachAnswer (requireEntries k (length before) b) k f before after
+reached-beyond b before after m k f h l w = let (r, x, y) = entries-beyond b (length before) m k h l in rw y (rw x at w)
+
+-- with 1,024 entries 11 is never answered: what is refused is the book, or the macro's number
+pub reached-refusals : (b before after : List ℕ) (m : ℕ) (f : Figures ℕ) → length before ≡ 1024 → ReachAnswer (requireEntries m (length before) b) m f before after → (f .refusal ≤ 6) ⊎ (f .refusal ≡ 10)
+unfolding requireEntries
+reached-refusals b before after m f long w = go (readBook b) refl
+  where
+    go : (g : Reading (List Macro)) → readBook b ≡ g → (f .refusal ≤ 6) ⊎ (f .refusal ≡ 10)
+    go (refused r) e = inl (rw (ap (λ (x : Figures ℕ). x .refusal) (rw (require-refused m b e) at w .0)) (book-refusals b r e))
+    go (got ms rest) e = split (ltb m (length ms)) refl
+      where
+        split : (x : Bool) → ltb m (length ms) ≡ x → (f .refusal ≤ 6) ⊎ (f .refusal ≡ 10)
+        split true h =
+            let inside : m < length ms = ltb-true m (length ms) h in
+            let few : length ms ≤ 1024 = rw e at (macros-few b) in
+            let enough : m + 1 ≤ length before = omega arith in
+            let none : f .refusal ≡ 0 = rw (require-in m b e inside, le-ltb (length before) (m + 1) enough) at w .0 in
+            inl (omega arith)
+        split false h = inr (ap (λ (x : Figures ℕ). x .refusal) (rw (require-out m b e (ltb-false m (length ms) h)) at w .0))

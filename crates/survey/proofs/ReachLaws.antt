@@ -1,0 +1,59 @@
+-- Laws of the reach list of the macro that a command names, or of the last one.
+use Prim.Native.Nat.{ℕ, _≤_, min}
+use native.Mathlib.Omega.{arith}
+use mathlib.Core.Path.{_≡_, refl, sym, ap, _∙_}
+use mathlib.Core.Logic.{_⊎_}
+use mathlib.Core.Bool.{Bool, true, false}
+use mathlib.Core.List.{List}
+use lib.Dec.{leb}
+use lib.ListN.{length, take}
+use borrow.Author.Tests.{leb-true, leb-false}
+use Rattle.refusal.specs.Figures.{Figures}
+use Rattle.book.specs.Reading.{readBook}
+use Rattle.book.proofs.Prefix.{book-prefix}
+use Rattle.reach.specs.declared.listing.Reached.{Reached}
+use Rattle.reach.specs.Answer.{ReachAnswer, requireEntries, reachedFigures}
+use Rattle.reach.proofs.AnswerLaws.{entries-alike, reached-beyond, reached-refusals}
+use Rattle.decimals.specs.declared.number.Number.{Number}
+use Rattle.decimals.specs.Decimals.{isNumber, decimal, numberIn}
+use Rattle.decimals.proofs.NumberLaws.{number-value, number-none}
+use Rattle.command.specs.Buffers.{ReadFrom}
+use Rattle.command.specs.Input.{lastMacro}
+use Rattle.survey.specs.declared.reached.NamedReach.{NamedReach}
+use Rattle.survey.specs.Reached.{ReachedIn, LastReached, ReachedBy, NamedReached}
+
+-- a book of any length is read as its first 133,128 bytes
+module _ (book bytes : List ℕ) (n : ℕ) (long : length book ≡ 133128) (is : bytes ≡ take n book) where
+  whole : (b : List ℕ) → ReadFrom book n b → readBook bytes ≡ readBook b
+  whole b f = rw (is, f, long) (book-prefix 133128 b (omega arith))
+
+  reached-whole : (b : List ℕ) → ReadFrom book n b → (m : ℕ) (f : Figures ℕ) (before after : List ℕ) → ReachedIn bytes m f before after → ReachedIn b m f before after
+  reached-whole b e m f before after w = rw (entries-alike m (length before) bytes b (whole b e)) at w
+
+  -- the last macro
+  pub last-reached : (m : ℕ) (f : Figures ℕ) (before after : List ℕ) → m ≡ lastMacro (readBook bytes) → ReachedIn bytes m f before after → LastReached book n f before after
+  unfolding LastReached
+  last-reached m f before after e w b g =
+      let same : lastMacro (readBook bytes) ≡ lastMacro (readBook b) = ap lastMacro (whole b g) in
+      rw (← same, ← e) (reached-whole b g m f before after w)
+
+  -- the macro that a text names: 1,024 stands for all from there on
+  module _ (text : List ℕ) {a : Number} (e : a ≡ numberIn text) (before after : List ℕ) where
+    pub named-reached : (m : ℕ) (r : Reached) → a ≡ Number.Value m → ReachedIn bytes m (reachedFigures r) before after → NamedReached book n text (NamedReach.Reach r) before after
+    unfolding NamedReached
+    named-reached m r f w b g =
+        let (number, value) = number-value text e f in
+        (number, go (leb (decimal text) 1024) refl (rw value at (reached-whole b g m (reachedFigures r) before after w)))
+      where
+        go : (x : Bool) → leb (decimal text) 1024 ≡ x → ReachedIn b (min (decimal text) 1024) (reachedFigures r) before after → ReachedIn b (decimal text) (reachedFigures r) before after
+        go true l v = let h = leb-true (decimal text) 1024 l in let same : min (decimal text) 1024 ≡ decimal text = omega arith in rw same at v
+        go false l v = let h = leb-false (decimal text) 1024 l in reached-beyond b before after (min (decimal text) 1024) (decimal text) (reachedFigures r) (omega arith) (omega arith) v
+
+-- a text that names none leaves the list as it was
+pub nothing-reached : (book : List ℕ) (n : ℕ) (text : List ℕ) {a : Number} → a ≡ numberIn text → (list : List ℕ) → a ≡ Number.Malformed → NamedReached book n text NamedReach.NoNumber list list
+unfolding NamedReached
+nothing-reached book n text e list f b g = (number-none text e f, refl)
+
+-- What the command is refused for: 1 to 6, and 10. With 1,024 entries 11 is never answered.
+pub reach-refusals : (b : List ℕ) (m : ℕ) (f : Figures ℕ) (before after : List ℕ) → length before ≡ 1024 → ReachedIn b m f before after → (f .refusal ≤ 6) ⊎ (f .refusal ≡ 10)
+reach-refusals b m f before after long w = reached-refusals b before after m f long w

@@ -1,0 +1,3 @@
+-- What the command says about a book.
+pub mod Facts
+pub mod Reached
