@@ -3,7 +3,9 @@ use Prim.Native.Nat.{ℕ, _+_, _-_, _<_, _≤_}
 use native.Mathlib.Nat.{add-assoc}
 use native.Mathlib.Omega.{arith}
 use mathlib.Core.Path.{_≡_, refl, sym, ap, _∙_}
-use mathlib.Core.List.{List, [], _∷_, _++_, append-assoc}
+use mathlib.Core.Bool.{Bool, true, false, cond}
+use mathlib.Core.List.{List, [], _++_, append-assoc}
+use lib.Dec.{leb}
 use lib.ListN.{length, take, drop, length-append, length-drop}
 use lib.Seq.{paste, take-append-seam, drop-append-add, drop-drop, take-length, length-paste, take-paste, drop-paste}
 use borrow.Author.Tests.{le-leb, lt-leb}
@@ -56,6 +58,15 @@ module _ (out : List ℕ) (at : ℕ) (w : List ℕ) where
 
       pub place-copied : at + length w ≡ placeAfter out at w
       place-copied = place-all (omega arith)
+
+-- a text's end is no further than its length behind its start
+pub place-near : (out : List ℕ) (at : ℕ) (w : List ℕ) → placeAfter out at w ≤ at + length w
+unfolding placeAfter
+place-near out at w = go (leb (at + length w) (length out))
+  where
+    go : (b : Bool) → cond b (at + length w) at ≤ at + length w
+    go true = omega arith
+    go false = omega arith
 
 -- A text at the front of a buffer that held `old`, and the place behind it.
 pub record Put (old w new : List ℕ) (at : ℕ) : Type 0 where

@@ -1,0 +1,2 @@
+-- Laws of the lines that the programs print.
+pub mod LineLaws

@@ -1,0 +1,49 @@
+-- The lines that the programs print.
+use Prim.Native.Nat.{ℕ}
+use Prim.Native.String.{String}
+use mathlib.Core.Path.{_≡_}
+use mathlib.Core.Bool.{cond}
+use mathlib.Core.List.{List, [], _∷_, _++_}
+use lib.Dec.{eqb}
+use lib.ListN.{length}
+use Rattle.refusal.specs.Figures.{Figures}
+use Rattle.runs.specs.Keys.{lineEnd}
+use Rattle.decimals.specs.Decimals.{numeral}
+use Rattle.decimals.specs.Texts.{ascii, over}
+use Rattle.command.specs.Input.{Told}
+use Rattle.survey.specs.declared.facts.Facts.{Facts}
+
+-- a name and a number in decimal digits
+abbrev pub field : String → ℕ → List ℕ
+field name n = ascii name ++ numeral n
+
+-- "and LF"
+abbrev pub ending : List ℕ
+ending = lineEnd ∷ []
+
+-- "`lines N steps S` or `refused R`, and LF"
+abbrev pub linesText : ℕ → ℕ → List ℕ
+linesText lines steps = field "lines " lines ++ field " steps " steps ++ ending
+
+abbrev pub refusedText : ℕ → List ℕ
+refusedText r = field "refused " r ++ ending
+
+unfoldable pub countLine : Told → List ℕ
+countLine t = cond (eqb (t .refusal) 0) (linesText (t .lines) (t .steps)) (refusedText (t .refusal))
+
+-- what a book holds, or its refusal
+abbrev pub factsText : Facts → List ℕ
+factsText f = field "sound version " (f .version) ++ field " macros " (f .macros) ++ field " items " (f .items) ++ field " bytes " (f .bytes) ++ ending
+
+unfoldable pub surveyLine : Figures Facts → List ℕ
+surveyLine f = cond (eqb (f .refusal) 0) (factsText (f .value)) (refusedText (f .refusal))
+
+-- numbers, one a line
+unfoldable pub listText : List ℕ → List ℕ
+listText [] = []
+listText (j ∷ js) = numeral j ++ ending ++ listText js
+
+-- a text stands at the front of a buffer that held `before`, which is else as it was; n is its length, and within the buffer
+pub record Line (text before after : List ℕ) (n : ℕ) : Type 0 where
+  pub front : after ≡ over text before
+  pub long : n ≡ length text
