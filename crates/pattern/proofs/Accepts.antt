@@ -1,13 +1,14 @@
 -- Document 01, "Patterns": what is accepted and what is refused. A pattern is accepted exactly if it is written of a tree of the form, of 1 to 128 bytes and at most 29 atoms.
 use Prim.Native.Nat.{ℕ, _<_, _≤_}
 use native.Mathlib.Omega.{arith}
-use mathlib.Core.Path.{_≡_, refl}
+use mathlib.Core.Path.{_≡_, refl, sym, ap, _∙_}
 use mathlib.Core.Logic.{_↔_, _⊎_, inl, inr, ⊎-elim}
 use mathlib.Core.Bool.{Bool, true, false, cond}
 use mathlib.Core.List.{List, []}
 use lib.Dec.{leb}
 use lib.ListN.{length}
 use borrow.Author.Tests.{leb-true, leb-false, le-leb, lt-leb}
+use Rattle.refusal.specs.declared.Refusal.{Refusal}
 use Rattle.refusal.specs.declared.Refusal.the-variants.{PatternLength, PatternSyntax, TooManyAtoms}
 use Rattle.brackets.specs.Brackets.{Parsed, parsed, fault}
 use Rattle.pattern.specs.Reader.{readBranches, accepted, refused, counted, readPattern}
@@ -173,3 +174,29 @@ refused-atoms p = (from, back)
 
     back : RightLength p × Overfull p → readPattern p ≡ refused TooManyAtoms
     back ((low, high), (t, (g, w), over)) = rw (tree-read p t low high g w, lt-leb (atomCount t) 29 over)
+
+-- "then 7; then 8 over the whole pattern; 9": what a pattern is refused for
+pub data PatternRefused (p : List ℕ) (r : Refusal) : Type 0 where
+  -- "0 or over 128"
+  wrong-length : (length p ≡ 0) ⊎ (128 < length p) → r ≡ PatternLength → PatternRefused p r
+  -- "not of the form above"
+  formless : RightLength p → Formless p → r ≡ PatternSyntax → PatternRefused p r
+  -- "over 29"
+  overfull : RightLength p → Overfull p → r ≡ TooManyAtoms → PatternRefused p r
+
+-- a pattern is refused exactly for these
+pub refused-iff : (p : List ℕ) (r : Refusal) → (readPattern p ≡ refused r) ↔ PatternRefused p r
+refused-iff p r = (from, back)
+  where
+    of : RightLength p → readPattern p ≡ refused r → Finding p → PatternRefused p r
+    of right e (bad n f) = formless right n (cc)
+    of right e (many t g w over f) = overfull right (t, (g, w), over) (cc)
+    of right e (fine t g w few f) = clash (cc)
+
+    from : readPattern p ≡ refused r → PatternRefused p r
+    from e = ⊎-elim (λ (wrong, f). wrong-length wrong (cc)) (λ (low, high). of (low, high) e (verdict p low high)) (lengths p)
+
+    back : PatternRefused p r → readPattern p ≡ refused r
+    back (wrong-length h e) = refused-length p .1 h ∙ ap refused (sym e)
+    back (formless right h e) = refused-syntax p .1 (right, h) ∙ ap refused (sym e)
+    back (overfull right h e) = refused-atoms p .1 (right, h) ∙ ap refused (sym e)
