@@ -16,8 +16,9 @@ use Rattle.book.specs.declared.layout.Walk.{Walk}
 use Rattle.book.specs.Format.{Macro}
 use Rattle.book.specs.Offset.{size, starts}
 use Rattle.book.specs.Reading.{Reading, got, refused, next, done, readHeader, readMacro, readMacros, readAll, readBook}
-use Rattle.book.specs.Answer.{layout, layoutFor}
+use Rattle.book.specs.Answer.{layoutFigures, layoutResult, layoutFor}
 use Rattle.book.specs.Promises.{walkOf, headerOf}
+use Rattle.book.proofs.LayoutLaws.{figures-laid}
 use Rattle.book.proofs.Header.{header-got, headed-macros, headed-refused}
 use Rattle.book.proofs.Offsets.{macro-got, starts-length, starts-more}
 use Rattle.book.proofs.Walks.{walked-refused, walked-at}
@@ -118,12 +119,12 @@ module _ (s : List ℕ) (g : Header) (e : g ≡ headerOf (readHeader s)) where
       let r = header-got s k rest h in
       (r .long, r .few)
 
-  pub whole-macros : (x : Layout) (k : ℕ) → g ≡ Header.Macros k → x ≡ layoutFor (readAll k (drop 7 s)) → x ≡ layout s
-  unfolding layout readBook
+  pub whole-macros : (x : Layout) (k : ℕ) → g ≡ Header.Macros k → x ≡ layoutFor (readAll k (drop 7 s)) → layoutFigures x ≡ layoutResult (readBook s)
+  unfolding readBook
   whole-macros x k f i =
       let (rest, h) = headed-macros (readHeader s) k (sym e ∙ f) in
-      i ∙ rw (h, header-got s k rest h .behind)
+      figures-laid x (readBook s) (i ∙ rw (h, header-got s k rest h .behind))
 
-  pub whole-refused : (x : Layout) (r : Refusal) → g ≡ Header.Refused r → x ≡ layoutFor (refused r) → x ≡ layout s
-  unfolding layout readBook
-  whole-refused x r f i = i ∙ rw (headed-refused (readHeader s) r (sym e ∙ f))
+  pub whole-refused : (x : Layout) (r : Refusal) → g ≡ Header.Refused r → x ≡ layoutFor (refused r) → layoutFigures x ≡ layoutResult (readBook s)
+  unfolding readBook
+  whole-refused x r f i = figures-laid x (readBook s) (i ∙ rw (headed-refused (readHeader s) r (sym e ∙ f)))

@@ -7,14 +7,44 @@ use mathlib.Core.List.{List, []}
 use lib.ListN.{length, drop}
 use borrow.Author.Tests.{lt-ltb, le-ltb}
 use Rattle.refusal.specs.declared.Refusal.{Refusal}
+use Rattle.refusal.specs.Figures.{Figures}
+use Rattle.refusal.proofs.Number.{number-injective, number-positive}
 use Rattle.book.specs.declared.layout.Checked.{Checked}
 use Rattle.book.specs.declared.layout.Layout.{Layout}
 use Rattle.book.specs.Format.{Macro, wellFormed}
 use Rattle.book.specs.Reading.{Reading, got, refused, le16, readBook, versionIn, macrosOf, macrosIn}
-use Rattle.book.specs.Answer.{layout, layoutFor, checkResult, checkedFigures}
+use Rattle.book.specs.Answer.{checkedFigures, LayoutFigures, layoutFigures, layoutResult, layout, layoutFor}
 use Rattle.book.proofs.Offsets.{whole}
 use Rattle.book.proofs.Coding.{read-well}
 use Rattle.runs.proofs.Tests.{clash}
+
+-- The figures decide the layout: no two answers of a check have the same ones.
+checked-same : (c d : Checked) → checkedFigures c ≡ checkedFigures d → c ≡ d
+checked-same (Checked.Sound m) (Checked.Sound n) e = ap Checked.Sound (ap (λ (x : Figures ℕ). x .value) e)
+checked-same (Checked.Sound m) (Checked.Refused r) e = absurd (omega (arith, number-positive r, ap (λ (x : Figures ℕ). x .refusal) e))
+checked-same (Checked.Refused r) (Checked.Sound n) e = absurd (omega (arith, number-positive r, ap (λ (x : Figures ℕ). x .refusal) e))
+checked-same (Checked.Refused r) (Checked.Refused q) e = ap Checked.Refused (number-injective r q (ap (λ (x : Figures ℕ). x .refusal) e))
+
+layouts-same : (l m : Layout) → layoutFigures l ≡ layoutFigures m → l ≡ m
+layouts-same l m e =
+    ap (λ (c : Checked). record { answer = c; offsets = l .offsets }) (checked-same (l .answer) (m .answer) (ap (λ (x : LayoutFigures). x .check) e))
+    ∙ ap (λ (o : List ℕ). record { answer = m .answer; offsets = o }) (ap (λ (x : LayoutFigures). x .offsets) e)
+
+-- those of a reading's layout
+figures-for : (g : Reading (List Macro)) → layoutFigures (layoutFor g) ≡ layoutResult g
+figures-for (got ms rest) = refl
+figures-for (refused r) = refl
+
+pub figures-laid : (l : Layout) (g : Reading (List Macro)) → l ≡ layoutFor g → layoutFigures l ≡ layoutResult g
+figures-laid l g e = ap layoutFigures e ∙ figures-for g
+
+-- so a layout with the figures that `layout_of` promises is that of the book
+pub layout-figures : (b : List ℕ) {l : Layout} → layoutFigures l ≡ layoutResult (readBook b) → l ≡ layout b
+unfolding layout
+layout-figures b {l} e = layouts-same l (layoutFor (readBook b)) (e ∙ sym (figures-for (readBook b)))
+
+pub layout-table : (b : List ℕ) (l : Layout) → layoutFigures l ≡ layoutResult (readBook b) → l .offsets ≡ layout b .offsets
+layout-table b l e = ap (λ (x : Layout). x .offsets) (layout-figures b {l = l} e)
 
 -- what a reading has whose layout answers so
 answer-refused : (g : Reading (List Macro)) {r : Refusal} → (layoutFor g) .answer ≡ Checked.Refused r → g ≡ refused r
@@ -41,15 +71,6 @@ module _ (b : List ℕ) {l : Layout} (e : l ≡ layout b) where
 
     pub layout-count : n ≡ length (macrosIn b)
     layout-count = answer-sound (readBook b) (told f) .2
-
-  -- the figures of the answer
-  pub layout-figures : checkedFigures (l .answer) ≡ checkResult (readBook b)
-  unfolding layout
-  layout-figures = rw e (go (readBook b))
-    where
-      go : (g : Reading (List Macro)) → checkedFigures ((layoutFor g) .answer) ≡ checkResult g
-      go (got ms rest) = refl
-      go (refused r) = refl
 
 -- a book that has a macro was read
 pub read-in : (b : List ℕ) {i : ℕ} → i < length (macrosIn b) → (rest : List ℕ) × (readBook b ≡ got (macrosIn b) rest)

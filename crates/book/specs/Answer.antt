@@ -22,12 +22,27 @@ abbrev pub checkResult : Reading (List Macro) → Figures ℕ
 checkResult (got ms rest) = answered (length ms)
 checkResult (refused r) = refusedFor r
 
--- a book's layout: its macro count and where its macros stand; zeros in the offsets that are left over, or where it is refused
-abbrev pub layoutFor : Reading (List Macro) → Layout
-layoutFor (got ms rest) = record { answer = Checked.Sound (length ms); offsets = starts 7 ms ++ replicate (1024 - length ms) 0 }
-layoutFor (refused r) = record { answer = Checked.Refused r; offsets = replicate 1025 0 }
+-- a book's layout: its check and where its macros stand
+pub record LayoutFigures : Type 0 where
+  pub check : Figures ℕ
+  pub offsets : List ℕ
 
--- the layout of a book's bytes
+abbrev pub layoutFigures : Layout → LayoutFigures
+layoutFigures l = record { check = checkedFigures (l .answer); offsets = l .offsets }
+
+-- zeros in the offsets that are left over, or where it is refused
+abbrev pub offsetsOf : Reading (List Macro) → List ℕ
+offsetsOf (got ms rest) = starts 7 ms ++ replicate (1024 - length ms) 0
+offsetsOf (refused r) = replicate 1025 0
+
+abbrev pub layoutResult : Reading (List Macro) → LayoutFigures
+layoutResult g = record { check = checkResult g; offsets = offsetsOf g }
+
+-- the layout with these figures, and that of a book's bytes; no public contract cites it
+abbrev pub layoutFor : Reading (List Macro) → Layout
+layoutFor (got ms rest) = record { answer = Checked.Sound (length ms); offsets = offsetsOf (got ms rest) }
+layoutFor (refused r) = record { answer = Checked.Refused r; offsets = offsetsOf (refused r) }
+
 unfoldable pub layout : List ℕ → Layout
 layout b = layoutFor (readBook b)
 

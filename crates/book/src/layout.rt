@@ -12,8 +12,8 @@ ghost use mathlib.Core.Bool.{_&&_};
 ghost use mathlib.Core.List.{_∷_};
 ghost use lib.Dec.{leb};
 ghost use lib.ListN.{length, drop, replicate};
-ghost use Rattle.book.specs.Reading.{hasMagic, readAll, readHeader, readItem, readItems, readMacro, refused};
-ghost use Rattle.book.specs.Answer.{layout, layoutFor};
+ghost use Rattle.book.specs.Reading.{hasMagic, readAll, readBook, readHeader, readItem, readItems, readMacro, refused};
+ghost use Rattle.book.specs.Answer.{layoutFigures, layoutFor, layoutResult};
 ghost use Rattle.book.specs.Promises.{headerOf, walkOf};
 
 // Document 01's mark, which a book begins with.
@@ -179,7 +179,7 @@ fn layout_macros(s: &[u8], count: u16) -> Layout
 
 // One walk over the book: the check of each byte, and the places.
 pub fn layout_of(book: &[u8]) -> Layout
-    ensures { λ r. ⌜ r ≡ layout (now (book .entry)) ⌝ }
+    ensures { λ r. ⌜ layoutFigures r ≡ layoutResult (readBook (now (book .entry))) ⌝ }
 {
     match read_header(book) {
         Header::Macros(count) => layout_macros(book, count),

@@ -12,7 +12,7 @@ use Rattle.refusal.specs.declared.Refusal.the-variants.{CountOverflow}
 use Rattle.book.specs.Expansion.{expansion}
 use Rattle.book.specs.Format.{Macro}
 use Rattle.book.specs.Reading.{Reading, readBook, macrosIn}
-use Rattle.book.specs.Answer.{layout}
+use Rattle.book.specs.Answer.{layoutFigures, layoutResult}
 use Rattle.book.specs.declared.layout.Checked.{Checked}
 use Rattle.book.specs.declared.layout.Layout.{Layout}
 use Rattle.book.proofs.LayoutLaws.{well-in}
@@ -75,9 +75,9 @@ module _ (book : Reading (List Macro)) (pattern : reader.Read) (m : ℕ) (before
   counted-by e = rw e refl
 
 -- Any book.
-module _ (book : List ℕ) {l : Layout} (e : l ≡ layout book) where
+module _ (book : List ℕ) (l : Layout) (e : layoutFigures l ≡ layoutResult (readBook book)) where
   pub book-refused : {r : Refusal} (p : reader.Read) (m : ℕ) (before : List ℕ) → l .answer ≡ Checked.Refused r → stopped r before ≡ countResult (readBook book) p m before
-  book-refused p m before f = stopped-by (readBook book) p m before (front-book (readBook book) p (λ t. needed t m) m (length before) (book-refuses book e f))
+  book-refused p m before f = stopped-by (readBook book) p m before (front-book (readBook book) p (λ t. needed t m) m (length before) (book-refuses book l e f))
 
 -- A sound book, and any pattern.
 module _ {book offsets : List ℕ} {macros : ℕ} (i : InBook book offsets macros) (s keys enter keys' enter' : List ℕ) {v : Verdict} where

@@ -13,10 +13,10 @@ use Rattle.refusal.specs.declared.Refusal.{Refusal}
 use Rattle.refusal.specs.declared.Refusal.the-variants.{NoSuchMacro, InsufficientSpace}
 use Rattle.book.specs.Format.{Macro}
 use Rattle.book.specs.Reading.{Reading, readBook, macrosIn}
-use Rattle.book.specs.Answer.{layout}
+use Rattle.book.specs.Answer.{layoutFigures, layoutResult}
 use Rattle.book.specs.declared.layout.Checked.{Checked}
 use Rattle.book.specs.declared.layout.Layout.{Layout}
-use Rattle.book.proofs.LayoutLaws.{layout-refused, layout-sound, layout-count}
+use Rattle.book.proofs.LayoutLaws.{layout-figures, layout-table, layout-refused, layout-sound, layout-count}
 use Rattle.pattern.specs.Form.{Pattern}
 use Rattle.pattern.specs.Reader as reader
 use Rattle.pattern.specs.Automata.{VerdictOn, KeysFrom, EnterFrom}
@@ -28,16 +28,16 @@ use Rattle.counter.specs.Front.{refused, settled, _>>=_, answerBy, bookS
 use Rattle.counter.specs.Counting.{stopped, countOf, needed, countResult}
 
 -- The book, by what `layout_of` answers.
-module _ (book : List ℕ) {l : Layout} (e : l ≡ layout book) where
+module _ (book : List ℕ) (l : Layout) (e : layoutFigures l ≡ layoutResult (readBook book)) where
   pub book-refuses : {r : Refusal} → l .answer ≡ Checked.Refused r → bookStep (readBook book) ≡ refused r
-  book-refuses f = ap bookStep (layout-refused book e f)
+  book-refuses f = ap bookStep (layout-refused book (layout-figures book e) f)
 
   module _ {n : ℕ} (f : l .answer ≡ Checked.Sound n) where
     book-settles : bookStep (readBook book) ≡ settled (macrosIn book)
-    book-settles = ap bookStep (layout-sound book e f)
+    book-settles = ap bookStep (layout-sound book (layout-figures book e) f)
 
     pub book-in : InBook book (l .offsets) n
-    book-in = record { table = ap (λ (x : Layout). x .offsets) e; many = layout-count book e f; sound = book-settles }
+    book-in = record { table = layout-table book l e; many = layout-count book (layout-figures book e) f; sound = book-settles }
 
 -- A pattern, by what `read_pattern` answers.
 module _ (s keys enter keys' enter' : List ℕ) {v : Verdict} (figures : VerdictOn s v) (keyed : KeysFrom s keys keys') (entered : EnterFrom s enter enter') where

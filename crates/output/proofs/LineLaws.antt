@@ -19,4 +19,6 @@ module _ (out : List ℕ) (at : ℕ) (name : List ℕ) (n : ℕ) (room : at + (l
     field-place g = place-both out at name (numeral n) (omega arith) e f g
 
     pub field-near : {new : ℕ} → new ≡ placeAfter mid place (numeral n) → new ≤ at + (length name + 20)
-    field-near {new} g = omega (arith, rw (field-place g) (place-near out at (name ++ numeral n)), length-append name (numeral n))
+    field-near {new} g =
+        let near : placeAfter out at (name ++ numeral n) ≤ at + length (name ++ numeral n) = place-near out at (name ++ numeral n) in
+        omega (arith, field-place g, length-append name (numeral n))

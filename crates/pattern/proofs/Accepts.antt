@@ -177,17 +177,40 @@ refused-atoms p = (from, back)
     back : RightLength p × Overfull p → readPattern p ≡ refused TooManyAtoms
     back ((low, high), (t, (g, w), over)) = rw (tree-read p t low high g w, lt-leb (atomCount t) 29 over)
 
--- 7 to 9, and nothing else
-pub pattern-refusals : (p : List ℕ) (r : Refusal) → readPattern p ≡ refused r → (7 ≤ number r) × (number r ≤ 9)
-pattern-refusals p r e = ⊎-elim (λ (wrong, f). is PatternLength f (omega arith, omega arith)) (λ (low, high). of (verdict p low high)) (lengths p)
-  where
-    is : (q : Refusal) → readPattern p ≡ refused q → (7 ≤ number q) × (number q ≤ 9) → (7 ≤ number r) × (number r ≤ 9)
-    is q f h = let same : r ≡ q = cc in rw same h
+-- "then 7; then 8 over the whole pattern; 9": what a pattern is refused for
+pub data PatternRefused (p : List ℕ) (r : Refusal) : Type 0 where
+  -- "0 or over 128"
+  wrong-length : (length p ≡ 0) ⊎ (128 < length p) → r ≡ PatternLength → PatternRefused p r
+  -- "not of the form above"
+  formless : RightLength p → Formless p → r ≡ PatternSyntax → PatternRefused p r
+  -- "over 29"
+  overfull : RightLength p → Overfull p → r ≡ TooManyAtoms → PatternRefused p r
 
-    of : Finding p → (7 ≤ number r) × (number r ≤ 9)
-    of (bad n f) = is PatternSyntax f (omega arith, omega arith)
-    of (many t g w over f) = is TooManyAtoms f (omega arith, omega arith)
-    of (fine t g w few f) = clash (cc)
+-- a pattern is refused exactly for these
+pub refused-iff : (p : List ℕ) (r : Refusal) → (readPattern p ≡ refused r) ↔ PatternRefused p r
+refused-iff p r = (from, back)
+  where
+    of : RightLength p → readPattern p ≡ refused r → Finding p → PatternRefused p r
+    of right e (bad n f) = formless right n (cc)
+    of right e (many t g w over f) = overfull right (t, (g, w), over) (cc)
+    of right e (fine t g w few f) = clash (cc)
+
+    from : readPattern p ≡ refused r → PatternRefused p r
+    from e = ⊎-elim (λ (wrong, f). wrong-length wrong (cc)) (λ (low, high). of (low, high) e (verdict p low high)) (lengths p)
+
+    back : PatternRefused p r → readPattern p ≡ refused r
+    back (wrong-length h e) = refused-length p .1 h ∙ ap refused (sym e)
+    back (formless right h e) = refused-syntax p .1 (right, h) ∙ ap refused (sym e)
+    back (overfull right h e) = refused-atoms p .1 (right, h) ∙ ap refused (sym e)
+
+-- so with 7 to 9, and nothing else
+pub pattern-refusals : (p : List ℕ) (r : Refusal) → readPattern p ≡ refused r → (7 ≤ number r) × (number r ≤ 9)
+pattern-refusals p r e = go (refused-iff p r .0 e)
+  where
+    go : PatternRefused p r → (7 ≤ number r) × (number r ≤ 9)
+    go (wrong-length h f) = rw f (omega arith, omega arith)
+    go (formless right h f) = rw f (omega arith, omega arith)
+    go (overfull right h f) = rw f (omega arith, omega arith)
 
 -- a pattern of any length is read as its first 129 bytes
 pub pattern-prefix : (n : ℕ) (p : List ℕ) → 129 ≤ n → readPattern (take n p) ≡ readPattern p

@@ -8,7 +8,8 @@ use lib.ListN.{getD}
 use lib.Bits.{bitAnd, bitOr, or-lt}
 use borrow.Author.Tests.{leb-true, le-leb}
 use Rattle.stateset.specs.Set.{bit, word, anyBelow, common, imageOf}
-use Rattle.stateset.proofs.Sets.{word-lt, word-high, word-unique, word-one, word-or, word-ext, bit-word, bit-or, bit-one, bit-chosen}
+use Rattle.stateset.proofs.Sets.{word-lt, word-unique, word-one, word-or, word-ext, bit-word, bit-or, bit-one, bit-chosen}
+use Rattle.stateset.proofs.Common.{common-word}
 use Rattle.stateset.proofs.Some.{any-some, any-witness, any-ext, any-none, any-widen, any-or, any-through}
 use Rattle.pattern.specs.States.{endsFree, endsAnchored, emptyBranch, emptyFree, atomState, atomWord, holdsKey}
 use Rattle.pattern.specs.Moves.{into, intoEnd, jumps, target, move, accepting}
@@ -18,11 +19,6 @@ use Rattle.pattern.proofs.AcceptedLines.{holds-below}
 use Rattle.runs.proofs.Tests.{and-both, and-fst, and-snd, tests-ext}
 use Rattle.pattern.specs.Form.{Pattern, atomCount}
 use Rattle.runs.specs.Keys.{lineKey}
-
-common-word : (x : ℕ) (X : ℕ → Bool) → common 64 x (word 32 X) ≡ anyBelow 32 (λ q. bit x q && X q)
-common-word x X =
-    any-widen 32 64 (λ q. bit x q && bit (word 32 X) q) (omega arith) (λ q h. rw (word-high 32 X q h) (and-false (bit x q)))
-    ∙ any-ext 32 (λ q. bit x q && bit (word 32 X) q) (λ q. bit x q && X q) (λ q h. ap (λ (b : Bool). bit x q && b) (bit-word 32 X q h))
 
 -- the states that every key leads to found
 abbrev pub alwaysWord : Pattern → ℕ
@@ -110,10 +106,10 @@ module _ (t : Pattern) (few : atomCount t ≤ 29) (x c : ℕ) (l : lineKey c ≡
   from-same X Y e = any-ext 32 (λ q. bit x q && X q) (λ q. bit x q && Y q) (λ q h. ap (λ (b : Bool). bit x q && b) (e q h))
 
   moving-is : moving ≡ from (λ q. eqb q 0 || eqb q 1)
-  moving-is = ap (common 64 x) fixed-two ∙ common-word x (λ q. eqb q 0 || eqb q 1)
+  moving-is = ap (common 64 x) fixed-two ∙ common-word 32 x (λ q. eqb q 0 || eqb q 1) (omega arith)
 
   always-is : always ≡ from (λ q. eqb q 2 || jumps t q)
-  always-is = common-word x (λ q. eqb q 2 || jumps t q)
+  always-is = common-word 32 x (λ q. eqb q 2 || jumps t q) (omega arith)
 
   -- an atom that is entered is one of the pattern's
   no-atom : (q k : ℕ) → atomCount t ≤ k → (into t q c k && endsFree t k) ≡ false
@@ -136,7 +132,7 @@ module _ (t : Pattern) (few : atomCount t ≤ 29) (x c : ℕ) (l : lineKey c ≡
 
   ending-is : ending ≡ from (λ q. intoEnd t q c)
   ending-is =
-      common-word entered (atomState (endsFree t))
+      common-word 32 entered (atomState (endsFree t)) (omega arith)
       ∙ any-ext 32 (λ p. bit entered p && atomState (endsFree t) p) (λ p. anyBelow 32 (λ q. bit x q && atomState (into t q c) p) && atomState (endsFree t) p)
       (λ p h. ap (λ (b : Bool). b && atomState (endsFree t) p) (entered-bit t c (key-byte c l) x p h))
       ∙ sym (any-through 32 (bit x) (λ q p. atomState (into t q c) p) (atomState (endsFree t)))

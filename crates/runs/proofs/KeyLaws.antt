@@ -2,15 +2,28 @@
 use Prim.Native.Nat.{ℕ, zero, suc, _<_, _≤_}
 use native.Mathlib.Omega.{arith}
 use mathlib.Core.Path.{_≡_, refl, sym}
+use mathlib.Core.Logic.{_↔_, ⊎-elim}
 use mathlib.Core.Bool.{Bool, true, false, not, _&&_, _||_}
-use mathlib.Core.List.{List, [], _∷_, _++_, List·Memᴰ, List·Memᴰ·head, List·Memᴰ·tail}
+use mathlib.Core.List.{List, [], _∷_, _++_, List·Memᴰ, List·Memᴰ·head, List·Memᴰ·tail, List·Memᴰ·cases-cons, List·Memᴰ·not-nil}
 use lib.Dec.{leb, eqb}
 use lib.ListN.{length, getD, drop}
 use borrow.Author.Tests.{eqb-true, eqb-false, eq-eqb, leb-true, le-leb, ne-eqb, not-true}
 use Rattle.runs.specs.Keys.{Bytes, member, isKey, lineEnd, isRun, lineKey, isLine}
-use Rattle.runs.proofs.Tests.{clash, torn, and-both, and-fst, and-snd, and-parts, neither, or-left, or-right}
+use Rattle.runs.proofs.Tests.{clash, torn, and-both, and-fst, and-snd, and-parts, neither, or-cases, or-left, or-right}
 
 -- Numbers among others.
+
+-- the test tells whether a number is one of the list
+member-in : (k : ℕ) (w : List ℕ) → member k w ≡ true → List·Memᴰ k w
+member-in k [] h = clash (cc)
+member-in k (b ∷ w) h = ⊎-elim (λ e. List·Memᴰ·head (eqb-true k b e)) (λ m. List·Memᴰ·tail (member-in k w m)) (or-cases (eqb k b) (member k w) h)
+
+in-member : (k : ℕ) (w : List ℕ) → List·Memᴰ k w → member k w ≡ true
+in-member k [] m = absurd (List·Memᴰ·not-nil m)
+in-member k (b ∷ w) m = ⊎-elim (λ e. or-left (eqb k b) (member k w) (eq-eqb k b e)) (λ n. or-right (eqb k b) (member k w) (in-member k w n)) (List·Memᴰ·cases-cons m)
+
+pub member-iff : (k : ℕ) (w : List ℕ) → (member k w ≡ true) ↔ List·Memᴰ k w
+member-iff k w = (member-in k w, in-member k w)
 
 -- a number that is in no list of these stands not at its front, nor behind
 pub member-first : (k b : ℕ) (l : List ℕ) → member k (b ∷ l) ≡ false → eqb k b ≡ false

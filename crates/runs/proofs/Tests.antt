@@ -2,7 +2,7 @@
 use Prim.Native.Nat.{ℕ}
 use native.Mathlib.Omega.{arith}
 use mathlib.Core.Path.{_≡_, refl, sym}
-use mathlib.Core.Logic.{_⊎_, inl, inr}
+use mathlib.Core.Logic.{_↔_, _⊎_, inl, inr, ⊎-elim}
 use mathlib.Core.Bool.{Bool, true, false, _&&_, _||_, or-true, and-eq-true-iff}
 
 -- two constructors that are equal prove anything
@@ -52,3 +52,20 @@ and-parts a b h = and-eq-true-iff a b .0 h
 pub neither : (a b : Bool) → a || b ≡ false → (a ≡ false) × (b ≡ false)
 neither true b h = clash (cc)
 neither false b h = (refl, h)
+
+-- Tests that tell facts.
+
+-- one of two facts holds exactly if one of their tests passes
+pub or-iff : {P Q : Type 0} (a b : Bool) → (a ≡ true) ↔ P → (b ≡ true) ↔ Q → (a || b ≡ true) ↔ (P ⊎ Q)
+or-iff a b f g = (
+  λ h. ⊎-elim (λ i. inl (f .0 i)) (λ i. inr (g .0 i)) (or-cases a b h),
+  λ h. ⊎-elim (λ p. or-left a b (f .1 p)) (λ q. or-right a b (g .1 q)) h,
+)
+
+-- and a test fails exactly if its fact does not hold
+pub false-iff : {P : Type 0} (a : Bool) → (a ≡ true) ↔ P → (a ≡ false) ↔ (P → ⊥)
+false-iff {P} a f = (λ e p. torn a (f .1 p) e, go a (f .0))
+  where
+    go : (b : Bool) → (b ≡ true → P) → (P → ⊥) → b ≡ false
+    go true g n = absurd (n (g refl))
+    go false g n = refl

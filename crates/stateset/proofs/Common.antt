@@ -1,20 +1,24 @@
 -- Laws of whether two sets have a member in common.
 use Prim.Native.Nat.{ℕ, _^_, _<_, _≤_}
 use mathlib.Core.Path.{_≡_, refl, sym, _∙_}
-use mathlib.Core.Bool.{Bool, true, false, not, _&&_}
+use mathlib.Core.Bool.{Bool, true, false, not, _&&_, and-false}
 use lib.Dec.{eqb}
 use lib.Bits.{bitAnd, and-lt}
 use borrow.Author.Tests.{eqb-true, eq-eqb}
-use Rattle.stateset.specs.Set.{bit, word, anyBelow}
+use Rattle.stateset.specs.Set.{bit, word, anyBelow, common}
 use Rattle.stateset.proofs.Sets.{bit-zero, bit-and, bit-word, word-high, word-unique, word-none}
 use Rattle.stateset.proofs.Some.{any-ext, any-none, any-lacks, any-widen}
 use Rattle.runs.proofs.Tests.{torn}
 
--- words of two sets have a member in common exactly if some number below the width is in both
-pub common-words : (s : ℕ) (X Y : ℕ → Bool) → s ≤ 64 → anyBelow 64 (λ p. bit (word s X) p && bit (word s Y) p) ≡ anyBelow s (λ p. X p && Y p)
-common-words s X Y h =
-    any-widen s 64 (λ p. bit (word s X) p && bit (word s Y) p) h (λ k l. rw (word-high s X k l))
-    ∙ any-ext s (λ p. bit (word s X) p && bit (word s Y) p) (λ p. X p && Y p) (λ p l. rw (bit-word s X p l, bit-word s Y p l))
+-- a set and a word have a member in common exactly if some number below the width is in both
+pub common-word : (s x : ℕ) (X : ℕ → Bool) → s ≤ 64 → common 64 x (word s X) ≡ anyBelow s (λ p. bit x p && X p)
+common-word s x X h =
+    any-widen s 64 (λ p. bit x p && bit (word s X) p) h (λ p l. rw (word-high s X p l) (and-false (bit x p)))
+    ∙ any-ext s (λ p. bit x p && bit (word s X) p) (λ p. bit x p && X p) (λ p l. rw (bit-word s X p l) refl)
+
+-- and so two words
+pub common-words : (s : ℕ) (X Y : ℕ → Bool) → s ≤ 64 → common 64 (word s X) (word s Y) ≡ anyBelow s (λ p. X p && Y p)
+common-words s X Y h = common-word s (word s X) Y h ∙ any-ext s (λ p. bit (word s X) p && Y p) (λ p. X p && Y p) (λ p l. rw (bit-word s X p l) refl)
 
 -- a number below a power has a member exactly if it is not 0
 pub some-member : (s w : ℕ) → w < 2 ^ s → not (eqb w 0) ≡ anyBelow s (bit w)

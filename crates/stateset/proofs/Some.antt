@@ -3,7 +3,7 @@ use Prim.Native.Nat.{ℕ, zero, suc, _<_, _≤_}
 use native.Mathlib.Omega.{arith}
 use native.Mathlib.Decide.{le-ind}
 use mathlib.Core.Path.{_≡_, refl, sym, ap, _∙_}
-use mathlib.Core.Logic.{_⊎_, ⊎-elim}
+use mathlib.Core.Logic.{_↔_, _⊎_, ⊎-elim}
 use mathlib.Core.Bool.{Bool, true, false, _&&_, _||_, or-false, false≢true}
 use lib.Dec.{ltb, eqb}
 use borrow.Author.Tests.{ltb-true, ltb-false, eqb-true, eq-eqb}
@@ -33,6 +33,9 @@ any-witness (suc n) X h =
     (λ i. let w = any-witness n X i in record { which = w .which; below = omega arith; has = w .has })
     (λ i. record { which = n; below = omega arith; has = i })
     (or-cases (anyBelow n X) (X n) h)
+
+pub any-iff : (n : ℕ) (X : ℕ → Bool) → (anyBelow n X ≡ true) ↔ Witness n X
+any-iff n X = (any-witness n X, λ w. any-some n (w .which) X (w .below) (w .has))
 
 pub any-ext : (n : ℕ) (X Y : ℕ → Bool) → ((k : ℕ) → k < n → X k ≡ Y k) → anyBelow n X ≡ anyBelow n Y
 unfolding anyBelow

@@ -14,11 +14,11 @@ use Rattle.runs.proofs.CountLaws.{sum-none, sum-more, sum-ext, sum-le}
 use Rattle.book.specs.Format.{Macro}
 use Rattle.book.specs.MacroItems.{itemsFrom, decoded}
 use Rattle.book.specs.Reading.{Reading, got, refused, readBook, versionIn, macrosIn}
-use Rattle.book.specs.Answer.{layout}
+use Rattle.book.specs.Answer.{layoutFigures, layoutResult, layout}
 use Rattle.book.specs.declared.layout.Checked.{Checked}
 use Rattle.book.specs.declared.layout.Layout.{Layout}
 use Rattle.book.specs.declared.macro_items.Items.{Items}
-use Rattle.book.proofs.LayoutLaws.{layout-refused, layout-sound, layout-count}
+use Rattle.book.proofs.LayoutLaws.{layout-figures, layout-refused, layout-sound, layout-count}
 use Rattle.book.proofs.MacroItems.{items-sound, items-few, items-wide, decoded-length}
 use Rattle.book.proofs.Prefix.{book-prefix}
 use Rattle.book.proofs.Sizes.{longest-read}
@@ -67,7 +67,10 @@ items-counted b = sum-ext (length (macrosIn b)) (λ i. itemsFrom b (layout b .of
         sym (decoded-length (itemsFrom b (layout b .offsets) i) wide) ∙ ap length (items-sound b i h)
 
 -- What is answered, by the layout.
-module _ (b : List ℕ) {l : Layout} (e : l ≡ layout b) where
+module _ (b : List ℕ) (l : Layout) (figures : layoutFigures l ≡ layoutResult (readBook b)) where
+  e : l ≡ layout b
+  e = layout-figures b figures
+
   pub facts-refused : {r : Refusal} → l .answer ≡ Checked.Refused r → surveyFigures (Surveyed.Refused r) ≡ surveyResult b
   unfolding surveyResult
   facts-refused f = rw (layout-refused b e f) refl

@@ -5,11 +5,10 @@ use Prim.Native.Nat.{ℕ, _<_}
 use mathlib.Core.Path.{ap, _∙_}
 use mathlib.Core.List.{List}
 use lib.ListN.{length}
-use Rattle.book.specs.declared.layout.Layout.{Layout}
 use Rattle.book.specs.Reading.{macrosIn}
 use Rattle.book.specs.MacroItems.{partFrom, partAt}
 use Rattle.book.specs.Answer.{requireMacro}
-use Rattle.book.proofs.LayoutLaws.{layout-refused, layout-sound, layout-count}
+use Rattle.book.proofs.LayoutLaws.{layout-figures, layout-table, layout-refused, layout-sound, layout-count}
 use Rattle.book.proofs.Requiring.{require-refused, require-out, require-in}
 use Rattle.book.proofs.Bodies.{part-is, part-at, body-none, body-some}
 use borrow.Author.Needs.{needs}
@@ -46,8 +45,8 @@ returns c =
     let l = k .before .before in
     let a = l .before .before .args in
     let b = now (a .book) in
-    let sound = layout-sound b (l .layout-of .ensures) (k .answer2 .given .1) in
-    let count = layout-count b (l .layout-of .ensures) (k .answer2 .given .1) in
+    let sound = layout-sound b (layout-figures b (l .layout-of .ensures)) (k .answer2 .given .1) in
+    let count = layout-count b (layout-figures b (l .layout-of .ensures)) (k .answer2 .given .1) in
     let out = require-out (a .m) b sound (omega arith) in
     body-none b (a .book .ptr) (a .m) (requireMacro (a .m) b) _ _ out (c .before .code2 .ensures)
 
@@ -60,7 +59,7 @@ returns-2 c =
     let l = k .before .before in
     let a = l .before .before .args in
     let b = now (a .book) in
-    let out = require-refused (a .m) b (layout-refused b (l .layout-of .ensures) (k .answer .given .1)) in
+    let out = require-refused (a .m) b (layout-refused b (layout-figures b (l .layout-of .ensures)) (k .answer .given .1)) in
     body-none b (a .book .ptr) (a .m) (requireMacro (a .m) b) _ _ out (c .before .code .ensures)
 
 returns-3 : tie.Need-returns-3
@@ -69,9 +68,9 @@ returns-3 c =
     let l = k .before .before in
     let a = l .before .before .args in
     let b = now (a .book) in
-    let sound = layout-sound b (l .layout-of .ensures) (k .answer2 .given .1) in
-    let inside : a .m < length (macrosIn b) = omega (arith, layout-count b (l .layout-of .ensures) (k .answer2 .given .1)) in
-    let table = ap (λ (x : Layout). x .offsets) (l .layout-of .ensures) in
+    let sound = layout-sound b (layout-figures b (l .layout-of .ensures)) (k .answer2 .given .1) in
+    let inside : a .m < length (macrosIn b) = omega (arith, layout-count b (layout-figures b (l .layout-of .ensures)) (k .answer2 .given .1)) in
+    let table = layout-table b (l .layout-of .result) (l .layout-of .ensures) in
     let part = ap (λ (o : List ℕ). partFrom b o (a .m)) table ∙ part-is b (a .m) inside in
     let place = ap (λ (o : List ℕ). partAt (a .book .ptr) b o (a .m)) table ∙ part-at b (a .m) inside (a .book .ptr) in
     body-some b (a .book .ptr) (a .m) (requireMacro (a .m) b) _ _ (require-in (a .m) b sound inside) _ _

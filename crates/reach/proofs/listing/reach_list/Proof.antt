@@ -29,7 +29,7 @@ list-reached-requires c κs =
     let k = e .before .before .before in
     let l = k .before .before in
     let a = l .before .before .before .args in
-    (list-place (now (a .book)) (a .m) (l .layout-of .ensures) (k .answer2 .given .1) (e .before .if1 .left), e .if2 .left)
+    (list-place (now (a .book)) (a .m) _ (l .layout-of .ensures) (k .answer2 .given .1) (e .before .if1 .left), e .if2 .left)
 
 returns-3 : tie.Need-returns-3
 returns-3 c = search list-refused
