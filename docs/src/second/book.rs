@@ -93,6 +93,11 @@ fn read_item(bytes: &[u8], at: usize, number: usize) -> Result<u16, Refusal> {
 }
 
 impl Book<'_> {
+    /// The two bytes behind the mark.
+    pub fn version(&self) -> u16 {
+        u16::from_le_bytes([self.bytes[3], self.bytes[4]])
+    }
+
     pub fn items(&self, number: usize) -> &[u16] {
         &self.macros[number].items
     }

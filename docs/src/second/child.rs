@@ -1,5 +1,6 @@
 //! Runs a program under test with some input and takes what it prints.
 
+use crate::rng::Rng;
 use std::ffi::OsString;
 use std::io::{Read, Write};
 use std::process::{Child, Command, ExitStatus, Stdio};
@@ -31,8 +32,31 @@ impl Outcome {
     }
 }
 
-/// Input goes in pieces from a thread of its own, so that neither pipe can block the other.
+/// So many pieces, one more than there are cuts; together they are the input.
+pub fn cut(rng: &mut Rng, input: &[u8], cuts: usize) -> Vec<Vec<u8>> {
+    let mut pieces = Vec::new();
+    let mut left = input;
+    for _ in 0..cuts {
+        let (piece, rest) = left.split_at(rng.below(left.len() + 1));
+        pieces.push(piece.to_vec());
+        left = rest;
+    }
+    pieces.push(left.to_vec());
+    pieces
+}
+
 pub fn run(program: &str, arguments: &[OsString], pieces: Vec<Vec<u8>>) -> Result<Outcome, String> {
+    run_with_pause(program, arguments, pieces, PAUSE)
+}
+
+/// Input goes in pieces from a thread of its own, so that neither pipe can block the other. If the pause
+/// before the second piece is longer than the program needs to start, it reads the first one alone.
+pub fn run_with_pause(
+    program: &str,
+    arguments: &[OsString],
+    pieces: Vec<Vec<u8>>,
+    first_pause: Duration,
+) -> Result<Outcome, String> {
     let mut child = start(program, arguments)?;
     let input = child.stdin.take();
     let writer = thread::spawn(move || {
@@ -41,8 +65,10 @@ pub fn run(program: &str, arguments: &[OsString], pieces: Vec<Vec<u8>>) -> Resul
             None => return,
         };
         for (number, piece) in pieces.iter().enumerate() {
-            if number > 0 {
-                thread::sleep(PAUSE);
+            match number {
+                0 => {}
+                1 => thread::sleep(first_pause),
+                _ => thread::sleep(PAUSE),
             }
             // A program may stop reading early; its answer is judged, not this.
             if input.write_all(piece).and_then(|_| input.flush()).is_err() {

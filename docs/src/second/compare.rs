@@ -1,6 +1,7 @@
 //! Compares the programs under test with this one; the first difference ends everything.
 
-use crate::{compare_cases, compare_count, compare_cuecount};
+use crate::tally::Tally;
+use crate::{compare_cases, compare_check, compare_count, compare_cuecount, compare_reach, compare_usage};
 use std::process::exit;
 
 /// Paths of the three programs, the seed, and how many seeded cases go through the first.
@@ -14,12 +15,17 @@ pub fn compare(programs: [&str; 3], seed: u64, count: u64) {
     }
 }
 
-fn compare_all([cases, cuecount, arguments]: [&str; 3], seed: u64, count: u64) -> Result<usize, String> {
-    let first = compare_cases::compare(cases, seed, count)?;
-    first.print("streams of cases");
-    let second = compare_cuecount::compare(cuecount, seed)?;
-    second.print("runs of cuecount");
-    let third = compare_count::compare(arguments, seed)?;
-    third.print("runs with arguments");
-    Ok(first.total + second.total + third.total)
+fn compare_all([cases, cuecount, command]: [&str; 3], seed: u64, count: u64) -> Result<usize, String> {
+    let mut passed = 0;
+    let mut done = |group: &str, tally: Tally| {
+        tally.print(group);
+        passed += tally.total;
+    };
+    done("streams of cases", compare_cases::compare(cases, seed, count)?);
+    done("runs of cuecount", compare_cuecount::compare(cuecount, seed)?);
+    done("runs of count", compare_count::compare(command, seed)?);
+    done("runs of check", compare_check::compare(command, seed)?);
+    done("runs of reach", compare_reach::compare(command, seed)?);
+    done("runs with no answer", compare_usage::compare(command)?);
+    Ok(passed)
 }

@@ -2,7 +2,7 @@
 
 use crate::case::Case;
 use crate::child;
-use crate::describe::{hex, pattern_lines};
+use crate::describe::{hex_of_long, pattern_lines};
 use crate::fixed;
 use crate::fixed_books::example;
 use crate::make::macros_for;
@@ -41,7 +41,8 @@ fn compare_one(
     tally: &mut Tally,
 ) -> Result<(), String> {
     let own = cuecount(input);
-    let pieces = cut(rng, input);
+    let cuts = rng.below(4);
+    let pieces = child::cut(rng, input, cuts);
     let kind = if pieces.len() > 1 { "in pieces" } else { "at once" };
     let other = match stated {
         Some(stated) if stated != own => format!("stated: {stated}"),
@@ -64,21 +65,8 @@ fn difference(input: &[u8], kind: &str, own: &str, other: &str) -> String {
     let length = input.len();
     format!(
         "kind: cuecount, {length} bytes, {kind}\n{shown}input in hex: {}\nsecond: {own}\nother: {other}",
-        hex(input)
+        hex_of_long(input)
     )
-}
-
-/// Up to four pieces, which reach the program one after another.
-fn cut(rng: &mut Rng, input: &[u8]) -> Vec<Vec<u8>> {
-    let mut pieces = Vec::new();
-    let mut left = input;
-    for _ in 0..rng.below(4) {
-        let (piece, rest) = left.split_at(rng.below(left.len() + 1));
-        pieces.push(piece.to_vec());
-        left = rest;
-    }
-    pieces.push(left.to_vec());
-    pieces
 }
 
 fn input(pattern: &[u8], book: &[u8]) -> Vec<u8> {
@@ -125,16 +113,25 @@ fn sized_inputs() -> Vec<Input> {
         more
     };
     let short_pattern = exact[1..].to_vec();
+    // Its length cut to two bytes is that of the example in front.
+    let mut wrapping = input(b"B", &write(&example()));
+    wrapping.resize(65_536 + wrapping.len(), 0);
     vec![
         (exact.clone(), None),
         (short_pattern, None),
         (longer(0, 8_193), Some("refused 14")),
         (longer(97, 8_193), Some("refused 14")),
         (longer(97, 8_194), Some("refused 14")),
+        (longer(0, 8_194), Some("refused 14")),
         (longer(0, 70_000), Some("refused 14")),
+        (longer(97, 100_000), Some("refused 14")),
+        (wrapping, Some("refused 14")),
         ([b"a", &exact[..]].concat(), Some("refused 14")),
+        (vec![b'a'; 8_191], Some("refused 1")),
         (vec![b'a'; 8_192], Some("refused 1")),
         (vec![b'a'; 8_193], Some("refused 14")),
+        (vec![b'a'; 8_194], Some("refused 14")),
+        (vec![b'a'; 100_000], Some("refused 14")),
         (vec![10; 8_192], Some("refused 1")),
         (vec![10; 8_193], Some("refused 14")),
         (vec![0; 300_000], Some("refused 14")),

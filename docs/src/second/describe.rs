@@ -7,6 +7,17 @@ pub fn hex(bytes: &[u8]) -> String {
     bytes.iter().map(|byte| format!("{byte:02X}")).collect()
 }
 
+/// The same; a tail of one byte, as long files have it, is shown by its length.
+pub fn hex_of_long(bytes: &[u8]) -> String {
+    let last = bytes.last();
+    let tail = bytes.iter().rev().take_while(|&byte| Some(byte) == last).count();
+    if tail < 100 {
+        return hex(bytes);
+    }
+    let front = bytes.len() - tail;
+    format!("{} and then {tail} bytes {}", hex(&bytes[..front]), hex(&bytes[front..front + 1]))
+}
+
 /// A pattern both ways.
 pub fn pattern_lines(pattern: &[u8]) -> String {
     format!("pattern: {}\npattern in hex: {}\n", pattern.escape_ascii(), hex(pattern))

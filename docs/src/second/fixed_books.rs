@@ -67,7 +67,7 @@ fn shortcuts() -> Vec<Fixed> {
 }
 
 /// Macro 0 is `a` LF, macro i calls i - 1, i - 1 and 0: 2^(i+1) - 1 lines.
-fn tower() -> Macros {
+pub fn tower() -> Macros {
     let mut macros = vec![keys(b"a\n")];
     for number in 1..64 {
         macros.push(vec![call(number - 1), call(number - 1), call(0)]);

@@ -2,18 +2,26 @@
 //! It works everything out by the definitions and prefers plainness to speed.
 
 mod answer;
+mod asked;
 mod book;
+mod book_file;
 mod bracket;
 mod case;
 mod child;
 mod classes;
+mod command;
 mod compare;
 mod compare_cases;
+mod compare_check;
 mod compare_count;
 mod compare_cuecount;
+mod compare_reach;
+mod compare_usage;
 mod count;
+mod count_edges;
 mod describe;
 mod enumerate;
+mod expected;
 mod fixed;
 mod fixed_books;
 mod fixed_lines;
@@ -28,6 +36,7 @@ mod make_damage;
 mod make_deep;
 mod make_large;
 mod make_line;
+mod make_long;
 mod make_pattern;
 mod make_report;
 mod make_tree;
@@ -38,6 +47,7 @@ mod refusal;
 mod report;
 mod rng;
 mod selftest;
+mod selftest_command;
 mod states;
 mod summary;
 mod tally;
@@ -49,7 +59,7 @@ use std::process::exit;
 
 const USAGE: &str = "second answer < cases > answers
 second make SEED COUNT > cases
-second compare CASES CUECOUNT COUNT SEED N
+second compare CASES CUECOUNT RAKVINJE SEED N
 second selftest";
 
 fn main() {
@@ -58,8 +68,8 @@ fn main() {
     let done = match words[..] {
         ["answer"] => answer_stream(),
         ["make", seed, count] => make_stream(seed, count),
-        ["compare", cases, cuecount, count, seed, cases_wanted] => {
-            compare_programs([cases, cuecount, count], seed, cases_wanted)
+        ["compare", cases, cuecount, command, seed, cases_wanted] => {
+            compare_programs([cases, cuecount, command], seed, cases_wanted)
         }
         ["selftest"] => test_itself(),
         _ => Err(String::from(USAGE)),

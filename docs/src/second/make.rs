@@ -103,7 +103,7 @@ fn words_near(rng: &mut Rng, number: usize, pattern: &[u8]) -> usize {
 }
 
 /// Any book: sound, damaged, full, or mere bytes.
-fn some_book(rng: &mut Rng) -> Vec<u8> {
+pub fn some_book(rng: &mut Rng) -> Vec<u8> {
     let pattern = sound_pattern(rng);
     let macros = macros_for(rng, &pattern);
     let mut book = write(&macros);
@@ -128,7 +128,7 @@ fn edge_macros(rng: &mut Rng) -> Macros {
     macros
 }
 
-fn macro_count(book: &[u8]) -> usize {
+pub fn macro_count(book: &[u8]) -> usize {
     match book.get(5..7) {
         Some(count) => usize::from(count[0]) + 256 * usize::from(count[1]),
         None => 0,
@@ -154,7 +154,7 @@ fn reach_case(rng: &mut Rng) -> Case {
     Case::Reach { number, entries: entries.min(1_100), book }
 }
 
-fn partly_sound(rng: &mut Rng) -> Vec<u8> {
+pub fn partly_sound(rng: &mut Rng) -> Vec<u8> {
     if rng.chance(25) {
         return some_book(rng);
     }

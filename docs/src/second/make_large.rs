@@ -2,6 +2,7 @@
 
 use crate::case::Case;
 use crate::make_book::write;
+use crate::make_damage::damage_book;
 use crate::make_deep::{chain, full};
 use crate::operations::COUNT_WORDS;
 use crate::rng::Rng;
@@ -9,12 +10,25 @@ use crate::rng::Rng;
 /// 29 atoms that stay busy over the letters of full books.
 pub const BUSY: &[u8] = b"(a|b)*(a.b|b.a)+c?(aab|bba|[^c])*x?(a|b|c)(ac|ca|bc|cb).$";
 
-/// 1,024 macros of 64 items, with few calls so that the count can be told and with many so that it
-/// cannot, and 1,024 macros that each call the one below.
-pub fn largest_books(rng: &mut Rng) -> Vec<Vec<u8>> {
+/// 1,024 macros of 64 items, with few calls so that the count can be told.
+pub fn longest_book(rng: &mut Rng) -> Vec<u8> {
     let longest = write(&full(rng, 1024, 64, 1));
     assert_eq!(longest.len(), 133_127);
-    vec![longest, write(&full(rng, 1024, 64, 12)), write(&chain(rng, 1024))]
+    longest
+}
+
+/// The longest, another with so many calls that the count cannot be told, and 1,024 macros that each call
+/// the one below.
+pub fn largest_books(rng: &mut Rng) -> Vec<Vec<u8>> {
+    vec![longest_book(rng), write(&full(rng, 1024, 64, 12)), write(&chain(rng, 1024))]
+}
+
+/// One of them with faults somewhere.
+pub fn damaged_large(rng: &mut Rng) -> Vec<u8> {
+    let mut books = largest_books(rng);
+    let mut book = books.swap_remove(rng.below(books.len()));
+    damage_book(rng, &mut book);
+    book
 }
 
 pub fn large_cases(seed: u64) -> Vec<Case> {

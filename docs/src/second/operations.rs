@@ -33,6 +33,20 @@ pub fn sound(book: &[u8]) -> Result<usize, Refusal> {
     book::read(book).map(|book| book.macros.len())
 }
 
+/// What the command's `check` tells of a sound book.
+pub struct Checked {
+    pub version: u16,
+    pub macros: usize,
+    pub items: usize,
+    pub bytes: usize,
+}
+
+pub fn check(bytes: &[u8]) -> Result<Checked, Refusal> {
+    let book = book::read(bytes)?;
+    let items = book.macros.iter().map(|each| each.items.len()).sum();
+    Ok(Checked { version: book.version(), macros: book.macros.len(), items, bytes: bytes.len() })
+}
+
 pub fn body(number: usize, bytes: &[u8]) -> Result<Vec<u8>, Refusal> {
     let book = book::read(bytes)?;
     if number >= book.macros.len() {
@@ -53,6 +67,16 @@ pub fn reach(number: usize, bytes: &[u8], entries: &mut [u16]) -> Result<usize, 
     let reached = book.reached(number);
     entries[..reached.len()].copy_from_slice(&reached);
     Ok(reached.len())
+}
+
+/// The same for the command, of the last macro if none is asked for; there are always entries enough.
+pub fn reach_numbers(asked: Option<usize>, bytes: &[u8]) -> Result<Vec<usize>, Refusal> {
+    let book = book::read(bytes)?;
+    let number = asked.unwrap_or(book.macros.len() - 1);
+    if number >= book.macros.len() {
+        return Err(NO_SUCH_MACRO);
+    }
+    Ok(book.reached(number).into_iter().map(usize::from).collect())
 }
 
 /// The count over a book: lines and steps; the first work words hold the reports afterwards, also
@@ -105,6 +129,15 @@ pub fn cuecount(input: &[u8]) -> String {
 pub fn count_line(result: Result<(u64, u64), Refusal>) -> String {
     match result {
         Ok((lines, steps)) => format!("lines {lines} steps {steps}"),
+        Err(refusal) => format!("refused {refusal}"),
+    }
+}
+
+pub fn check_line(result: Result<Checked, Refusal>) -> String {
+    match result {
+        Ok(Checked { version, macros, items, bytes }) => {
+            format!("sound version {version} macros {macros} items {items} bytes {bytes}")
+        }
         Err(refusal) => format!("refused {refusal}"),
     }
 }

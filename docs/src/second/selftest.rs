@@ -18,6 +18,7 @@ use crate::meaning::{line_matches, Tester};
 use crate::parser::{self, MOST_ATOMS};
 use crate::report::join;
 use crate::rng::Rng;
+use crate::selftest_command;
 use crate::states::{States, LINE_START};
 use crate::written;
 use std::collections::BTreeSet;
@@ -30,7 +31,7 @@ pub struct Checks {
 }
 
 impl Checks {
-    fn check(&mut self, holds: bool, what: impl Fn() -> String) {
+    pub fn check(&mut self, holds: bool, what: impl Fn() -> String) {
         if holds {
             self.passed += 1;
         } else {
@@ -46,6 +47,7 @@ pub fn selftest() -> bool {
     checks.check(busy == Ok(MOST_ATOMS), || String::from("the busy pattern has not 29 atoms"));
     stated(&mut checks);
     streams(&mut checks);
+    selftest_command::all(&mut checks);
     for number in 0..1500 {
         let mut rng = Rng::for_case(0x5E1F, number);
         trees(&mut rng, &mut checks);
@@ -114,7 +116,7 @@ fn methods(rng: &mut Rng, checks: &mut Checks) {
 }
 
 /// What a macro reaches, from the lists of the macros it calls.
-fn reached_upwards(book: &Book, last: usize) -> Vec<u16> {
+pub fn reached_upwards(book: &Book, last: usize) -> Vec<u16> {
     let mut lists: Vec<BTreeSet<u16>> = Vec::new();
     for number in 0..=last {
         let mut list = BTreeSet::from([number as u16]);

@@ -1,0 +1,81 @@
+//! Runs of the command's `reach`.
+
+use crate::asked;
+use crate::command::{self, Run, Start, Way};
+use crate::expected::Expected;
+use crate::fixed_books::example;
+use crate::make::{macro_count, partly_sound};
+use crate::make_book::{call, keys, write};
+use crate::make_large::{damaged_large, largest_books};
+use crate::make_long::long_books;
+use crate::operations::reach_numbers;
+use crate::rng::Rng;
+use crate::tally::Tally;
+
+const SEEDED: u64 = 22;
+
+pub fn compare(program: &str, seed: u64) -> Result<Tally, String> {
+    command::compare(program, &runs(seed), own_answer)
+}
+
+pub fn runs(seed: u64) -> Vec<Run> {
+    let mut runs = stated_runs();
+    runs.extend(large_runs(&largest_books(&mut Rng::new(seed ^ 0x4EA))));
+    for number in 0..SEEDED {
+        runs.push(seeded_run(&mut Rng::for_case(seed ^ 0x4EAC, number)));
+    }
+    for (place, (start, _)) in runs.iter_mut().enumerate() {
+        start.way = Way::in_turn(place);
+    }
+    runs
+}
+
+pub fn own_answer(start: &Start) -> Expected {
+    let asked = start.asked.as_deref().map(asked::number);
+    if asked == Some(None) {
+        return Expected::Nothing;
+    }
+    match reach_numbers(asked.flatten(), &start.book) {
+        Ok(numbers) => Expected::Numbers(numbers),
+        Err(refusal) => Expected::refused(refusal),
+    }
+}
+
+fn run(book: Vec<u8>, asked: Option<&str>, stated: Option<&str>) -> Run {
+    let asked = asked.map(String::from);
+    (Start { verb: "reach", pattern: None, way: Way::Path, book, asked }, stated.map(String::from))
+}
+
+/// Calls that stand twice, macros left out, and the order of the refusals.
+fn stated_runs() -> Vec<Run> {
+    let skipping = [keys(b"a"), keys(b"b"), vec![call(0), 98, call(0)], vec![call(2); 64]];
+    let stated = |macros: &[Vec<u16>], asked, stated| run(write(macros), asked, Some(stated));
+    vec![
+        stated(&example(), None, "numbers 0 1"),
+        stated(&example(), Some("0"), "numbers 0"),
+        stated(&example(), Some("000000000000000000000000000001"), "numbers 0 1"),
+        stated(&example(), Some("2"), "refused 10"),
+        stated(&example(), Some("65536"), "refused 10"),
+        stated(&example(), Some("18446744073709551616"), "refused 10"),
+        stated(&skipping, None, "numbers 0 2 3"),
+        stated(&skipping, Some("1"), "numbers 1"),
+        stated(&[vec![call(0)]], Some("5"), "refused 6"),
+    ]
+}
+
+/// The three largest books, and those that are longer or damaged at their end.
+fn large_runs(largest: &[Vec<u8>]) -> Vec<Run> {
+    let mut runs: Vec<Run> = largest.iter().map(|book| run(book.clone(), None, None)).collect();
+    let all: String = (0..1024).map(|number| format!(" {number}")).collect();
+    runs[2].1 = Some(format!("numbers{all}"));
+    for (book, refusal) in long_books(&largest[0]) {
+        runs.push(run(book, Some("1023"), Some(&format!("refused {refusal}"))));
+    }
+    runs
+}
+
+fn seeded_run(rng: &mut Rng) -> Run {
+    let book = if rng.chance(10) { damaged_large(rng) } else { partly_sound(rng) };
+    let asked = asked::seeded(rng, macro_count(&book).max(1));
+    run(book, asked.as_deref(), None)
+}

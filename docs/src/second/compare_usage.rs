@@ -1,0 +1,49 @@
+//! Starts of the command that have no answer: nothing is printed on standard output, and the status is 2.
+
+use crate::book_file::{path_for, BookFile};
+use crate::child;
+use crate::command::judge;
+use crate::expected::Expected;
+use crate::fixed_books::example;
+use crate::make_book::write;
+use crate::tally::Tally;
+use std::ffi::OsString;
+
+/// BOOK stands for a sound book's path, MISSING for the path of no file, FOLDER for a folder's.
+const STARTS: &[(&str, &[&str])] = &[
+    ("usage", &[]),
+    ("usage", &["lines", "BOOK"]),
+    ("usage", &["count", "--", "a"]),
+    ("usage", &["count", "-x", "BOOK"]),
+    ("usage", &["check", "BOOK", "0"]),
+    ("file", &["count", "--", "a", "MISSING"]),
+    ("file", &["check", "FOLDER"]),
+    ("file", &["reach", "MISSING", "0"]),
+    ("number", &["count", "--", "(", "BOOK", "0x1"]),
+    ("number", &["reach", "BOOK", "-1"]),
+    ("number", &["reach", "BOOK", ""]),
+];
+
+pub fn compare(program: &str) -> Result<Tally, String> {
+    let mut tally = Tally::default();
+    let file = BookFile::new(&write(&example()))?;
+    for (kind, words) in STARTS {
+        let arguments: Vec<OsString> = words
+            .iter()
+            .map(|&word| match word {
+                "BOOK" => file.path.clone().into_os_string(),
+                "MISSING" => path_for("missing").into_os_string(),
+                "FOLDER" => std::env::temp_dir().into_os_string(),
+                word => OsString::from(word),
+            })
+            .collect();
+        let outcome = child::run(program, &arguments, Vec::new());
+        outcome.and_then(|outcome| judge(&Expected::Nothing, &outcome)).map_err(|other| {
+            format!(
+                "kind: no answer, {kind}\narguments: {words:?}\nsecond: nothing (status 2)\nother: {other}"
+            )
+        })?;
+        tally.add(kind, "nothing");
+    }
+    Ok(tally)
+}
