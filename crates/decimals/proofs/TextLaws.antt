@@ -8,7 +8,7 @@ use mathlib.Core.List.{List, [], _++_, append-assoc}
 use lib.Dec.{leb}
 use lib.ListN.{length, take, drop, length-append, length-drop}
 use lib.Seq.{paste, take-append-seam, drop-append-add, drop-drop, take-length, length-paste, take-paste, drop-paste}
-use borrow.Author.Tests.{le-leb, lt-leb}
+use borrow.Author.Tests.{le-leb, lt-leb, leb-true}
 use Rattle.io.specs.Digits.{Fewest}
 use Rattle.io.specs.Digits as io
 use Rattle.decimals.specs.Decimals.{numeral}
@@ -58,6 +58,15 @@ module _ (out : List ℕ) (at : ℕ) (w : List ℕ) where
 
       pub place-copied : at + length w ≡ placeAfter out at w
       place-copied = place-all (omega arith)
+
+-- a buffer stays as long as it was
+pub put-length : (out : List ℕ) (at : ℕ) (w : List ℕ) → length (putAt out at w) ≡ length out
+unfolding putAt
+put-length out at w = go (leb (at + length w) (length out)) refl
+  where
+    go : (b : Bool) → leb (at + length w) (length out) ≡ b → length (cond b (paste out at w (length w)) out) ≡ length out
+    go true e = length-paste out at w (length w) (leb-true (at + length w) (length out) e) (omega arith)
+    go false e = refl
 
 -- a text's end is no further than its length behind its start
 pub place-near : (out : List ℕ) (at : ℕ) (w : List ℕ) → placeAfter out at w ≤ at + length w

@@ -32,8 +32,11 @@ unfoldable pub countLine : Told → List ℕ
 countLine t = cond (eqb (t .refusal) 0) (linesText (t .lines) (t .steps)) (refusedText (t .refusal))
 
 -- what a book holds, or its refusal
+abbrev pub soundText : Facts → List ℕ
+soundText f = field "sound version " (f .version) ++ field " macros " (f .macros)
+
 abbrev pub factsText : Facts → List ℕ
-factsText f = field "sound version " (f .version) ++ field " macros " (f .macros) ++ field " items " (f .items) ++ field " bytes " (f .bytes) ++ ending
+factsText f = soundText f ++ field " items " (f .items) ++ field " bytes " (f .bytes) ++ ending
 
 unfoldable pub surveyLine : Figures Facts → List ℕ
 surveyLine f = cond (eqb (f .refusal) 0) (factsText (f .value)) (refusedText (f .refusal))

@@ -5,18 +5,27 @@ use crate::line::refused_line;
 use decimals::put_text;
 use survey::Facts;
 use survey::Surveyed;
+ghost use Prim.Native.Nat.{_≤_};
 ghost use Rattle.survey.specs.Facts.{surveyFigures};
-ghost use Rattle.output.specs.Lines.{Line, factsText, surveyLine};
+ghost use Rattle.output.specs.Lines.{Line, factsText, soundText, surveyLine};
+
+// `sound version V macros M`.
+fn sound_start(f: Facts, out: &mut [u8; LINE]) -> usize
+    ensures start { λ n. ⌜ Line (soundText f) (now (out .entry)) (now (out .exit)) n ⌝ }
+    ensures near { λ n. ⌜ n ≤ 62 ⌝ }
+{
+    let behind = put_field(out, 0, b"sound version ", f.version as u64);
+    put_field(out, behind, b" macros ", f.macros as u64)
+}
 
 // `sound version V macros M items I bytes B` and LF.
 fn facts_line(f: Facts, out: &mut [u8; LINE]) -> usize
     ensures { λ n. ⌜ Line (factsText f) (now (out .entry)) (now (out .exit)) n ⌝ }
 {
-    let version = put_field(out, 0, b"sound version ", f.version as u64);
-    let macros = put_field(out, version, b" macros ", f.macros as u64);
-    let items = put_field(out, macros, b" items ", f.items);
-    let bytes = put_field(out, items, b" bytes ", f.bytes);
-    put_text(out, bytes, b"\n")
+    let start = sound_start(f, out);
+    let behind = put_field(out, start, b" items ", f.items);
+    let at = put_field(out, behind, b" bytes ", f.bytes);
+    put_text(out, at, b"\n")
 }
 
 // The line of what a book holds, at the front of a buffer; answers its length.

@@ -2,20 +2,31 @@
 use decimals::put_number;
 use decimals::put_text;
 ghost use mathlib.Core.Path.{_≡_};
-ghost use lib.ListN.{take};
-ghost use Rattle.output.specs.Lines.{Line, listText};
+ghost use mathlib.Core.List.{_++_};
+ghost use Prim.Native.Nat.{_+_, _≤_};
+ghost use lib.ListN.{length, take};
+ghost use Rattle.decimals.specs.Decimals.{numeral};
+ghost use Rattle.decimals.specs.Texts.{placeAfter, putAt};
+ghost use Rattle.output.specs.Lines.{Line, ending, listText};
 
 // Room for the lines of 1,024 numbers of at most 20 digits.
 pub const LISTING: usize = 1024 * 21;
 
-fn wide(n: u16) -> u64
-    ensures { λ r. ⌜ r ≡ n ⌝ }
+// A number and LF, from a place on; answers the place behind them.
+fn put_entry(out: &mut [u8], at: usize, n: u16) -> usize
+    requires { ⌜ at + 21 ≤ length (now out) ⌝ }
+    ensures buffer { λ _. ⌜ now (out .exit) ≡ putAt (now (out .entry)) at (numeral n ++ ending) ⌝ }
+    ensures place { λ r. ⌜ r ≡ placeAfter (now (out .entry)) at (numeral n ++ ending) ⌝ }
+    ensures short { λ _. ⌜ length (numeral n) ≤ 20 ⌝ }
 {
-    n as u64
+    let behind = put_number(out, at, n as u64);
+    put_text(out, behind, b"\n")
 }
 
-// The first n entries of a list, one a line, at the front of a buffer; answers the length of the lines.
-pub fn reach_lines(list: &[u16; 1024], n: usize, out: &mut [u8; LISTING]) -> usize
+// The first n entries of a list, one a line.
+fn put_entries(list: &[u16], n: usize, out: &mut [u8]) -> usize
+    requires { ⌜ length (now list) ≡ 1024 ⌝ }
+    requires { ⌜ length (now out) ≡ 21504 ⌝ }
     ensures { λ r. ⌜ Line (listText (take n (now (list .entry)))) (now (out .entry)) (now (out .exit)) r ⌝ }
 {
     let mut at = 0;
@@ -24,9 +35,15 @@ pub fn reach_lines(list: &[u16; 1024], n: usize, out: &mut [u8; LISTING]) -> usi
         if n <= i {
             break;
         }
-        let behind = put_number(out, at, wide(list[i]));
-        at = put_text(out, behind, b"\n");
+        at = put_entry(out, at, list[i]);
         i += 1;
     }
     at
+}
+
+// The same at the front of a buffer; answers the length of the lines.
+pub fn reach_lines(list: &[u16; 1024], n: usize, out: &mut [u8; LISTING]) -> usize
+    ensures { λ r. ⌜ Line (listText (take n (now (list .entry)))) (now (out .entry)) (now (out .exit)) r ⌝ }
+{
+    put_entries(list, n, out)
 }
