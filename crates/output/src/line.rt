@@ -30,7 +30,7 @@ pub(crate) fn put_field(out: &mut [u8], at: usize, name: &[u8], n: u64) -> usize
 }
 
 // `refused R` and LF.
-pub(crate) fn refused_line(r: Refusal, out: &mut [u8; LINE]) -> usize
+pub fn refused_line(r: Refusal, out: &mut [u8; LINE]) -> usize
     ensures { λ n. ⌜ Line (refusedText (number r)) (now (out .entry)) (now (out .exit)) n ⌝ }
 {
     let at = put_field(out, 0, b"refused ", code(r) as u64);

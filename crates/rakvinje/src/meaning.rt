@@ -2,23 +2,15 @@
 use crate::say::text;
 use refusal::Refusal;
 
-// What a sound book and a good pattern are refused for.
-fn explain_count(r: Refusal) {
+// What a sound book and a good pattern are refused for. The command has space for every book, joins nothing and takes input of any
+// length, so that there are no more (`macro-refusals`, `last-refusals`, `named-refusals` of `command`, `reach-refusals` of `survey`).
+fn explain_macro(r: Refusal) {
     match r {
         Refusal::NoSuchMacro => text(
-            b"The book has no macro of that number. The first is 0, and the last is counted if you name none.\n",
-        ),
-        Refusal::InsufficientSpace => text(
-            b"The work space is too short. This command has enough for every book: please report this.\n",
+            b"The book has no macro of that number. The first is 0, and the last is taken if you name none.\n",
         ),
         Refusal::CountOverflow => text(
             b"The count is over 18,446,744,073,709,551,615, the largest that can be given. Ask for a macro that this one calls.\n",
-        ),
-        Refusal::ReportMismatch => text(
-            b"Reports of different patterns were joined. This command joins none: please report this.\n",
-        ),
-        Refusal::InputTooLong => text(
-            b"The input has over 8,192 bytes. This command takes more: please report this.\n",
         ),
         _ => {}
     }
@@ -48,11 +40,11 @@ pub(crate) fn explain(r: Refusal) {
             b"The pattern is empty, or has over 128 bytes. Give one of 1 to 128.\n",
         ),
         Refusal::PatternSyntax => text(
-            b"The pattern is not of the form that is taken: README.md, Patterns, has it. Put \\ before a mark that stands for itself.\n",
+            b"The pattern is not of the form that is taken: see rakvinje help count. Put \\ before a mark that stands for itself.\n",
         ),
         Refusal::TooManyAtoms => text(
             b"The pattern has over 29 atoms (bytes, dots, brackets). Give a shorter one.\n",
         ),
-        _ => explain_count(r),
+        _ => explain_macro(r),
     }
 }

@@ -1,17 +1,17 @@
--- `book_file::read_all`: the bytes read stay within the buffer, and each turn reads one at least.
+-- `read_all`: the bytes read stay within the buffer, and each turn reads one at least.
 use Prim.Native.Nat.{_-_, _≤_}
 use mathlib.Core.Path.{_≡_}
 use lib.ListN.{length}
 use Rattle.io.proofs.Counting.{counts}
 use borrow.Author.Needs.{needs}
-use Rattle.count_file.proofs.book_file.read_all.Statement.{statement}
-use Rattle.count_file.proofs.book_file.read_all.Tie as tie
+use Rattle.files.proofs.read_all.Statement.{statement}
+use Rattle.files.proofs.read_all.Tie as tie
 
 abbrev Inv-loop : tie.InvT-loop
-Inv-loop fd buf₀ at₀ buf at = (at ≤ length buf) × (length buf ≡ length buf₀)
+Inv-loop fd name buf₀ at₀ buf at = (at ≤ length buf) × (length buf ≡ length buf₀)
 
 abbrev μ-loop : tie.MeasureT-loop
-μ-loop fd buf₀ at₀ buf at = length buf - at
+μ-loop fd name buf₀ at₀ buf at = length buf - at
 
 loop-holds : tie.Need-loop-holds Inv-loop μ-loop
 loop-holds c = search needs
@@ -27,6 +27,9 @@ part-read-end c = search needs
 
 read-requires : tie.Need-read-requires Inv-loop μ-loop
 read-requires c κs = search needs
+
+fail-requires : tie.Need-fail-requires Inv-loop μ-loop
+fail-requires c κs = search needs
 
 same-length : tie.Need-same-length Inv-loop μ-loop
 same-length c = search needs
@@ -78,6 +81,7 @@ read-all-spec =
     part-read-start
     part-read-end
     read-requires
+    fail-requires
     same-length
     returns
     sub-count

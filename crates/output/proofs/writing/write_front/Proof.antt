@@ -1,9 +1,9 @@
--- `writing::print`: the part is within the buffer.
+-- `writing::write_front`: the part is within the buffer.
 use borrow.Author.Needs.{needs}
 use native.Mathlib.Omega.{arith}
 use lib.ListN.{length-take}
-use Rattle.output.proofs.writing.print.Statement.{statement}
-use Rattle.output.proofs.writing.print.Tie as tie
+use Rattle.output.proofs.writing.write_front.Statement.{statement}
+use Rattle.output.proofs.writing.write_front.Tie as tie
 
 returns : tie.Need-returns
 returns c = search needs
@@ -17,5 +17,5 @@ write-all-requires c κs = search needs
 returns-2 : tie.Need-returns-2
 returns-2 c = search needs
 
-pub print-spec : {M : Type 1} → statement M
-print-spec = tie.close (tie.spec returns slice-aggregate-write-all write-all-requires returns-2)
+pub write-front-spec : {M : Type 1} → statement M
+write-front-spec = tie.close (tie.spec returns slice-aggregate-write-all write-all-requires returns-2)

@@ -1,0 +1,71 @@
+// What the arguments name: the verb, the pattern, the book, the macro.
+use crate::say;
+use command::BOOK_READ;
+use command::PATTERN_READ;
+use files::FileRead;
+use files::read_path;
+use libc::ENAMETOOLONG;
+ghost use Rattle.io.specs.Counts.{Counts};
+
+// Whether two texts are equal.
+fn same(a: &[u8], b: &[u8]) -> bool {
+    if a.len() != b.len() {
+        return false;
+    }
+    let mut i = 0;
+    while i < a.len() {
+        if a[i] != b[i] {
+            return false;
+        }
+        i += 1;
+    }
+    true
+}
+
+// Whether the first argument is this verb.
+pub(crate) fn is_verb(name: &[u8]) -> bool {
+    let mut space = io::buffer();
+    let n = os::arg(1, &mut space);
+    same(&space[..n], name)
+}
+
+// Puts the pattern that an argument is into the buffer, and answers how many bytes: of a longer one, the buffer's first.
+pub(crate) fn pattern_at(i: usize, space: &mut [u8; PATTERN_READ]) -> usize {
+    let n = os::arg(i, space);
+    if os::errno() == ENAMETOOLONG {
+        return PATTERN_READ;
+    }
+    n
+}
+
+// Reads the book that an argument names.
+pub(crate) fn book_at(i: usize, space: &mut [u8; BOOK_READ]) -> FileRead {
+    let mut path = io::buffer();
+    let n = os::arg(i, &mut path);
+    if os::errno() != 0 {
+        os::fail(b"the book's path");
+        return FileRead {
+            failed: true,
+            bytes: 0,
+        };
+    }
+    read_path(&path[..n], space)
+}
+
+// A macro number's text at the front of a buffer; or that it is too long, which has been said.
+pub(crate) struct NumberText {
+    pub(crate) failed: bool,
+    pub(crate) digits: usize,
+}
+
+// Puts the macro number that an argument is into the buffer.
+pub(crate) fn number_at(i: usize, space: &mut [u8]) -> NumberText
+    ensures { λ r. ⌜ Counts (r .digits) (now (space .exit)) ⌝ }
+{
+    let n = os::arg(i, space);
+    let failed = os::errno() != 0;
+    if failed {
+        say::text(b"the macro number is too long\n");
+    }
+    NumberText { failed, digits: n }
+}

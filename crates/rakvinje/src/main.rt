@@ -1,0 +1,27 @@
+// The command for people: `rakvinje count PATTERN BOOK [MACRO]`, `rakvinje check BOOK`, `rakvinje reach BOOK [MACRO]`. Standard output has the
+// answer; standard error says what a refusal means, or why there is no answer.
+mod arguments;
+mod check;
+mod count;
+mod meaning;
+mod reaching;
+mod say;
+
+use arguments::is_verb;
+
+fn main() {
+    let n = os::arg_count();
+    if is_verb(b"count") & ((n == 4) | (n == 5)) {
+        count::count();
+        return;
+    }
+    if is_verb(b"check") & (n == 3) {
+        check::check_book();
+        return;
+    }
+    if is_verb(b"reach") & ((n == 3) | (n == 4)) {
+        reaching::reach();
+        return;
+    }
+    say::usage();
+}
