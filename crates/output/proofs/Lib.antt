@@ -1,2 +1,3 @@
 -- Laws of the lines that the programs print.
 pub mod LineLaws
+pub mod Examples
