@@ -4,6 +4,9 @@
 # 'N passed, M failed', over all of these.
 set -u -o pipefail
 cd "$(dirname "$0")" || exit 2
+home=$PWD
+# shellcheck source=scripts/program.sh
+. scripts/program.sh || exit 2
 passed=0 failed=0
 printed=$(mktemp) || exit 2
 trap 'rm -f "$printed"' EXIT
@@ -65,13 +68,17 @@ works rt version || { echo "FAILED: rt, the command of the Rattle toolchain, is 
 works rustc --version || { echo "FAILED: rustc, which compiles the second program, is not there"; failed=1; finish; }
 
 single "no crate opens a definition of another" opened_nowhere
+key=$(sources_key "$home")
 counted rt ci
 [ "$failed" -eq 0 ] || finish
+single "the program is of the sources that were proved" adopt "$key" target/bin/rakvinje
 
 for cases in pattern_cases cases; do
     single "$cases prints what it must within 1 MiB of stack" small_stack "$cases"
 done
-counted bash tests/count.sh
+counted bash tests/build.sh
+counted bash tests/answers.sh
+counted bash tests/rakvinje.sh
 
 mkdir -p target/examples
 single "the generator of the examples compiles" rustc -O --edition 2021 -o target/examples/write docs/src/examples.rs
@@ -83,5 +90,5 @@ done
 single "the second program compiles" rustc -O --edition 2021 -o target/second docs/src/second/main.rs
 single "it passes its own test" target/second selftest
 single "it answers the fixed cases alike" second_agrees
-counted target/second compare target/bin/cases target/bin/cuecount ./count 1 6000
+counted target/second compare target/bin/cases target/bin/cuecount ./rakvinje 1 6000
 finish

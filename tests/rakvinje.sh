@@ -1,0 +1,254 @@
+#!/usr/bin/env bash
+# Runs the command ./rakvinje on good and bad input, and compares what it prints and its status. The numbers expected of it are those of
+# the second program in docs/src/second. The last line is 'N passed, M failed'.
+# shellcheck disable=SC2016,SC2317 # Some texts are scripts, for others to expand; expect calls the functions.
+set -u
+cd "$(dirname "$0")/.." || exit 2
+# shellcheck source=tests/expect.sh
+. tests/expect.sh
+
+r=./rakvinje
+small=examples/document01.mbk
+arena=examples/arena.mbk
+
+# book NAME BYTES: a book of these bytes (written as printf escapes).
+book() {
+    # shellcheck disable=SC2059
+    printf "$2" >"$room/$1"
+}
+
+# many BYTE N
+many() {
+    head -c "$2" /dev/zero | tr '\0' "$1"
+}
+
+# slowly FILE: in two parts.
+slowly() {
+    head -c 9 "$1"
+    sleep 0.2
+    tail -c +10 "$1"
+}
+
+# sorted COMMAND...: what it prints in order of numbers, because the order of a list is open.
+sorted() {
+    "$@" | sort -n
+    return "${PIPESTATUS[0]}"
+}
+
+# The first run builds the program if need be, and says so.
+"$r" count B "$small" >/dev/null 2>&1
+
+# Count.
+expect 0 'lines 2 steps 17' '' "$r" count B "$small"
+expect 0 'lines 2 steps 17' '' "$r" count B "$small" 1
+expect 0 'lines 2 steps 17' '' "$r" count B "$small" 0001
+expect 0 'lines 1 steps 11' '' "$r" count B "$small" 0
+expect 0 'lines 1 steps 15' '' "$r" count C "$small"
+expect 0 'lines 141071877886149849 steps 13155' '' "$r" count 'HOIST|HAZE|BLACKOUT' "$arena"
+expect 0 'lines 24 steps 7225' '' "$r" count 'HOIST|HAZE|BLACKOUT' "$arena" 170
+expect 0 'lines 2 steps 17' '' "$r" count B <(slowly "$small")
+cp "$small" "$room/a book"
+expect 0 'lines 2 steps 17' '' "$r" count B "$room/a book"
+ln -s "$PWD/rakvinje" "$room/link"
+expect 0 'lines 2 steps 17' '' env -C / "$room/link" count B "$PWD/$small"
+
+# Check.
+expect 0 'sound version 1 macros 2 items 5 bytes 21' '' "$r" check "$small"
+expect 0 'sound version 1 macros 300 items 5434 bytes 11475' '' "$r" check "$arena"
+book one 'MBK\1\0\1\0\1\0B\0'
+expect 0 'sound version 1 macros 1 items 1 bytes 11' '' "$r" check "$room/one"
+
+# Reach.
+expect 0 "0${lf}1" '' sorted "$r" reach "$small"
+expect 0 "0${lf}1" '' sorted "$r" reach "$small" 01
+expect 0 0 '' "$r" reach "$small" 0
+expect 0 254 '' bash -c 'set -o pipefail; "$@" | wc -l' - "$r" reach "$arena"
+{
+    printf 'MBK\1\0\0\4\1\0x\0'
+    for i in {0..1022}; do
+        printf -v call '\\x%02x\\x%02x' $((i % 256)) $((i / 256 + 1))
+        printf '\1\0%b' "$call"
+    done
+} >"$room/chain"
+expect 0 "$(seq 0 1023)" '' sorted "$r" reach "$room/chain"
+expect 0 "$(seq 0 511)" '' sorted "$r" reach "$room/chain" 511
+
+# A book on the standard input.
+expect 0 'lines 2 steps 17' '' "$r" count B - <"$small"
+expect 0 'lines 1 steps 11' '' "$r" count B - 0 < <(slowly "$small")
+expect 0 'sound version 1 macros 2 items 5 bytes 21' '' "$r" check - < <(slowly "$small")
+expect 0 "0${lf}1" '' sorted "$r" reach - 1 < <(slowly "$small")
+expect 1 'refused 1' '*begin with MBK*' "$r" check - </dev/null
+
+# Options, and operands that begin with -.
+book dash 'MBK\1\0\1\0\4\0-\0x\0\n\0x\0'
+for words in '-e -x' '-e-x' '-- -x' '-e -x --'; do
+    # shellcheck disable=SC2086
+    expect 0 'lines 1 steps 18' '' "$r" count $words "$room/dash"
+    # shellcheck disable=SC2086
+    expect 0 'lines 1 steps 18' '' "$r" count $words "$room/dash" 0
+done
+cp "$small" "$room/-book"
+expect 0 'lines 2 steps 17' '' env -C "$room" ./link count B -book
+expect 0 'lines 2 steps 17' '' env -C "$room" ./link count -e B -- -book
+expect 0 'sound version 1 macros 2 items 5 bytes 21' '' env -C "$room" ./link check -- -book
+expect 0 0 '' env -C "$room" ./link reach -- -book 0
+
+# The longest sound book under a pattern of 29 atoms, within 1 MiB of stack, buffers included. Longer ones are refused as any others.
+{
+    printf 'MBK\1\0\0\4'
+    items=$(printf 'x\\0%.0s' {1..63})
+    # shellcheck disable=SC2059
+    printf "\100\0$items\n\0%.0s" {1..1024}
+} >"$room/longest"
+expect 0 133127 '' stat -c %s "$room/longest"
+within=(bash -c 'ulimit -s 1024; exec "$@"' - "$r")
+expect 0 'lines 1 steps 5043200' '' "${within[@]}" count "$(many x 29)" "$room/longest"
+expect 0 'lines 1 steps 5043200' '' "${within[@]}" count "$(many x 29)" - <"$room/longest"
+expect 0 'sound version 1 macros 1024 items 65536 bytes 133127' '' "${within[@]}" check "$room/longest"
+expect 0 1023 '' "${within[@]}" reach "$room/longest"
+expect 0 "$(seq 0 1023)" '' sorted "${within[@]}" reach "$room/chain"
+cp "$room/longest" "$room/longer"
+printf '\0' >>"$room/longer"
+cp "$room/longest" "$room/much_longer"
+head -c 1000000 /dev/zero >>"$room/much_longer"
+many '\0' 133127 >"$room/zeros"
+many '\0' 133128 >"$room/more_zeros"
+many '\0' 1000000 >"$room/most_zeros"
+for verb in 'count B' check reach; do
+    for longer in longer much_longer; do
+        # shellcheck disable=SC2086
+        expect 1 'refused 4' '*cut short or goes on*' "${within[@]}" $verb "$room/$longer"
+        # shellcheck disable=SC2086
+        expect 1 'refused 4' '*cut short or goes on*' "${within[@]}" $verb - < <(cat "$room/$longer")
+    done
+    for zeros in zeros more_zeros most_zeros; do
+        # shellcheck disable=SC2086
+        expect 1 'refused 1' '*begin with MBK*' "${within[@]}" $verb "$room/$zeros"
+    done
+done
+
+# A macro's number may be as long as an argument can be.
+expect 0 'lines 1 steps 11' '' "$r" count B "$small" "$(many 0 5000)"
+expect 0 'lines 2 steps 17' '' "$r" count B "$small" "$(many 0 131070)1"
+expect 1 'refused 10' '*no macro of that number*' "$r" count B "$small" "$(many 9 131071)"
+expect 0 0 '' "$r" reach "$small" "$(many 0 131071)"
+expect 2 '' '*decimal digits*' "$r" count B "$small" "$(many 0 131070)x"
+
+# refused_book NUMBER MEANING BOOK: by every verb, with the sentence that says what it means.
+refused_book() {
+    expect 1 "refused $1" "*$2*" "$r" count B "$3"
+    expect 1 "refused $1" "*$2*" "$r" count '' "$3" 5
+    expect 1 "refused $1" "*$2*" "$r" check "$3"
+    expect 1 "refused $1" "*$2*" "$r" reach "$3"
+    expect 1 "refused $1" "*$2*" "$r" reach "$3" 5
+}
+
+# Refusals.
+book short 'MBK\1\0\1'
+refused_book 1 'begin with MBK' "$room/short"
+refused_book 1 'begin with MBK' /dev/null
+refused_book 1 'begin with MBK' tests/rakvinje.sh
+book version 'MBK\2\0\1\0\1\0B\0'
+refused_book 2 'version is not 1' "$room/version"
+book none 'MBK\1\0\0\0'
+refused_book 3 'no macro, or over 1,024' "$room/none"
+book more 'MBK\1\0\1\0\1\0B\0\0'
+refused_book 4 'cut short or goes on' "$room/more"
+book zero 'MBK\1\0\1\0\1\0\0\0'
+refused_book 5 'item 0' "$room/zero"
+book self 'MBK\1\0\1\0\1\0\0\1'
+refused_book 6 'calls itself' "$room/self"
+expect 1 'refused 7' '*over 128 bytes*' "$r" count '' "$small"
+expect 1 'refused 7' '*over 128 bytes*' "$r" count -e '' "$small"
+expect 0 'lines 0 steps 13' '' "$r" count "[$(many x 126)]" "$small"
+expect 1 'refused 7' '*over 128 bytes*' "$r" count "[$(many x 127)]" "$small"
+expect 1 'refused 7' '*over 128 bytes*' "$r" count "$(many x 5000)" "$small"
+expect 1 'refused 8' '*not of the form*' "$r" count '(' "$small"
+expect 1 'refused 8' '*not of the form*' "$r" count $'a\nb' "$small"
+expect 1 'refused 9' '*over 29 atoms*' "$r" count "$(many x 30)" "$small"
+for asked in 2 1024 18446744073709551616 340282366920938463463374607431768211457; do
+    expect 1 'refused 10' '*no macro of that number*' "$r" count B "$small" "$asked"
+    expect 1 'refused 10' '*no macro of that number*' "$r" reach "$small" "$asked"
+done
+{
+    printf 'MBK\1\0\101\0\2\0a\0\n\0'
+    for i in {0..62}; do
+        printf -v call '\\x%02x\\1' "$i"
+        printf '\3\0%b%b\0\1' "$call" "$call"
+    done
+    printf '\2\0\77\1\0\1'
+} >"$room/high"
+expect 0 'lines 18446744073709551615 steps 389' '' "$r" count a "$room/high" 63
+expect 1 'refused 12' '*largest that can be given*' "$r" count a "$room/high"
+
+# No answer: files, numbers, the answer itself.
+for verb in 'count B' check reach; do
+    # shellcheck disable=SC2206
+    asked=("$r" $verb)
+    expect 2 '' '*No such file or directory*' "${asked[@]}" "$room/missing"
+    expect 2 '' '*Not a directory*' "${asked[@]}" "$small/book"
+    expect 2 '' '*Is a directory*' "${asked[@]}" examples
+    expect 2 '' '*No such file or directory*' "${asked[@]}" ''
+    expect 2 '' '*too long*' "${asked[@]}" "$(many x 5000)"
+    expect 2 '' '*Is a directory*' "${asked[@]}" - <examples
+    expect 2 '' '*could not be written*' bash -c '"$@" >/dev/full' - "${asked[@]}" "$small"
+done
+expect 2 '' '*Bad file descriptor*' bash -c '"$@" <&-' - "$r" check -
+for asked in '' x -1 +1 1x ' 1' 0x1 1.0; do
+    expect 2 '' '*decimal digits*' "$r" count B "$small" "$asked"
+    expect 2 '' '*decimal digits*' "$r" reach "$small" "$asked"
+done
+
+# Help.
+expect 0 "$(<scripts/help/verbs.txt)" '' "$r" help
+expect 0 "$(<scripts/help/verbs.txt)" '' "$r" --help
+expect 0 "$(<scripts/help/verbs.txt)" '' "$r" -h
+for verb in count check reach help; do
+    text=$(<scripts/help/$verb.txt)
+    expect 0 "$text" '' "$r" help "$verb"
+    expect 0 "$text" '' "$r" "$verb" --help
+    expect 0 "$text" '' "$r" "$verb" -h
+    expect 0 "$text" '' "$r" "$verb" -h "$small" 1 2 3
+    expect 0 "$text" '' "$r" --help "$verb"
+    expect 0 "  $verb " '' grep -o "^  $verb " scripts/help/verbs.txt
+done
+expect 2 '' '*' bash -c '"$@" >/dev/full' - "$r" help count
+
+# The examples of the help are what is printed.
+for verb in count check reach; do
+    example=$(sed -n 's/^  \$ //p' scripts/help/$verb.txt)
+    expect 0 "$(sed '1,/^  \$ /d; s/^  //' scripts/help/$verb.txt)" '' bash -c "$example"
+done
+
+# Wrong usage.
+expect 2 '' 'usage: rakvinje VERB*' "$r"
+expect 2 '' "*no verb 'lines'*rakvinje help*" "$r" lines
+expect 2 '' "*no verb ''*rakvinje help*" "$r" ''
+expect 2 '' "*no verb 'verbs'*rakvinje help*" "$r" help verbs
+expect 2 '' "*no verb '../count'*rakvinje help*" "$r" help ../count
+expect 2 '' "*no option '-x' before the verb*rakvinje help*" "$r" -x count B "$small"
+expect 2 '' "*no option '--' before the verb*rakvinje help*" "$r" -- count B "$small"
+for verb in count check reach help; do
+    for option in -x --x --helping --help=1 -: '-?'; do
+        expect 2 '' "*$verb has no option '${option/\?/\\?}'*rakvinje help $verb*" "$r" "$verb" "$option" B "$small"
+    done
+done
+expect 2 '' "*check has no option '-e'*" "$r" check -e B "$small"
+expect 2 '' '*option -e needs a value*rakvinje help count*' "$r" count -e
+expect 2 '' '*option -e is given twice*rakvinje help count*' "$r" count -e B -e C "$small"
+expect 2 '' '*option -e is given twice*rakvinje help count*' "$r" count -e '' -e C "$small"
+usage="usage: rakvinje count PATTERN BOOK [[]MACRO]${lf}   or: rakvinje count -e PATTERN BOOK [[]MACRO]"
+expect 2 '' "$usage" "$r" count
+expect 2 '' "$usage" "$r" count B
+expect 2 '' "$usage" "$r" count --
+expect 2 '' "$usage" "$r" count -e B
+expect 2 '' "$usage" "$r" count B "$small" 1 1
+expect 2 '' "$usage" "$r" count -e B "$small" 1 1
+expect 2 '' 'usage: rakvinje check BOOK' "$r" check
+expect 2 '' 'usage: rakvinje check BOOK' "$r" check "$small" 1
+expect 2 '' 'usage: rakvinje reach BOOK [[]MACRO]' "$r" reach
+expect 2 '' 'usage: rakvinje reach BOOK [[]MACRO]' "$r" reach "$small" 1 1
+expect 2 '' 'usage: rakvinje help [[]VERB]' "$r" help count check
+
+finish
