@@ -19,8 +19,8 @@ expect() {
     fi
     failed=$((failed + 1))
     printf 'FAILED:'
-    printf ' %q' "$@"
-    printf '\n  printed %q\n  not %q\n  said %q\n' "$got" "$want" "$said"
+    printf ' %q' "$@" | cut -c 1-400
+    printf '  printed %q\n  not %q\n  said %q\n' "$got" "$want" "$said"
 }
 
 finish() {

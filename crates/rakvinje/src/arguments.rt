@@ -5,6 +5,8 @@ use command::PATTERN_READ;
 use files::FileRead;
 use files::read_path;
 use libc::ENAMETOOLONG;
+ghost use mathlib.Core.Path.{_≡_};
+ghost use lib.ListN.{length};
 ghost use Rattle.io.specs.Counts.{Counts};
 
 // Whether two texts are equal.
@@ -50,6 +52,13 @@ pub(crate) fn book_at(i: usize, space: &mut [u8; BOOK_READ]) -> FileRead {
         };
     }
     read_path(&path[..n], space)
+}
+
+// Room for every argument: the system passes none of 131,072 bytes or more.
+pub(crate) fn number_space() -> [u8; 131072]
+    ensures { λ r. ⌜ 131072 ≡ length r ⌝ }
+{
+    [0; 131072]
 }
 
 // A macro number's text at the front of a buffer; or that it is too long, which has been said.

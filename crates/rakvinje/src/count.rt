@@ -1,6 +1,7 @@
 // `count PATTERN BOOK [MACRO]`.
 use crate::arguments::book_at;
 use crate::arguments::number_at;
+use crate::arguments::number_space;
 use crate::arguments::pattern_at;
 use crate::meaning::explain;
 use crate::say;
@@ -23,7 +24,7 @@ fn show(c: BookCount) {
 
 // Counts the macro that the fourth argument names.
 fn count_asked(book: &[u8; BOOK_READ], n: usize, pattern: &[u8; PATTERN_READ], k: usize) {
-    let mut space = io::buffer();
+    let mut space = number_space();
     let number = number_at(4, &mut space);
     let digits = number.digits;
     if number.failed {

@@ -40,7 +40,7 @@ pub(crate) fn explain(r: Refusal) {
             b"The pattern is empty, or has over 128 bytes. Give one of 1 to 128.\n",
         ),
         Refusal::PatternSyntax => text(
-            b"The pattern is not of the form that is taken: see rakvinje help count. Put \\ before a mark that stands for itself.\n",
+            b"The pattern is not of the form that is taken: README.md, Patterns, has it. Put \\ before a mark that stands for itself.\n",
         ),
         Refusal::TooManyAtoms => text(
             b"The pattern has over 29 atoms (bytes, dots, brackets). Give a shorter one.\n",

@@ -1,6 +1,7 @@
 // `reach BOOK [MACRO]`.
 use crate::arguments::book_at;
 use crate::arguments::number_at;
+use crate::arguments::number_space;
 use crate::meaning::explain;
 use crate::say;
 use command::BOOK_READ;
@@ -27,7 +28,7 @@ fn show(found: Reached, list: &[u16; LIST]) {
 
 // Lists what the macro reaches that the third argument names.
 fn reach_asked(book: &[u8; BOOK_READ], n: usize) {
-    let mut space = io::buffer();
+    let mut space = number_space();
     let number = number_at(3, &mut space);
     let digits = number.digits;
     if number.failed {
