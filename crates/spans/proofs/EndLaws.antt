@@ -3,7 +3,7 @@ use Prim.Native.Nat.{ℕ, _+_, _<_, _≤_}
 use native.Mathlib.Omega.{arith}
 use native.Mathlib.Nat.{zero-add}
 use mathlib.Core.Path.{_≡_, refl, sym, ap, _∙_}
-use mathlib.Core.Bool.{Bool, true, false, not, _&&_, and-comm, Bool·not-not}
+use mathlib.Core.Bool.{Bool, true, false, not, cond, _&&_, and-comm, Bool·not-not}
 use mathlib.Core.List.{List, [], _∷_}
 use lib.Dec.{eqb}
 use lib.ListN.{getD}
@@ -50,7 +50,7 @@ module _ (t : Pattern) (few : atomCount t ≤ 29) (p : Accepting) (tables : p .a
       ∙ sym (accepted-is t 0 l)
       ∙ states-match t l h
 
-  last-part : (l : List ℕ) → isLine l ≡ true → lastLine (states t) p (word (states t) (leads t 0 l)) ≡ countLast (matches t) l
+  last-part : (l : List ℕ) → isLine l ≡ true → cond (lastLine (states t) p (word (states t) (leads t 0 l))) 1 0 ≡ countLast (matches t) l
   last-part l h = rw (starts l, accepts l h, Bool·not-not (isOpen l)) refl
 
   first-part : (l : List ℕ) → isLine l ≡ true → common (states t) (headsOf t l) 1 ≡ matches t l
@@ -81,8 +81,8 @@ pub ends-few : (p : Accepting) (a : Span) → endLines p a ≤ 2
 unfolding endLines
 ends-few p a = go (stateCount (a .s)) (a .ended)
   where
-    last : (s x : ℕ) → lastLine s p x ≤ 1
-    last s x = at-most-one (not (common s x 1) && common s x (p .accepting)) refl
+    last : (s x : ℕ) → cond (lastLine s p x) 1 0 ≤ 1
+    last s x = at-most-one (lastLine s p x) refl
 
     go : (s : ℕ) (b : Bool) → endsWith s p b a ≤ 2
     go s false = omega (arith, last s (getD (a .rows) 0 0))

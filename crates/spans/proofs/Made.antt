@@ -75,21 +75,21 @@ module _ (keys enter : List ℕ) (p : Accepting) (a : Span) (k : ℕ) where
   extended-key e b = rw (ne-eqb k lineEnd e, b) refl
 
 -- The ends.
-pub last-made : (s : ℕ) (p : Accepting) (x : ℕ) {z r : ℕ} {m k : Bool} → z ≡ startSet → m ≡ common s x z → k ≡ common s x (p .accepting) → r ≡ cond (not m && k) 1 0 → r ≡ lastLine s p x
-last-made s p x z m k r = rw (r, k, m, z) refl
+pub last-made : (s : ℕ) (p : Accepting) (x : ℕ) {z : ℕ} {m k : Bool} → z ≡ startSet → m ≡ common s x z → k ≡ common s x (p .accepting) → (not m && k) ≡ lastLine s p x
+last-made s p x z m k = rw (k, m, z) refl
 
 -- each is at most one line
-pub ends-room : (s : ℕ) (p : Accepting) (x : ℕ) (m : Bool) {f l : ℕ} → f ≡ cond m 1 0 → l ≡ lastLine s p x → Fits w64 (f + l)
-ends-room s p x m e g = omega (arith, at-most-one m e, at-most-one (not (common s x 1) && common s x (p .accepting)) g)
+pub ends-room : (m k : Bool) {f l : ℕ} → f ≡ cond m 1 0 → l ≡ cond k 1 0 → Fits w64 (f + l)
+ends-room m k e g = omega (arith, at-most-one m e, at-most-one k g)
 
 module _ (p : Accepting) (a : Span) {s : ℕ} (c : s ≡ stateCount (a .s)) where
-  pub ends-both : {z f l : ℕ} {m : Bool} → a .ended ≡ true → z ≡ startSet → m ≡ common s (a .heads) z → f ≡ cond m 1 0 → l ≡ lastLine s p (a .tail) → f + l ≡ endLines p a
+  pub ends-both : {z f l : ℕ} {m k : Bool} → a .ended ≡ true → z ≡ startSet → m ≡ common s (a .heads) z → f ≡ cond m 1 0 → k ≡ lastLine s p (a .tail) → l ≡ cond k 1 0 → f + l ≡ endLines p a
   unfolding endLines
-  ends-both e z m f l = rw (e, ← c, f, m, z, l) refl
+  ends-both e z m f k l = rw (e, ← c, f, m, z, l, k) refl
 
-  pub ends-one : {l : ℕ} → a .ended ≡ false → l ≡ lastLine s p (getD (a .rows) 0 0) → l ≡ endLines p a
+  pub ends-one : {l : ℕ} {k : Bool} → a .ended ≡ false → k ≡ lastLine s p (getD (a .rows) 0 0) → l ≡ cond k 1 0 → l ≡ endLines p a
   unfolding endLines
-  ends-one e l = rw (e, ← c, l) refl
+  ends-one e k l = rw (e, ← c, l, k) refl
 
 -- Pairs.
 module _ (a : Span) {s : ℕ} (c : s ≡ stateCount (a .s)) where

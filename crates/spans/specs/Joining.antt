@@ -57,14 +57,14 @@ unfoldable pub extendedSpan : List ℕ → List ℕ → Accepting → Span → �
 extendedSpan keys enter p a k =
     cond (eqb k lineEnd) (joinedSpans a (endSpan (a .s) p)) (record { span = movedSpan keys enter p a k; closes = false })
 
--- 1 if the last part of a run has a key, so that line-start was left, and is accepted
-abbrev pub lastLine : ℕ → Accepting → ℕ → ℕ
-lastLine s p x = cond (not (common s x 1) && common s x (p .accepting)) 1 0
+-- whether the last part of a run has a key, so that line-start was left, and is accepted
+abbrev pub lastLine : ℕ → Accepting → ℕ → Bool
+lastLine s p x = not (common s x 1) && common s x (p .accepting)
 
 -- the matching lines that are not closed between: the first and the last, or the one that is both (`matching-ends`)
 abbrev pub endsWith : ℕ → Accepting → Bool → Span → ℕ
-endsWith s p false a = lastLine s p (getD (a .rows) 0 0)
-endsWith s p true a = cond (common s (a .heads) 1) 1 0 + lastLine s p (a .tail)
+endsWith s p false a = cond (lastLine s p (getD (a .rows) 0 0)) 1 0
+endsWith s p true a = cond (common s (a .heads) 1) 1 0 + cond (lastLine s p (a .tail)) 1 0
 
 unfoldable pub endLines : Accepting → Span → ℕ
 endLines p a = endsWith (stateCount (a .s)) p (a .ended) a

@@ -19,6 +19,9 @@ chosen-requires c κs = search needs
 last-line-requires : tie.Need-last-line-requires
 last-line-requires c κs = search needs
 
+chosen-requires-2 : tie.Need-chosen-requires-2
+chosen-requires-2 c κs = search needs
+
 add-result : tie.Need-add-result
 add-result c = search (ends-room)
 
@@ -30,6 +33,9 @@ array-read-last-line c = search needs
 
 last-line-requires-2 : tie.Need-last-line-requires-2
 last-line-requires-2 c κs = search needs
+
+chosen-requires-3 : tie.Need-chosen-requires-3
+chosen-requires-3 c κs = search needs
 
 returns-2 : tie.Need-returns-2
 returns-2 c = search (ends-one)
@@ -43,8 +49,10 @@ end-lines-spec =
     meeting-requires
     chosen-requires
     last-line-requires
+    chosen-requires-2
     add-result
     returns
     array-read-last-line
     last-line-requires-2
+    chosen-requires-3
     returns-2)

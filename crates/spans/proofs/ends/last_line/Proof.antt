@@ -13,11 +13,8 @@ meeting-requires c κs = search needs
 meeting-requires-2 : tie.Need-meeting-requires-2
 meeting-requires-2 c κs = search needs
 
-chosen-requires : tie.Need-chosen-requires
-chosen-requires c κs = search needs
-
 returns : tie.Need-returns
 returns c = search (last-made)
 
 pub last-line-spec : {M : Type 1} → statement M
-last-line-spec = tie.close (tie.spec set-requires meeting-requires meeting-requires-2 chosen-requires returns)
+last-line-spec = tie.close (tie.spec set-requires meeting-requires meeting-requires-2 returns)
