@@ -1,7 +1,7 @@
 -- No byte behind the first 133,128 of a book plays a part: what is answered to these is answered to the whole.
 use Prim.Native.Nat.{ℕ, zero, suc, _+_, _-_, _*_, _<_, _≤_, min}
 use native.Mathlib.Omega.{arith}
-use mathlib.Core.Path.{_≡_, refl, sym, ap, _∙_}
+use mathlib.Core.Path.{_≡_, refl}
 use mathlib.Core.Bool.{Bool, true, false, cond, _&&_}
 use mathlib.Core.List.{List, [], _∷_}
 use lib.Dec.{leb, ltb, eqb}
@@ -13,7 +13,6 @@ use Rattle.refusal.specs.declared.Refusal.the-variants.{BadMagic, UnsupportedVe
 use Rattle.runs.proofs.Tests.{and-parts}
 use Rattle.book.specs.declared.item.Item.{Item}
 use Rattle.book.specs.declared.item.Item.the-variants.{Key, Call}
-use Rattle.book.specs.Format.{Macro, width}
 use Rattle.book.specs.Reading.{Reading, Reader, got, refused, next, done, le16, itemOf, checkItem, readItem, readItems, readMacro, readMacros, hasMagic, readHeader, atEnd, readAll, readBook}
 use Rattle.book.proofs.Header.{header-got}
 use Rattle.book.proofs.MacroItems.{drop-take}

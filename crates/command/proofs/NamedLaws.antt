@@ -1,15 +1,15 @@
 -- Laws of the macro that a command names.
-use Prim.Native.Nat.{ℕ, _≤_, min}
+use Prim.Native.Nat.{ℕ, min}
 use native.Mathlib.Omega.{arith}
-use mathlib.Core.Path.{_≡_, refl, sym, ap, _∙_}
-use mathlib.Core.Bool.{Bool, true, false, cond}
+use mathlib.Core.Path.{_≡_, refl, ap, _∙_}
+use mathlib.Core.Bool.{Bool, true, false}
 use mathlib.Core.List.{List}
 use mathlib.Core.Option.{none, some}
 use lib.Dec.{leb}
 use lib.ListN.{replicate}
 use borrow.Author.Tests.{leb-true, leb-false}
 use Rattle.decimals.specs.declared.number.Number.{Number}
-use Rattle.decimals.specs.Decimals.{isNumber, decimal, numberIn}
+use Rattle.decimals.specs.Decimals.{decimal, numberIn}
 use Rattle.book.specs.Reading.{readBook}
 use Rattle.pattern.specs.Reader as reader
 use Rattle.counter.specs.Counting.{Outcome, countResult, mostWords}

@@ -2,23 +2,18 @@
 use Prim.Native.Nat.{ℕ, _<_, _≤_, min}
 use native.Mathlib.Omega.{arith}
 use mathlib.Core.Path.{_≡_, refl, sym, ap, _∙_}
-use mathlib.Core.Bool.{Bool, true, false, cond}
+use mathlib.Core.Bool.{Bool, true, false}
 use mathlib.Core.List.{List}
-use mathlib.Core.Option.{Option}
-use lib.Dec.{leb, ltb}
+use lib.Dec.{leb}
 use lib.ListN.{length, take, length-take, replicate}
-use lib.Seq.{take-all, take-take, length-take-le}
-use borrow.Author.Tests.{leb-true, leb-false, lt-ltb}
-use Rattle.refusal.specs.declared.Refusal.the-variants.{InputTooLong}
-use Rattle.book.specs.Reading.{readBook}
+use lib.Seq.{take-all, length-take-le}
+use borrow.Author.Tests.{leb-true, leb-false}
 use Rattle.book.proofs.Prefix.{book-prefix}
-use Rattle.pattern.specs.Reader.{readPattern}
 use Rattle.pattern.proofs.Accepts.{pattern-prefix}
-use Rattle.counter.specs.Counting.{stopped, bookResult, mostWords}
 use Rattle.counter.specs.declared.counting.BookCount.{BookCount}
 use Rattle.command.specs.declared.counts.NamedCount.{NamedCount}
 use Rattle.command.specs.Buffers.{ReadFrom}
-use Rattle.command.specs.Input.{Told, told, toldBy, lastMacro, lastResult, programResult, programAnswer, macroAnswer, lastAnswer}
+use Rattle.command.specs.Input.{toldBy, lastResult, programResult, programAnswer, macroAnswer, lastAnswer}
 use Rattle.decimals.specs.Decimals.{decimal}
 use Rattle.command.specs.Named.{toldNamed, namedAnswer}
 use Rattle.command.specs.Reads.{ProgramAnswers, LastAnswers, NamedAnswers}

@@ -8,7 +8,6 @@ pub struct FileRead {
     pub bytes: usize,
 }
 
-
 // Reads until the buffer is full or the input ends, and tells a read that fails from the end. What failed is said under the input's name.
 fn read_all(fd: i32, name: &[u8], buf: &mut [u8]) -> FileRead
     ensures { λ r. ⌜ Counts (r .bytes) (now (buf .exit)) ⌝ }

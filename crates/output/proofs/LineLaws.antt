@@ -2,7 +2,7 @@
 use Prim.Native.Nat.{ℕ, _+_, _-_, _*_, _<_, _≤_}
 use native.Mathlib.Omega.{arith}
 use native.Mathlib.Numerals.{add-one}
-use mathlib.Core.Path.{_≡_, refl, sym, ap, _∙_}
+use mathlib.Core.Path.{_≡_, sym, ap, _∙_}
 use mathlib.Core.Bool.{false}
 use mathlib.Core.List.{List, [], _∷_, _++_, append-assoc, append-nil}
 use lib.Dec.{eqb}
@@ -15,7 +15,7 @@ use Rattle.refusal.proofs.Number.{number-positive}
 use Rattle.counter.specs.declared.counting.BookCount.{BookCount}
 use Rattle.command.specs.Input.{toldBy}
 use Rattle.decimals.specs.Decimals.{numeral}
-use Rattle.decimals.specs.Texts.{ascii, over, putAt, placeAfter}
+use Rattle.decimals.specs.Texts.{putAt, placeAfter}
 use Rattle.decimals.proofs.TextLaws.{Put, put-nothing, put-more, put-both, place-both, put-length, place-near}
 use Rattle.survey.specs.declared.facts.Facts.{Facts}
 use Rattle.survey.specs.declared.facts.Surveyed.{Surveyed}

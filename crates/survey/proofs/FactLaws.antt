@@ -8,11 +8,10 @@ use mir.Syntax.{w16, w64}
 use lib.ListN.{length, getD, take}
 use lib.Seq.{take-all}
 use Rattle.refusal.specs.declared.Refusal.{Refusal}
-use Rattle.refusal.specs.Figures.{Figures}
 use Rattle.runs.specs.Counts.{sumBelow}
-use Rattle.runs.proofs.CountLaws.{sum-none, sum-more, sum-ext, sum-le}
+use Rattle.runs.proofs.CountLaws.{sum-none, sum-more, sum-ext}
 use Rattle.book.specs.Format.{Macro}
-use Rattle.book.specs.MacroItems.{itemsFrom, decoded}
+use Rattle.book.specs.MacroItems.{itemsFrom}
 use Rattle.book.specs.Reading.{Reading, got, refused, readBook, versionIn, macrosIn}
 use Rattle.book.specs.Answer.{layoutFigures, layoutResult, layout}
 use Rattle.book.specs.declared.layout.Checked.{Checked}
@@ -22,8 +21,6 @@ use Rattle.book.proofs.LayoutLaws.{layout-figures, layout-refused, layout-sound
 use Rattle.book.proofs.MacroItems.{items-sound, items-few, items-wide, decoded-length}
 use Rattle.book.proofs.Prefix.{book-prefix}
 use Rattle.book.proofs.Sizes.{longest-read}
-use Rattle.command.specs.Buffers.{ReadFrom}
-use Rattle.survey.specs.declared.facts.Facts.{Facts}
 use Rattle.survey.specs.declared.facts.Surveyed.{Surveyed}
 use Rattle.survey.specs.Facts.{itemCount, surveyFigures, surveyFor, surveyResult, Surveys}
 

@@ -1,7 +1,7 @@
 -- Laws of the reach list of the macro that a command names, or of the last one.
 use Prim.Native.Nat.{ℕ, _≤_, min}
 use native.Mathlib.Omega.{arith}
-use mathlib.Core.Path.{_≡_, refl, sym, ap, _∙_}
+use mathlib.Core.Path.{_≡_, refl, ap}
 use mathlib.Core.Logic.{_⊎_}
 use mathlib.Core.Bool.{Bool, true, false}
 use mathlib.Core.List.{List}
@@ -12,15 +12,15 @@ use Rattle.refusal.specs.Figures.{Figures}
 use Rattle.book.specs.Reading.{readBook}
 use Rattle.book.proofs.Prefix.{book-prefix}
 use Rattle.reach.specs.declared.listing.Reached.{Reached}
-use Rattle.reach.specs.Answer.{ReachAnswer, requireEntries, reachedFigures}
+use Rattle.reach.specs.Answer.{reachedFigures}
 use Rattle.reach.proofs.AnswerLaws.{entries-alike, reached-beyond, reached-refusals}
 use Rattle.decimals.specs.declared.number.Number.{Number}
-use Rattle.decimals.specs.Decimals.{isNumber, decimal, numberIn}
+use Rattle.decimals.specs.Decimals.{decimal, numberIn}
 use Rattle.decimals.proofs.NumberLaws.{number-value, number-none}
 use Rattle.command.specs.Buffers.{ReadFrom}
 use Rattle.command.specs.Input.{lastMacro}
 use Rattle.survey.specs.declared.reached.NamedReach.{NamedReach}
-use Rattle.survey.specs.Reached.{ReachedIn, LastReached, ReachedBy, NamedReached}
+use Rattle.survey.specs.Reached.{ReachedIn, LastReached, NamedReached}
 
 -- a book of any length is read as its first 133,128 bytes
 module _ (book bytes : List ℕ) (n : ℕ) (long : length book ≡ 133128) (is : bytes ≡ take n book) where

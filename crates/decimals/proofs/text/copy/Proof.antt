@@ -1,6 +1,5 @@
 -- `text::copy`: the first i bytes are copied.
 use Prim.Native.Nat.{_-_}
-use native.Mathlib.Omega.{arith}
 use lib.ListN.{length}
 use borrow.Author.Needs.{needs}
 use Rattle.runs.proofs.CopyLaws.{Copying, copying-none, copying-more, copying-done}

@@ -1,9 +1,6 @@
 -- `text::put_number`: the digits that `io::decimal` writes are the numeral.
 use borrow.Author.Needs.{needs}
 use native.Mathlib.Omega.{arith}
-use Prim.Native.Nat.{_≤_}
-use lib.ListN.{length}
-use Rattle.decimals.specs.Decimals.{numeral}
 use Rattle.decimals.proofs.NumeralLaws.{numeral-short}
 use Rattle.decimals.proofs.TextLaws.{put-digits, place-digits}
 use Rattle.decimals.proofs.text.put_number.Statement.{statement}
