@@ -48,6 +48,29 @@ counted() {
     add "$status" "$1" "$room/printed"
 }
 
+# beside NAME COMMAND...: starts a command whose output is kept under the name, for `gather`. What needs nothing of rt ci runs beside it:
+# while that proves crates that rest on each other, a core is idle.
+declare -A started=()
+beside() {
+    "${@:2}" >"$room/$1" 2>&1 &
+    started[$1]=$!
+}
+
+# gather NAME: waits for what was started, shows what it printed, and has its status.
+gather() {
+    local status=0
+    wait "${started[$1]}" || status=1
+    cat "$room/$1"
+    return "$status"
+}
+
+# counted_beside LEAST NAME: what was started is a command that counts.
+counted_beside() {
+    local status=0
+    gather "$2" || status=1
+    add "$status" "$1" "$room/$2"
+}
+
 # stated WHAT: how many docs/ASSURANCE.md says there are at least.
 stated() {
     awk -F ' *[|] *' -v what="$1" '$2 == what { print $3 }' docs/ASSURANCE.md
@@ -83,33 +106,33 @@ works rustc --version || { echo "FAILED: rustc, which compiles the second progra
 single "all is there that docs/ASSURANCE.md names" bash tests/floor.sh
 counted 14 bash tests/floor_fails.sh
 single "no crate opens a definition of another" opened_nowhere
+beside build bash tests/build.sh
+beside answers bash tests/answers.sh
+beside compiled rustc -O --edition 2021 -o "$room/second" docs/src/second/main.rs
+beside examples rustc -O --edition 2021 -o "$room/write" docs/src/examples.rs
 key=$(sources_key "$home")
 counted 1 rt ci
+counted_beside "$(stated 'runs of its building')" build
+counted_beside "$(stated 'runs with programs that go wrong')" answers
+single "the second program compiles" gather compiled
+single "the generator of the examples compiles" gather examples
 [ "$failed" -eq 0 ] || finish
 single "the program is of the sources that were proved" adopt "$key" target/bin/rakvinje
 
 for cases in pattern_cases cases; do
     single "$cases prints what it must within 1 MiB of stack" small_stack "$cases"
 done
-# Most of the time of this one is spent waiting: it runs beside the others.
-bash tests/build.sh >"$room/build" 2>&1 &
-building=$!
-counted "$(stated 'runs with programs that go wrong')" bash tests/answers.sh
 counted "$(stated 'runs of the command')" bash tests/rakvinje.sh
 
 mkdir -p target/examples
-single "the generator of the examples compiles" rustc -O --edition 2021 -o target/examples/write docs/src/examples.rs
-single "it writes them" target/examples/write target/examples
+single "it writes the examples" "$room/write" target/examples
 for book in document01.mbk arena.mbk; do
     single "examples/$book is what it writes" cmp "target/examples/$book" "examples/$book"
 done
 
-single "the second program compiles" rustc -O --edition 2021 -o target/second docs/src/second/main.rs
-single "it passes its own test" target/second selftest
-single "it answers the fixed cases alike" second_agrees
+cp "$room/second" target/second
+beside selftest target/second selftest
+single "the second program answers the fixed cases alike" second_agrees
 counted "$(stated 'comparisons with the second program')" target/second compare target/bin/cases target/bin/cuecount ./rakvinje 1 6000
-status=0
-wait "$building" || status=1
-cat "$room/build"
-add "$status" "$(stated 'runs of its building')" "$room/build"
+single "the second program passes its own test" gather selftest
 finish
