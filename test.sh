@@ -104,7 +104,7 @@ works rt version || { echo "FAILED: rt, the command of the Rattle toolchain, is 
 works rustc --version || { echo "FAILED: rustc, which compiles the second program, is not there"; failed=1; finish; }
 
 single "all is there that docs/ASSURANCE.md names" bash tests/floor.sh
-counted 14 bash tests/floor_fails.sh
+counted "$(stated 'faults that `tests/floor.sh` must see')" bash tests/floor_fails.sh
 single "no crate opens a definition of another" opened_nowhere
 beside build bash tests/build.sh
 beside answers bash tests/answers.sh

@@ -4,9 +4,9 @@ FNR == 1 {
     crate = path[2]
     text = ""
 }
-/^ *pub fn / {
+/^ *pub (const )?fn / {
     name = $0
-    sub(/^ *pub fn /, "", name)
+    sub(/^ *pub (const )?fn /, "", name)
     sub(/[^a-z0-9_].*/, "", name)
     text = " "
 }

@@ -32,12 +32,13 @@ quoted() {
 }
 
 # The public functions of the libraries: crate, name, contract.
-functions=$(for library in crates/*/src/lib.rt; do LC_ALL=C awk -f tests/contracts.awk "${library%/*}"/*.rt; done)
+functions=$(for library in crates/*/src/lib.rt; do find "${library%/*}" -name '*.rt' -exec env LC_ALL=C awk -f tests/contracts.awk {} +; done)
 
 # declared FILE: the names of its public definitions and theorems, or of its public functions with a contract, each with a blank around it.
+# The fields of a record are none of them.
 declared() {
     case $1 in
-    *.antt) LC_ALL=C sed -nE 's/^ *((abbrev|unfoldable) )?pub ((data|record) )?([^ (]*)[ (].*/ \5 /p' "$1" ;;
+    *.antt) LC_ALL=C sed -E '/^pub record /,/^$/{/^ /d}' "$1" | sed -nE 's/^ *((abbrev|unfoldable) )?pub ((data|record) )?([^ (]*)[ (].*/ \5 /p' ;;
     *.rt) LC_ALL=C awk -f tests/contracts.awk "$1" | awk '/ensures/ { print " " $2 " " }' ;;
     esac
 }
@@ -45,8 +46,11 @@ declared() {
 # Theorems and contracts stand where the page says.
 named=0
 declare -A names=()
-while IFS=$'\t' read -r _ by where; do
-    [ -n "$where" ] || continue
+while IFS=$'\t' read -r sentence by where; do
+    if [ -z "$where" ]; then
+        [[ $by == *'no public function has a `requires`'* ]] || fault "of '$sentence' it is not said where"
+        continue
+    fi
     quoted "$where"
     file=${words[0]}
     [ -f "$file" ] || { fault "there is no file $file"; continue; }
@@ -57,7 +61,6 @@ while IFS=$'\t' read -r _ by where; do
         [[ ${names[$file]} == *" $name "* ]] || fault "$name does not stand in $file"
     done
 done < <(cells '| By | Where |' | sed 's/^\t/-\t/; s/\t\t/\t-\t/')
-[ "$named" -gt 0 ] || fault "no theorem is named"
 
 # Every public function is in the table of contracts, with a definition that its contract cites; none has a `requires`.
 contracts=$(cells '| Crate | Functions and definitions |')
@@ -70,16 +73,21 @@ while read -r crate name contract; do
     *requires*) fault "$name of $crate is public and has a requires" ;;
     esac
     row=${rows[$crate]-}
-    cited="\`$name\`: \`([^\`]*)\`" none="\`$name\`.*: nothing"
-    if [[ $row =~ $cited ]]; then
-        [[ $contract == *"${BASH_REMATCH[1]}"* ]] || fault "the contract of $name of $crate does not cite ${BASH_REMATCH[1]}"
+    cited="\`$name\`: (\`[^;]*)" none="\`$name\`.*: nothing"
+    if [[ "$row;" =~ $cited ]]; then
+        quoted "${BASH_REMATCH[1]}"
+        for definition in "${words[@]}"; do
+            [[ $contract == *"$definition"* ]] || fault "the contract of $name of $crate does not cite $definition"
+        done
+        clauses=${contract//[^⌜]/}
+        [ "${#words[@]}" -ge "${#clauses}" ] || fault "of the ${#clauses} parts of the contract of $name of $crate not each has a definition"
     elif [ -n "$contract" ] || ! [[ $row =~ $none ]]; then
         fault "$name of $crate is not in the table of contracts"
     fi
 done <<<"$functions"
 while read -r crate name; do
     [[ $'\n'$functions == *$'\n'"$crate $name "* ]] || fault "there is no public function $name of $crate"
-done < <(LC_ALL=C awk -F '`' '{ for (i = 4; i < NF; i += 2) if ($(i + 1) ~ /^: $/ || $(i + 1) ~ /^(, |: nothing)/) print $2, $i }' <<<"$contracts")
+done < <(LC_ALL=C awk -F '`' '{ for (i = 4; i < NF; i += 2) if ($(i + 1) ~ /^: /) print $2, $i }' <<<"$contracts")
 
 # As many must-fail edits as the page says, crate by crate.
 times=$(cells '| Crate | Functions | Check | Edits |')
@@ -99,6 +107,7 @@ at_least() {
     [ -n "$stated" ] && [ "$2" -ge "$stated" ] || fault "$1: $2 and not ${stated:-stated}"
 }
 
+at_least 'names in the tables of theorems' "$named"
 at_least 'fixed cases of `cases`' "$(wc -l <crates/cases/stdout)"
 at_least 'fixed cases of `pattern_cases`' "$(wc -l <crates/pattern_cases/stdout)"
 at_least 'rows of `paper-runs`' "$(LC_ALL=C grep -Ec '^ *(. |...? )?row \(' crates/command/proofs/PaperRuns.antt)"

@@ -31,6 +31,10 @@ lacks 'LineMeans does not stand' crates/lines/proofs/Demands.antt sed -i '/^pub 
 lacks 'there is no file crates/book/proofs/Prefix.antt' crates/book/proofs/Prefix.antt rm
 lacks 'count_book does not stand' crates/counter/src/counting.rt sed -i '/^pub fn count_book/,/^{/{/ensures/d}'
 lacks 'of count_book of counter does not cite countResult' crates/counter/src/counting.rt sed -i '/^pub fn count_book/,/^{/s/countResult/otherResult/'
+lacks 'of body of book does not cite bodyAt' crates/book/src/answers.rt sed -i '/ensures offset/d'
+lacks 'steps does not stand' crates/counter/specs/Counting.antt sed -i 's/^unfoldable pub steps :/unfoldable steps :/'
+lacks 'names in the tables of theorems' docs/ASSURANCE.md sed -i '/^| Sentence | By | Where |$/s/Where/Place/'
+lacks 'it is not said where' docs/ASSURANCE.md sed -i 's/^\(| the whole demand.*\) | [^|]* |$/\1 | |/'
 lacks 'union of stateset is public and has a requires' crates/stateset/src/lib.rt sed -i 's/^pub fn union.*/&\n    requires { ⌜ a ≡ b ⌝ }/'
 lacks 'more of refusal is not in the table' crates/refusal/src/lib.rt sed -i '$a pub fn more(n: u64) -> u64\n{\n    n\n}'
 lacks 'there is no public function sum of reports' crates/reports/src/total.rt sed -i 's/^pub fn sum(/pub(crate) fn sum(/'

@@ -106,7 +106,9 @@ within=(bash -c 'ulimit -s 1024; exec "$@"' - "$r")
 expect 0 'lines 1 steps 5043200' '' "${within[@]}" count "$(many x 29)" "$room/longest"
 expect 0 'lines 1 steps 5043200' '' "${within[@]}" count "$(many x 29)" - <"$room/longest"
 expect 0 'sound version 1 macros 1024 items 65536 bytes 133127' '' "${within[@]}" check "$room/longest"
+expect 0 'lines 1 steps 5043200' '' "${within[@]}" count "$(many x 29)" "$room/longest" 1023
 expect 0 1023 '' "${within[@]}" reach "$room/longest"
+expect 0 1023 '' "${within[@]}" reach "$room/longest" "$(many 0 131000)1023"
 expect 0 "$(seq 0 1023)" '' sorted "${within[@]}" reach "$room/chain"
 cp "$room/longest" "$room/longer"
 printf '\0' >>"$room/longer"
@@ -218,8 +220,16 @@ expect 2 '' '*' bash -c '"$@" >/dev/full' - "$r" help count
 # The examples of the help are what is printed.
 for verb in count check reach; do
     example=$(sed -n 's/^  \$ //p' scripts/help/$verb.txt)
+    [ -n "$example" ] || example="echo 'the help of $verb has no example'"
     expect 0 "$(sed '1,/^  \$ /d; s/^  //' scripts/help/$verb.txt)" '' bash -c "$example"
 done
+
+# Document 01's program, where its input cannot be read, or its output written.
+cuecount=target/bin/cuecount
+expect 0 'lines 2 steps 17' '' $cuecount <crates/cuecount/stdin
+expect 0 '' 'standard input: Is a directory' $cuecount <examples
+expect 0 '' 'standard input: Bad file descriptor' bash -c 'exec "$1" <&-' - $cuecount
+expect 0 '' 'standard output: No space left on device' bash -c '"$1" >/dev/full' - $cuecount <crates/cuecount/stdin
 
 # Wrong usage.
 expect 2 '' 'usage: rakvinje VERB*' "$r"

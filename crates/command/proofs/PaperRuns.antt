@@ -72,7 +72,7 @@ abbrev row : Question → ℕ → ℕ → Row
 row q r v = record { asked = q; refusal = r; value = v }
 
 -- "For `B`, LF and the book (hex) 4D 42 4B 01 00 02 00 02 00 42 00 0A 00 03 00 00 01 43 00 00 01"
-abbrev example : List ℕ
+abbrev pub example : List ℕ
 example = 66 ∷ 10 ∷ 0x4D ∷ 0x42 ∷ 0x4B ∷ 1 ∷ 0 ∷ 2 ∷ 0 ∷ 2 ∷ 0 ∷ 0x42 ∷ 0 ∷ 0x0A ∷ 0 ∷ 3 ∷ 0 ∷ 0 ∷ 1 ∷ 0x43 ∷ 0 ∷ 0 ∷ 1 ∷ []
 
 pub table : List Row
@@ -119,3 +119,8 @@ allHold (r ∷ rs) = holds r && allHold rs
 pub paper-runs : allHold table ≡ true
 unfolding table allHold answerTo classNames atoms atomCount sameBytes findClass readElement readElements readBracket readAtomBy readAtom readRepeat readExpr readBranch readBranches readPattern classRanges inRanges inElement inElements named setOf repeated takes matchesFrom matches lines countIn matching readItem readItems readMacro readMacros readHeader readAll readBook expand expandTo expansion lineResult runResult spaceStep countResult firstPart laterParts lastPart sumBelow pairs itemSteps steps anyBelow countBelow nothing first last follow someBranch positions.holds enters target move leads patternEnd lastResult programResult programAnswer xor
 paper-runs = refl
+
+-- the program's example, whole
+pub example-told : programAnswer example ≡ record { refusal = 0; lines = 2; steps = 17 }
+unfolding classNames atoms atomCount sameBytes findClass readElement readElements readBracket readAtomBy readAtom readRepeat readExpr readBranch readBranches readPattern classRanges inRanges inElement inElements named setOf repeated takes matchesFrom matches lines countIn matching readItem readItems readMacro readMacros readHeader readAll readBook expand expandTo expansion lineResult runResult spaceStep countResult firstPart laterParts lastPart sumBelow pairs itemSteps steps anyBelow countBelow nothing first last follow someBranch positions.holds enters target move leads patternEnd lastResult programResult programAnswer xor
+example-told = refl

@@ -79,3 +79,16 @@ module _ (book bytes : List ℕ) (n : ℕ) (pattern text : List ℕ) (k : ℕ) (
   pub named-read : (number : List ℕ) (r : NamedCount) → toldNamed r ≡ namedAnswer bytes text number → NamedAnswers book n pattern k number r
   unfolding NamedAnswers
   named-read number r e b p f g = rw (e, is, same, f, g, long, wide) (named-prefix b p number)
+
+-- what they promise, for those who go on from it
+pub program-answers : (input : List ℕ) (n : ℕ) (r : BookCount) → ProgramAnswers input n r → (w : List ℕ) → ReadFrom input n w → toldBy r ≡ programAnswer w
+unfolding ProgramAnswers
+program-answers input n r a = a
+
+pub last-answers : (book : List ℕ) (n : ℕ) (pattern : List ℕ) (k : ℕ) (r : BookCount) → LastAnswers book n pattern k r → (b p : List ℕ) → ReadFrom book n b → ReadFrom pattern k p → toldBy r ≡ lastAnswer b p
+unfolding LastAnswers
+last-answers book n pattern k r a = a
+
+pub named-answers : (book : List ℕ) (n : ℕ) (pattern : List ℕ) (k : ℕ) (text : List ℕ) (r : NamedCount) → NamedAnswers book n pattern k text r → (b p : List ℕ) → ReadFrom book n b → ReadFrom pattern k p → toldNamed r ≡ namedAnswer b p text
+unfolding NamedAnswers
+named-answers book n pattern k text r a = a

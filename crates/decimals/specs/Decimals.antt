@@ -32,7 +32,7 @@ unfoldable pub numeralTo : ℕ → ℕ → List ℕ
 numeralTo zero n = []
 numeralTo (suc f) n = cond (ltb n 10) ((48 + n) ∷ []) (numeralTo f (n / 10) ++ ((48 + n % 10) ∷ []))
 
--- The digits of a number, without a zero in front of others: they write it (`decimal-numeral`), and there are no fewer (`numeral-short`). A
--- number has no more digits than itself and one.
+-- The digits of a number, without a zero in front of others: they write it (`decimal-numeral`), and a number below a power of ten has no
+-- more of them than the exponent (`numeral-short`). A number n has at most n + 1 digits.
 unfoldable pub numeral : ℕ → List ℕ
 numeral n = numeralTo (suc n) n

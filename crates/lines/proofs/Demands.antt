@@ -47,21 +47,21 @@ tree-iff p t = (from, λ h. accepted-iff p t .1 ((h .formed, h .written), h .rig
 -- The one-line test.
 
 -- 5: "byte 0 or 10 in the one-line test"
-abbrev pub DeadInLine : List ℕ → Type 0
-DeadInLine w = List·Memᴰ 0 w ⊎ List·Memᴰ 10 w
+abbrev pub InvalidInLine : List ℕ → Type 0
+InvalidInLine w = List·Memᴰ 0 w ⊎ List·Memᴰ 10 w
 
 -- what is answered to pattern p and line w: the pattern's refusal; 5; 1 if the line matches; or 0
 pub data LineMeans (p w : List ℕ) (f : Figures ℕ) : Type 0 where
-  bad-pattern : {r : Refusal} → PatternRefused p r → f ≡ refusedFor r → LineMeans p w f
-  dead-key : {t : Pattern} → Tree p t → DeadInLine w → f ≡ refusedFor InvalidKey → LineMeans p w f
-  match : {t : Pattern} → Tree p t → (DeadInLine w → ⊥) → Matches t w → f ≡ answered 1 → LineMeans p w f
-  no-match : {t : Pattern} → Tree p t → (DeadInLine w → ⊥) → (Matches t w → ⊥) → f ≡ answered 0 → LineMeans p w f
+  pattern-refused : {r : Refusal} → PatternRefused p r → f ≡ refusedFor r → LineMeans p w f
+  invalid-key : {t : Pattern} → Tree p t → InvalidInLine w → f ≡ refusedFor InvalidKey → LineMeans p w f
+  match : {t : Pattern} → Tree p t → (InvalidInLine w → ⊥) → Matches t w → f ≡ answered 1 → LineMeans p w f
+  no-match : {t : Pattern} → Tree p t → (InvalidInLine w → ⊥) → (Matches t w → ⊥) → f ≡ answered 0 → LineMeans p w f
 
 module _ (p w : List ℕ) (f : Figures ℕ) where
-  dead-iff : (member 0 w || member lineEnd w ≡ true) ↔ DeadInLine w
+  dead-iff : (member 0 w || member lineEnd w ≡ true) ↔ InvalidInLine w
   dead-iff = or-iff (member 0 w) (member lineEnd w) (member-iff 0 w) (member-iff lineEnd w)
 
-  clean-iff : (member 0 w || member lineEnd w ≡ false) ↔ (DeadInLine w → ⊥)
+  clean-iff : (member 0 w || member lineEnd w ≡ false) ↔ (InvalidInLine w → ⊥)
   clean-iff = false-iff (member 0 w || member lineEnd w) dead-iff
 
   other-iff : (t : Pattern) → (matches t w ≡ false) ↔ (Matches t w → ⊥)
@@ -72,18 +72,18 @@ module _ (p w : List ℕ) (f : Figures ℕ) where
   line-means e = go (readPattern p) refl e
     where
       of : (t : Pattern) → Tree p t → (a b : Bool) → member 0 w || member lineEnd w ≡ a → matches t w ≡ b → cond a (refusedFor InvalidKey) (answered (cond b 1 0)) ≡ f → LineMeans p w f
-      of t h true b d m g = dead-key h (dead-iff .0 d) (sym g)
+      of t h true b d m g = invalid-key h (dead-iff .0 d) (sym g)
       of t h false true d m g = match h (clean-iff .0 d) (matches-iff t w .0 m) (sym g)
       of t h false false d m g = no-match h (clean-iff .0 d) (other-iff t .0 m) (sym g)
 
       go : (r : Read) → readPattern p ≡ r → lineResult r w ≡ f → LineMeans p w f
-      go (refused r) i g = bad-pattern (refused-iff p r .0 i) (sym g)
+      go (refused r) i g = pattern-refused (refused-iff p r .0 i) (sym g)
       go (accepted t) i g = of t (tree-iff p t .0 i) (member 0 w || member lineEnd w) (matches t w) refl refl g
 
   means-line : LineMeans p w f → lineResult (readPattern p) w ≡ f
   unfolding lineResult
-  means-line (bad-pattern {r} h g) = rw (refused-iff p r .1 h) (sym g)
-  means-line (dead-key {t} h d g) = rw (tree-iff p t .1 h, dead-iff .1 d) (sym g)
+  means-line (pattern-refused {r} h g) = rw (refused-iff p r .1 h) (sym g)
+  means-line (invalid-key {t} h d g) = rw (tree-iff p t .1 h, dead-iff .1 d) (sym g)
   means-line (match {t} h d m g) = rw (tree-iff p t .1 h, clean-iff .1 d, matches-iff t w .1 m) (sym g)
   means-line (no-match {t} h d m g) = rw (tree-iff p t .1 h, clean-iff .1 d, other-iff t .1 m) (sym g)
 
@@ -100,8 +100,8 @@ pub data Counted (X : List ℕ → Type 0) : List (List ℕ) → ℕ → Type 0 
 
 -- what is answered to pattern p and run w: the pattern's refusal; 5, "byte 0 in a plain run"; or how many of the run's lines match
 pub data RunMeans (p w : List ℕ) (f : Figures ℕ) : Type 0 where
-  bad-pattern : {r : Refusal} → PatternRefused p r → f ≡ refusedFor r → RunMeans p w f
-  dead-key : {t : Pattern} → Tree p t → List·Memᴰ 0 w → f ≡ refusedFor InvalidKey → RunMeans p w f
+  pattern-refused : {r : Refusal} → PatternRefused p r → f ≡ refusedFor r → RunMeans p w f
+  invalid-key : {t : Pattern} → Tree p t → List·Memᴰ 0 w → f ≡ refusedFor InvalidKey → RunMeans p w f
   count : {t : Pattern} {n : ℕ} → Tree p t → (List·Memᴰ 0 w → ⊥) → Counted (Matches t) (lines w) n → f ≡ answered n → RunMeans p w f
 
 -- a test that tells X counts so
@@ -127,17 +127,17 @@ module _ (p w : List ℕ) (f : Figures ℕ) where
   run-means e = go (readPattern p) refl e
     where
       of : (t : Pattern) → Tree p t → (a : Bool) → member 0 w ≡ a → cond a (refusedFor InvalidKey) (answered (matching t w)) ≡ f → RunMeans p w f
-      of t h true d g = dead-key h (member-iff 0 w .0 d) (sym g)
+      of t h true d g = invalid-key h (member-iff 0 w .0 d) (sym g)
       of t h false d g = count h (false-iff (member 0 w) (member-iff 0 w) .0 d) (test-counts (matches t) (matches-iff t) (lines w)) (sym g)
 
       go : (r : Read) → readPattern p ≡ r → runResult r w ≡ f → RunMeans p w f
-      go (refused r) i g = bad-pattern (refused-iff p r .0 i) (sym g)
+      go (refused r) i g = pattern-refused (refused-iff p r .0 i) (sym g)
       go (accepted t) i g = of t (tree-iff p t .0 i) (member 0 w) refl g
 
   means-run : RunMeans p w f → runResult (readPattern p) w ≡ f
   unfolding runResult matching
-  means-run (bad-pattern {r} h g) = rw (refused-iff p r .1 h) (sym g)
-  means-run (dead-key {t} h d g) = rw (tree-iff p t .1 h, member-iff 0 w .1 d) (sym g)
+  means-run (pattern-refused {r} h g) = rw (refused-iff p r .1 h) (sym g)
+  means-run (invalid-key {t} h d g) = rw (tree-iff p t .1 h, member-iff 0 w .1 d) (sym g)
   means-run (count {t} h d c g) = rw (tree-iff p t .1 h, false-iff (member 0 w) (member-iff 0 w) .1 d, counts-test (matches t) (matches-iff t) c) (sym g)
 
   pub demand-2-run : (runResult (readPattern p) w ≡ f) ↔ RunMeans p w f

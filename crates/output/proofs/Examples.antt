@@ -5,15 +5,16 @@ use Rattle.refusal.specs.declared.Refusal.{Refusal}
 use Rattle.decimals.specs.Decimals.{numeralTo, numeral}
 use Rattle.decimals.specs.Texts.{ascii}
 use Rattle.counter.specs.declared.counting.BookCount.{BookCount}
-use Rattle.command.specs.Input.{toldBy}
+use Rattle.command.specs.Input.{toldBy, programAnswer}
+use Rattle.command.proofs.PaperRuns.{example, example-told}
 use Rattle.survey.specs.declared.facts.Surveyed.{Surveyed}
 use Rattle.survey.specs.Facts.{surveyFigures}
 use Rattle.output.specs.Lines.{countLine, surveyLine, listText}
 
--- document 01's own line
-pub paper-line : countLine (toldBy (BookCount.Lines 2 17)) ≡ ascii "lines 2 steps 17\n"
+-- what document 01's program prints for its example
+pub paper-line : countLine (programAnswer example) ≡ ascii "lines 2 steps 17\n"
 unfolding countLine numeral numeralTo
-paper-line = refl
+paper-line = rw example-told refl
 
 refused-line : countLine (toldBy (BookCount.Refused Refusal.CountOverflow)) ≡ ascii "refused 12\n"
 unfolding countLine numeral numeralTo

@@ -17,10 +17,12 @@ use Rattle.command.specs.Input.{toldBy}
 use Rattle.decimals.specs.Decimals.{numeral}
 use Rattle.decimals.specs.Texts.{putAt, placeAfter}
 use Rattle.decimals.proofs.TextLaws.{Put, put-nothing, put-more, put-both, place-both, put-length, place-near}
+use Rattle.reach.specs.declared.listing.Reached.{Reached}
+use Rattle.reach.specs.Answer.{reachedFigures}
 use Rattle.survey.specs.declared.facts.Facts.{Facts}
 use Rattle.survey.specs.declared.facts.Surveyed.{Surveyed}
 use Rattle.survey.specs.Facts.{surveyFigures}
-use Rattle.output.specs.Lines.{field, ending, linesText, refusedText, countLine, soundText, factsText, surveyLine, listText, Line}
+use Rattle.output.specs.Lines.{field, ending, linesText, refusedText, countLine, soundText, factsText, surveyLine, listText, reachText, Line}
 
 -- A name and a number behind it.
 module _ (out : List ℕ) (at : ℕ) (name : List ℕ) (n : ℕ) (room : at + (length name + 20) ≤ length out) (short : length (numeral n) ≤ 20) where
@@ -53,7 +55,7 @@ module _ (old u : List ℕ) {a : List ℕ} {i : ℕ} (e : a ≡ putAt old 0 u) (
       three-put l = put-more (two-put (omega arith)) w (rw (length-append u v) l) x y
 
 -- `refused R`
-pub refused-put : (old : List ℕ) (n r : ℕ) {a b : List ℕ} {i j : ℕ} → length old ≡ 128 → n ≡ r → length (numeral n) ≤ 20
+pub refused-put : (old : List ℕ) (n r : ℕ) {a b : List ℕ} {i j : ℕ} → 29 ≤ length old → n ≡ r → length (numeral n) ≤ 20
     → a ≡ putAt old 0 (field "refused " n) → i ≡ placeAfter old 0 (field "refused " n) → b ≡ putAt a i ending → j ≡ placeAfter a i ending → Line (refusedText r) old b j
 refused-put old n r wide same short e f g h = rw (← same) (line-of (two-put old (field "refused " n) e f ending g h (omega arith)))
 
@@ -99,6 +101,14 @@ survey-facts f e l = rw e l
 pub survey-refused : (r : Refusal) {old new : List ℕ} {n : ℕ} {s : Surveyed} → s ≡ Surveyed.Refused r → Line (refusedText (number r)) old new n → Line (surveyLine (surveyFigures s)) old new n
 unfolding surveyLine
 survey-refused r e l = rw (e, refusal-told r) l
+
+pub reach-listed : (n : ℕ) (list : List ℕ) {old new : List ℕ} {k : ℕ} {r : Reached} → r ≡ Reached.Written n → Line (listText (take n list)) old new k → Line (reachText (reachedFigures r) list) old new k
+unfolding reachText
+reach-listed n list e l = rw e l
+
+pub reach-refused : (q : Refusal) (list : List ℕ) {old new : List ℕ} {k : ℕ} {r : Reached} → r ≡ Reached.Refused q → Line (refusedText (number q)) old new k → Line (reachText (reachedFigures r) list) old new k
+unfolding reachText
+reach-refused q list e l = rw (e, refusal-told q) l
 
 -- The lines of a list.
 list-more : (js : List ℕ) (j : ℕ) → listText (js ++ (j ∷ [])) ≡ listText js ++ (numeral j ++ ending)

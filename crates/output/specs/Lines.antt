@@ -5,7 +5,7 @@ use mathlib.Core.Path.{_≡_}
 use mathlib.Core.Bool.{cond}
 use mathlib.Core.List.{List, [], _∷_, _++_}
 use lib.Dec.{eqb}
-use lib.ListN.{length}
+use lib.ListN.{length, take}
 use Rattle.refusal.specs.Figures.{Figures}
 use Rattle.runs.specs.Keys.{lineEnd}
 use Rattle.decimals.specs.Decimals.{numeral}
@@ -46,7 +46,11 @@ unfoldable pub listText : List ℕ → List ℕ
 listText [] = []
 listText (j ∷ js) = numeral j ++ ending ++ listText js
 
--- a text stands at the front of a buffer that held `before`, which is else as it was; n is its length, and within the buffer
+-- a reach list: the numbers that were written, or the refusal
+unfoldable pub reachText : Figures ℕ → List ℕ → List ℕ
+reachText f list = cond (eqb (f .refusal) 0) (listText (take (f .value) list)) (refusedText (f .refusal))
+
+-- a text stands at the front of a buffer that held `before`, which is else as it was; n is its length
 pub record Line (text before after : List ℕ) (n : ℕ) : Type 0 where
   pub front : after ≡ over text before
   pub long : n ≡ length text

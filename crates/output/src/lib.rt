@@ -1,4 +1,4 @@
-// What the programs print: each answer's lines in a buffer, and then one write.
+// The lines of answers, in a buffer, and the one write that is then left.
 mod facts;
 mod line;
 mod list;
@@ -7,10 +7,7 @@ mod writing;
 pub use facts::survey_line;
 pub use line::LINE;
 pub use line::count_line;
-pub use line::refused_line;
 pub use list::LISTING;
-pub use list::reach_lines;
-pub use writing::print_count;
-pub use writing::print_reached;
-pub use writing::print_refusal;
-pub use writing::print_survey;
+pub use list::reached_lines;
+pub use writing::write_line;
+pub use writing::write_lines;

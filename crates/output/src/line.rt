@@ -29,8 +29,9 @@ pub(crate) fn put_field(out: &mut [u8], at: usize, name: &[u8], n: u64) -> usize
     put_number(out, behind, n)
 }
 
-// `refused R` and LF.
-pub fn refused_line(r: Refusal, out: &mut [u8; LINE]) -> usize
+// `refused R` and LF, at the front of a buffer with room for it.
+pub(crate) fn refused_line(r: Refusal, out: &mut [u8]) -> usize
+    requires { ⌜ 29 ≤ length (now out) ⌝ }
     ensures { λ n. ⌜ Line (refusedText (number r)) (now (out .entry)) (now (out .exit)) n ⌝ }
 {
     let at = put_field(out, 0, b"refused ", code(r) as u64);

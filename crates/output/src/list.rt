@@ -1,13 +1,16 @@
 // The lines of a reach list.
+use crate::line::refused_line;
 use decimals::put_number;
 use decimals::put_text;
+use reach::Reached;
 ghost use mathlib.Core.Path.{_≡_};
 ghost use mathlib.Core.List.{_++_};
 ghost use Prim.Native.Nat.{_+_, _≤_};
 ghost use lib.ListN.{length, take};
 ghost use Rattle.decimals.specs.Decimals.{numeral};
 ghost use Rattle.decimals.specs.Texts.{placeAfter, putAt};
-ghost use Rattle.output.specs.Lines.{Line, ending, listText};
+ghost use Rattle.reach.specs.Answer.{reachedFigures};
+ghost use Rattle.output.specs.Lines.{Line, ending, listText, reachText};
 
 // Room for the lines of 1,024 numbers of at most 20 digits.
 pub const LISTING: usize = 1024 * 21;
@@ -41,9 +44,12 @@ fn put_entries(list: &[u16], n: usize, out: &mut [u8]) -> usize
     at
 }
 
-// The same at the front of a buffer; answers the length of the lines.
-pub fn reach_lines(list: &[u16; 1024], n: usize, out: &mut [u8; LISTING]) -> usize
-    ensures { λ r. ⌜ Line (listText (take n (now (list .entry)))) (now (out .entry)) (now (out .exit)) r ⌝ }
+// The lines of a reach list, or of its refusal, at the front of a buffer; answers their length.
+pub fn reached_lines(found: Reached, list: &[u16; 1024], out: &mut [u8; LISTING]) -> usize
+    ensures { λ n. ⌜ Line (reachText (reachedFigures found) (now (list .entry))) (now (out .entry)) (now (out .exit)) n ⌝ }
 {
-    put_entries(list, n, out)
+    match found {
+        Reached::Written(n) => put_entries(list, n, out),
+        Reached::Refused(r) => refused_line(r, out),
+    }
 }

@@ -2,9 +2,10 @@
 use crate::arguments::book_at;
 use crate::meaning::explain;
 use command::BOOK_READ;
-use output::print_survey;
+use output::LINE;
+use output::write_line;
+use replies::survey_reply;
 use survey::Surveyed;
-use survey::survey;
 
 pub(crate) fn check_book() {
     let mut book = [0; BOOK_READ];
@@ -12,8 +13,10 @@ pub(crate) fn check_book() {
     if read.failed {
         return;
     }
-    let found = survey(&book, read.bytes);
-    print_survey(found);
+    let mut out = [0; LINE];
+    let reply = survey_reply(&book, read.bytes, &mut out);
+    write_line(&out, reply.length);
+    let found = reply.found;
     match found {
         Surveyed::Sound(_) => {}
         Surveyed::Refused(r) => explain(r),

@@ -8,14 +8,14 @@ use crate::say;
 use command::BOOK_READ;
 use command::NamedCount;
 use command::PATTERN_READ;
-use command::count_last;
-use command::count_named;
 use counter::BookCount;
-use output::print_count;
+use output::LINE;
+use output::write_line;
+use replies::last_reply;
+use replies::named_reply;
 
-// Prints the answer, and what it means if it is a refusal.
-fn show(c: BookCount) {
-    print_count(c);
+// What a refusal means.
+fn explain_count(c: BookCount) {
     match c {
         BookCount::Lines(_, _) => {}
         BookCount::Refused(r) => explain(r),
@@ -30,8 +30,12 @@ fn count_asked(book: &[u8; BOOK_READ], n: usize, pattern: &[u8; PATTERN_READ], k
     if number.failed {
         return;
     }
-    match count_named(book, n, pattern, k, &space[..digits]) {
-        NamedCount::Count(c) => show(c),
+    let mut out = [0; LINE];
+    let reply = named_reply(book, n, pattern, k, &space[..digits], &mut out);
+    write_line(&out, reply.length);
+    let count = reply.count;
+    match count {
+        NamedCount::Count(c) => explain_count(c),
         NamedCount::NoNumber => say::no_number(),
     }
 }
@@ -48,5 +52,9 @@ pub(crate) fn count() {
         count_asked(&book, read.bytes, &pattern, k);
         return;
     }
-    show(count_last(&book, read.bytes, &pattern, k));
+    let mut out = [0; LINE];
+    let reply = last_reply(&book, read.bytes, &pattern, k, &mut out);
+    write_line(&out, reply.length);
+    let count = reply.count;
+    explain_count(count);
 }

@@ -3,7 +3,8 @@ use crate::say::text;
 use refusal::Refusal;
 
 // What a sound book and a good pattern are refused for. The command has space for every book, joins nothing and takes input of any
-// length, so that there are no more (`macro-refusals`, `last-refusals`, `named-refusals` of `command`, `reach-refusals` of `survey`).
+// length, so that there are no more (`last-refusals`, `named-refusals` of `command`, `survey-refusals`,
+// `reach-last-refusals`, `reach-named-refusals` of `survey`).
 fn explain_macro(r: Refusal) {
     match r {
         Refusal::NoSuchMacro => text(

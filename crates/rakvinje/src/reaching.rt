@@ -5,24 +5,19 @@ use crate::arguments::number_space;
 use crate::meaning::explain;
 use crate::say;
 use command::BOOK_READ;
-use output::print_reached;
-use output::print_refusal;
+use output::LISTING;
+use output::write_lines;
 use reach::Reached;
+use replies::reach_last_reply;
+use replies::reach_named_reply;
 use survey::LIST;
 use survey::NamedReach;
-use survey::reach_last;
-use survey::reach_named;
 
-// Prints the numbers, or the refusal and what it means.
-fn show(found: Reached, list: &[u16; LIST]) {
+// What a refusal means.
+fn explain_reached(found: Reached) {
     match found {
-        Reached::Written(n) => {
-            print_reached(list, n);
-        }
-        Reached::Refused(r) => {
-            print_refusal(r);
-            explain(r);
-        }
+        Reached::Written(_) => {}
+        Reached::Refused(r) => explain(r),
     }
 }
 
@@ -35,8 +30,12 @@ fn reach_asked(book: &[u8; BOOK_READ], n: usize) {
         return;
     }
     let mut list = [0; LIST];
-    match reach_named(book, n, &space[..digits], &mut list) {
-        NamedReach::Reach(found) => show(found, &list),
+    let mut out = [0; LISTING];
+    let reply = reach_named_reply(book, n, &space[..digits], &mut list, &mut out);
+    write_lines(&out, reply.length);
+    let found = reply.found;
+    match found {
+        NamedReach::Reach(reached) => explain_reached(reached),
         NamedReach::NoNumber => say::no_number(),
     }
 }
@@ -52,6 +51,9 @@ pub(crate) fn reach() {
         return;
     }
     let mut list = [0; LIST];
-    let found = reach_last(&book, read.bytes, &mut list);
-    show(found, &list);
+    let mut out = [0; LISTING];
+    let reply = reach_last_reply(&book, read.bytes, &mut list, &mut out);
+    write_lines(&out, reply.length);
+    let found = reply.found;
+    explain_reached(found);
 }

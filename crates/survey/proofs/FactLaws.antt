@@ -20,7 +20,9 @@ use Rattle.book.specs.declared.macro_items.Items.{Items}
 use Rattle.book.proofs.LayoutLaws.{layout-figures, layout-refused, layout-sound, layout-count}
 use Rattle.book.proofs.MacroItems.{items-sound, items-few, items-wide, decoded-length}
 use Rattle.book.proofs.Prefix.{book-prefix}
+use Rattle.book.proofs.Refusals.{book-refusals}
 use Rattle.book.proofs.Sizes.{longest-read}
+use Rattle.command.specs.Buffers.{ReadFrom}
 use Rattle.survey.specs.declared.facts.Surveyed.{Surveyed}
 use Rattle.survey.specs.Facts.{itemCount, surveyFigures, surveyFor, surveyResult, Surveys}
 
@@ -93,3 +95,17 @@ survey-prefix b = rw (book-prefix 133128 b (omega arith)) (go (readBook b) refl)
 pub survey-read : (book bytes : List ℕ) (n : ℕ) (r : Surveyed) → length book ≡ 133128 → bytes ≡ take n book → surveyFigures r ≡ surveyResult bytes → Surveys book n r
 unfolding Surveys
 survey-read book bytes n r long is e b f = rw (e, is, f, long) (survey-prefix b)
+
+-- what it promises, for those who go on from it
+pub survey-answers : (book : List ℕ) (n : ℕ) (r : Surveyed) → Surveys book n r → (b : List ℕ) → ReadFrom book n b → surveyFigures r ≡ surveyResult b
+unfolding Surveys
+survey-answers book n r a = a
+
+-- What the command is refused for where it says what a book holds: 1 to 6.
+pub survey-refusals : (b : List ℕ) → surveyResult b .refusal ≤ 6
+unfolding surveyResult
+survey-refusals b = go (readBook b) refl
+  where
+    go : (g : Reading (List Macro)) → readBook b ≡ g → surveyFor b g .refusal ≤ 6
+    go (got ms rest) e = omega arith
+    go (refused r) e = book-refusals b r e

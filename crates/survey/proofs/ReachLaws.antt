@@ -19,6 +19,7 @@ use Rattle.decimals.specs.Decimals.{decimal, numberIn}
 use Rattle.decimals.proofs.NumberLaws.{number-value, number-none}
 use Rattle.command.specs.Buffers.{ReadFrom}
 use Rattle.command.specs.Input.{lastMacro}
+use Rattle.command.proofs.ReadLaws.{read-itself}
 use Rattle.survey.specs.declared.reached.NamedReach.{NamedReach}
 use Rattle.survey.specs.Reached.{ReachedIn, LastReached, NamedReached}
 
@@ -55,5 +56,11 @@ unfolding NamedReached
 nothing-reached book n text e list f b g = (number-none text e f, refl)
 
 -- What the command is refused for: 1 to 6, and 10. With 1,024 entries 11 is never answered.
-pub reach-refusals : (b : List ℕ) (m : ℕ) (f : Figures ℕ) (before after : List ℕ) → length before ≡ 1024 → ReachedIn b m f before after → (f .refusal ≤ 6) ⊎ (f .refusal ≡ 10)
-reach-refusals b m f before after long w = reached-refusals b before after m f long w
+module _ (book : List ℕ) (n : ℕ) (before after : List ℕ) (long : length before ≡ 1024) where
+  pub reach-last-refusals : (f : Figures ℕ) → LastReached book n f before after → (f .refusal ≤ 6) ⊎ (f .refusal ≡ 10)
+  unfolding LastReached
+  reach-last-refusals f w = reached-refusals (take n book) before after (lastMacro (readBook (take n book))) f long (w (take n book) (read-itself book n))
+
+  pub reach-named-refusals : (text : List ℕ) (r : Reached) → NamedReached book n text (NamedReach.Reach r) before after → (reachedFigures r .refusal ≤ 6) ⊎ (reachedFigures r .refusal ≡ 10)
+  unfolding NamedReached
+  reach-named-refusals text r w = reached-refusals (take n book) before after (decimal text) (reachedFigures r) long (w (take n book) (read-itself book n) .1)

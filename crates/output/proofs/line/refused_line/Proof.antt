@@ -22,6 +22,9 @@ slice-aggregate-put-text c = search needs
 put-text-requires : tie.Need-put-text-requires
 put-text-requires c κs = search needs
 
+same-length : tie.Need-same-length
+same-length c = search needs
+
 returns : tie.Need-returns
 returns c = search (refused-put, needs)
 
@@ -35,4 +38,5 @@ refused-line-spec =
     put-field-requires
     slice-aggregate-put-text
     put-text-requires
+    same-length
     returns)

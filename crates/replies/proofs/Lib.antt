@@ -1,0 +1,2 @@
+-- Laws of what a program prints.
+pub mod ReplyLaws

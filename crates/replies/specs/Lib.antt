@@ -1,0 +1,2 @@
+-- What a program prints for what was read.
+pub mod Replies
