@@ -4,6 +4,8 @@
 # in docs/src/second. The last line is 'N passed, M failed', over all of these.
 set -u -o pipefail
 cd "$(dirname "$0")" || exit 2
+# Nothing here is asked of whoever started it; and a standard input that is closed would become one of the pipes below.
+exec </dev/null
 home=$PWD
 # shellcheck source=scripts/program.sh
 . scripts/program.sh || exit 2
