@@ -106,14 +106,15 @@ works rt version || { echo "FAILED: rt, the command of the Rattle toolchain, is 
 works rustc --version || { echo "FAILED: rustc, which compiles the second program, is not there"; failed=1; finish; }
 
 single "all is there that docs/ASSURANCE.md names" bash tests/floor.sh
-counted "$(stated 'faults that `tests/floor.sh` must see')" bash tests/floor_fails.sh
 single "no crate opens a definition of another" opened_nowhere
+beside floor bash tests/floor_fails.sh
 beside build bash tests/build.sh
 beside answers bash tests/answers.sh
 beside compiled rustc -O --edition 2021 -o "$room/second" docs/src/second/main.rs
 beside examples rustc -O --edition 2021 -o "$room/write" docs/src/examples.rs
 key=$(sources_key "$home")
 counted 1 rt ci
+counted_beside "$(stated 'faults that `tests/floor.sh` must see')" floor
 counted_beside "$(stated 'runs of its building')" build
 counted_beside "$(stated 'runs with programs that go wrong')" answers
 single "the second program compiles" gather compiled
@@ -124,7 +125,7 @@ single "the program is of the sources that were proved" adopt "$key" target/bin/
 for cases in pattern_cases cases; do
     single "$cases prints what it must within 1 MiB of stack" small_stack "$cases"
 done
-counted "$(stated 'runs of the command')" bash tests/rakvinje.sh
+beside command bash tests/rakvinje.sh
 
 mkdir -p target/examples
 single "it writes the examples" "$room/write" target/examples
@@ -137,4 +138,5 @@ beside selftest target/second selftest
 single "the second program answers the fixed cases alike" second_agrees
 counted "$(stated 'comparisons with the second program')" target/second compare target/bin/cases target/bin/cuecount ./rakvinje 1 6000
 single "the second program passes its own test" gather selftest
+counted_beside "$(stated 'runs of the command')" command
 finish

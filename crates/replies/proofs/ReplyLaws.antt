@@ -17,7 +17,7 @@ use Rattle.survey.specs.Reached.{NamedReached}
 use Rattle.reach.specs.declared.listing.Reached.{Reached}
 use Rattle.reach.specs.Answer.{reachedFigures}
 use Rattle.output.specs.Lines.{Line, countLine, surveyLine, reachText}
-use Rattle.replies.specs.Replies.{Nothing, ProgramReplies, Counted, LastReplies, LineIf, CountedNamed, NamedReplies, SurveyedIn, SurveyReplies, NamedReachReplies}
+use Rattle.replies.specs.Replies.{NothingPrinted, ProgramReplies, CountPrinted, LastReplies, LineIf, NamedPrinted, NamedReplies, SurveyPrinted, SurveyReplies, NamedReachReplies}
 
 pub program-replies : (input : List ℕ) (n : ℕ) (c : BookCount) {before after : List ℕ} {length : ℕ} → ProgramAnswers input n c → Line (countLine (toldBy c)) before after length → ProgramReplies input n before after length
 unfolding ProgramReplies

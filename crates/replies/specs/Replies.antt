@@ -18,7 +18,7 @@ use Rattle.replies.specs.declared.reaching.ReachReply.{ReachReply}
 use Rattle.replies.specs.declared.reaching.NamedReachReply.{NamedReachReply}
 
 -- nothing was printed
-pub record Nothing (before after : List ℕ) (n : ℕ) : Type 0 where
+pub record NothingPrinted (before after : List ℕ) (n : ℕ) : Type 0 where
   pub same : after ≡ before
   pub long : n ≡ 0
 
@@ -27,34 +27,34 @@ unfoldable pub ProgramReplies : List ℕ → ℕ → List ℕ → List ℕ → �
 ProgramReplies input n before after length = (w : List ℕ) → ReadFrom input n w → Line (countLine (programAnswer w)) before after length
 
 -- the line of a count, and the count itself
-pub record Counted (t : Told) (before after : List ℕ) (r : CountReply) : Type 0 where
+pub record CountPrinted (t : Told) (before after : List ℕ) (r : CountReply) : Type 0 where
   pub line : Line (countLine t) before after (r .length)
   pub count : toldBy (r .count) ≡ t
 
 -- the count of the last macro, of a book of which n bytes were read and a pattern of which k were
 unfoldable pub LastReplies : List ℕ → ℕ → List ℕ → ℕ → List ℕ → List ℕ → CountReply → Type 0
-LastReplies book n pattern k before after r = (b p : List ℕ) → ReadFrom book n b → ReadFrom pattern k p → Counted (lastAnswer b p) before after r
+LastReplies book n pattern k before after r = (b p : List ℕ) → ReadFrom book n b → ReadFrom pattern k p → CountPrinted (lastAnswer b p) before after r
 
 -- the line of what is told, if anything is
 abbrev pub LineIf : Option Told → List ℕ → List ℕ → ℕ → Type 0
 LineIf (some t) before after n = Line (countLine t) before after n
-LineIf none before after n = Nothing before after n
+LineIf none before after n = NothingPrinted before after n
 
-pub record CountedNamed (t : Option Told) (before after : List ℕ) (r : NamedReply) : Type 0 where
+pub record NamedPrinted (t : Option Told) (before after : List ℕ) (r : NamedReply) : Type 0 where
   pub line : LineIf t before after (r .length)
   pub count : toldNamed (r .count) ≡ t
 
 -- the same of the macro that a text names
 unfoldable pub NamedReplies : List ℕ → ℕ → List ℕ → ℕ → List ℕ → List ℕ → List ℕ → NamedReply → Type 0
-NamedReplies book n pattern k text before after r = (b p : List ℕ) → ReadFrom book n b → ReadFrom pattern k p → CountedNamed (namedAnswer b p text) before after r
+NamedReplies book n pattern k text before after r = (b p : List ℕ) → ReadFrom book n b → ReadFrom pattern k p → NamedPrinted (namedAnswer b p text) before after r
 
 -- what a book holds
-pub record SurveyedIn (b before after : List ℕ) (r : SurveyReply) : Type 0 where
+pub record SurveyPrinted (b before after : List ℕ) (r : SurveyReply) : Type 0 where
   pub line : Line (surveyLine (surveyResult b)) before after (r .length)
   pub found : surveyFigures (r .found) ≡ surveyResult b
 
 unfoldable pub SurveyReplies : List ℕ → ℕ → List ℕ → List ℕ → SurveyReply → Type 0
-SurveyReplies book n before after r = (b : List ℕ) → ReadFrom book n b → SurveyedIn b before after r
+SurveyReplies book n before after r = (b : List ℕ) → ReadFrom book n b → SurveyPrinted b before after r
 
 -- The lines of a reach list, in the order that it has.
 pub record LastReachReplies (book : List ℕ) (n : ℕ) (listed list before after : List ℕ) (r : ReachReply) : Type 0 where
@@ -63,7 +63,7 @@ pub record LastReachReplies (book : List ℕ) (n : ℕ) (listed list before afte
 
 abbrev pub LinesIf : NamedReach → List ℕ → List ℕ → List ℕ → ℕ → Type 0
 LinesIf (NamedReach.Reach found) list before after n = Line (reachText (reachedFigures found) list) before after n
-LinesIf NamedReach.NoNumber list before after n = Nothing before after n
+LinesIf NamedReach.NoNumber list before after n = NothingPrinted before after n
 
 pub record NamedReachReplies (book : List ℕ) (n : ℕ) (text listed list before after : List ℕ) (r : NamedReachReply) : Type 0 where
   pub reached : NamedReached book n text (r .found) listed list
