@@ -3,16 +3,17 @@
 use crate::case::Case;
 use crate::hash::hash;
 use crate::operations::*;
+use crate::question::Question;
 use crate::refusal::Refusal;
 use crate::report::{join, Report};
 
 pub fn answer(case: &Case) -> String {
     match case {
-        Case::Line { pattern, line } => line_answer(line_test(pattern, line)),
-        Case::Run { pattern, run } => {
-            or_refused(run_count(pattern, run).map(|lines| format!("lines {lines}")))
+        Case::Line { question, line } => line_answer(line_test(question, line)),
+        Case::Run { question, run } => {
+            or_refused(run_count(question, run).map(|lines| format!("lines {lines}")))
         }
-        Case::Count { number, words, pattern, book } => count_answer(*number, *words, pattern, book),
+        Case::Count { number, words, question, book } => count_answer(*number, *words, question, book),
         Case::Sound { book } => or_refused(sound(book).map(|count| format!("sound {count}"))),
         Case::Body { number, book } => or_refused(body(*number, book).map(|body| body_answer(&body))),
         Case::Reach { number, entries, book } => reach_answer(*number, *entries, book),
@@ -33,9 +34,9 @@ fn body_answer(body: &[u8]) -> String {
 }
 
 /// The work words are filled before, so that words which must stay are seen in the hash.
-fn count_answer(number: usize, words: usize, pattern: &[u8], book: &[u8]) -> String {
+fn count_answer(number: usize, words: usize, question: &Question, book: &[u8]) -> String {
     let mut work: Vec<u64> = (1..=words as u64).map(|place| 1_000_003 * place).collect();
-    let line = count_line(book_count(number, pattern, book, &mut work));
+    let line = count_line(book_count(number, question, book, &mut work));
     format!("{line} work {}", hash(work.into_iter()))
 }
 

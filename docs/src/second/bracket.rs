@@ -5,7 +5,8 @@ use crate::parser::Reader;
 use crate::refusal::{Refusal, BAD_PATTERN};
 use crate::tree::Set;
 
-pub fn bracket(reader: &mut Reader) -> Result<Set, Refusal> {
+/// The keys that the elements name, and whether a leading `^` turns the set round.
+pub fn bracket(reader: &mut Reader) -> Result<(Set, bool), Refusal> {
     let negated = reader.eat(b'^');
     let mut set = [false; 256];
     let mut first = true;
@@ -15,7 +16,7 @@ pub fn bracket(reader: &mut Reader) -> Result<Set, Refusal> {
         first = false;
     }
     reader.eat(b']');
-    Ok(finish(set, negated))
+    Ok((set, negated))
 }
 
 /// `^` stands for all keys but these, and no set holds 0 or LF.

@@ -1,13 +1,15 @@
 //! A case, and how it stands in a stream: a byte for its kind, then numbers of three bytes (reports:
 //! of eight), low byte first, then the texts.
 
+use crate::letters::Letters;
+use crate::question::Question;
 use crate::report::{Report, MOST_STATES};
 
 #[derive(Clone)]
 pub enum Case {
-    Line { pattern: Vec<u8>, line: Vec<u8> },
-    Run { pattern: Vec<u8>, run: Vec<u8> },
-    Count { number: usize, words: usize, pattern: Vec<u8>, book: Vec<u8> },
+    Line { question: Question, line: Vec<u8> },
+    Run { question: Question, run: Vec<u8> },
+    Count { number: usize, words: usize, question: Question, book: Vec<u8> },
     Sound { book: Vec<u8> },
     Body { number: usize, book: Vec<u8> },
     Reach { number: usize, entries: usize, book: Vec<u8> },
@@ -17,9 +19,9 @@ pub enum Case {
 impl Case {
     pub fn kind(&self) -> u8 {
         match self {
-            Case::Line { .. } => b'L',
-            Case::Run { .. } => b'R',
-            Case::Count { .. } => b'C',
+            Case::Line { question, .. } => kind_of(question, b'L', b'l'),
+            Case::Run { question, .. } => kind_of(question, b'R', b'r'),
+            Case::Count { question, .. } => kind_of(question, b'C', b'c'),
             Case::Sound { .. } => b'K',
             Case::Body { .. } => b'B',
             Case::Reach { .. } => b'H',
@@ -30,10 +32,10 @@ impl Case {
     pub fn write(&self, stream: &mut Vec<u8>) {
         stream.push(self.kind());
         match self {
-            Case::Line { pattern, line } => write_parts(stream, &[], &[pattern, line]),
-            Case::Run { pattern, run } => write_parts(stream, &[], &[pattern, run]),
-            Case::Count { number, words, pattern, book } => {
-                write_parts(stream, &[*number, *words], &[pattern, book])
+            Case::Line { question, line } => write_parts(stream, &[], &[&question.pattern, line]),
+            Case::Run { question, run } => write_parts(stream, &[], &[&question.pattern, run]),
+            Case::Count { number, words, question, book } => {
+                write_parts(stream, &[*number, *words], &[&question.pattern, book])
             }
             Case::Sound { book } => write_parts(stream, &[], &[book]),
             Case::Body { number, book } => write_parts(stream, &[*number], &[book]),
@@ -49,6 +51,14 @@ impl Case {
         let mut stream = Vec::new();
         self.write(&mut stream);
         stream
+    }
+}
+
+/// The choice of case stands in the kind alone.
+fn kind_of(question: &Question, apart: u8, alike: u8) -> u8 {
+    match question.letters {
+        Letters::Apart => apart,
+        Letters::Alike => alike,
     }
 }
 
@@ -80,9 +90,12 @@ impl Stream<'_> {
     /// The next case; nothing if the stream ends inside it or the kind is unknown.
     pub fn case(&mut self) -> Option<Case> {
         match self.take(1)?[0] {
-            b'L' => self.two_texts().map(|(pattern, line)| Case::Line { pattern, line }),
-            b'R' => self.two_texts().map(|(pattern, run)| Case::Run { pattern, run }),
-            b'C' => self.count(),
+            b'L' => self.line(Letters::Apart),
+            b'l' => self.line(Letters::Alike),
+            b'R' => self.run(Letters::Apart),
+            b'r' => self.run(Letters::Alike),
+            b'C' => self.count(Letters::Apart),
+            b'c' => self.count(Letters::Alike),
             b'K' => self.one_text().map(|book| Case::Sound { book }),
             b'B' => {
                 let number = self.number()?;
@@ -100,10 +113,24 @@ impl Stream<'_> {
         }
     }
 
-    fn count(&mut self) -> Option<Case> {
+    fn line(&mut self, letters: Letters) -> Option<Case> {
+        self.question(letters).map(|(question, line)| Case::Line { question, line })
+    }
+
+    fn run(&mut self, letters: Letters) -> Option<Case> {
+        self.question(letters).map(|(question, run)| Case::Run { question, run })
+    }
+
+    fn count(&mut self, letters: Letters) -> Option<Case> {
         let (number, words) = (self.number()?, self.number()?);
-        let (pattern, book) = self.two_texts()?;
-        Some(Case::Count { number, words, pattern, book })
+        let (question, book) = self.question(letters)?;
+        Some(Case::Count { number, words, question, book })
+    }
+
+    /// A pattern, and the text that it is asked of.
+    fn question(&mut self, letters: Letters) -> Option<(Question, Vec<u8>)> {
+        let (pattern, text) = self.two_texts()?;
+        Some((Question { letters, pattern }, text))
     }
 
     fn take(&mut self, length: usize) -> Option<Vec<u8>> {

@@ -2,24 +2,17 @@
 
 use crate::book_file::BookFile;
 use crate::child::{self, Outcome};
+use crate::command_form::{self, Form};
 use crate::describe::{hex_of_long, pattern_lines};
 use crate::expected::Expected;
+use crate::question::Question;
 use crate::rng::Rng;
 use crate::tally::Tally;
-use std::ffi::{OsStr, OsString};
-use std::os::unix::ffi::OsStrExt;
+use std::ffi::OsString;
 use std::time::Duration;
 
 /// Longer than the command needs to start, so that it meets the book's first piece alone.
 const FIRST_PAUSE: Duration = Duration::from_millis(80);
-
-/// How the pattern is given.
-#[derive(Clone, Copy)]
-pub enum Form {
-    Bare,
-    Dashes,
-    Option,
-}
 
 /// How the book is given: by its path, or on standard input in so many pieces.
 #[derive(Clone, Copy)]
@@ -30,7 +23,7 @@ pub enum Way {
 
 pub struct Start {
     pub verb: &'static str,
-    /// For a count alone.
+    /// For a count alone; the form tells the choice of case.
     pub pattern: Option<(Form, Vec<u8>)>,
     pub way: Way,
     pub book: Vec<u8>,
@@ -52,15 +45,14 @@ impl Way {
 }
 
 impl Start {
+    pub fn question(&self) -> Option<Question> {
+        self.pattern.as_ref().map(|(form, pattern)| Question::new(command_form::letters(form), pattern))
+    }
+
     fn arguments(&self, book: OsString) -> Vec<OsString> {
         let mut arguments = vec![OsString::from(self.verb)];
         if let Some((form, pattern)) = &self.pattern {
-            match form {
-                Form::Bare => {}
-                Form::Dashes => arguments.push(OsString::from("--")),
-                Form::Option => arguments.push(OsString::from("-e")),
-            }
-            arguments.push(OsStr::from_bytes(pattern).to_os_string());
+            arguments.extend(command_form::words(form, pattern));
         }
         arguments.push(book);
         arguments.extend(self.asked.iter().map(OsString::from));
@@ -91,9 +83,7 @@ impl Start {
         let way = if matches!(self.way, Way::Path) { "path" } else { "input" };
         match self.pattern {
             None => String::from(way),
-            Some((Form::Bare, _)) => format!("{way} bare"),
-            Some((Form::Dashes, _)) => format!("{way} --"),
-            Some((Form::Option, _)) => format!("{way} -e"),
+            Some((form, _)) => format!("{way} {form}"),
         }
     }
 

@@ -10,7 +10,7 @@ use crate::make_large::large_cases;
 use crate::tally::Tally;
 
 /// So long is a stream at most.
-const MOST_BYTES: usize = 262_144;
+const MOST_BYTES: usize = 327_680;
 
 /// Cases waiting to be sent, with this program's answers.
 struct Batch<'a> {

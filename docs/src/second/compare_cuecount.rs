@@ -5,10 +5,11 @@ use crate::child;
 use crate::describe::{hex_of_long, pattern_lines};
 use crate::fixed;
 use crate::fixed_books::example;
+use crate::letters::Letters;
 use crate::make::macros_for;
 use crate::make_book::{call, keys, write};
 use crate::make_damage::damage_book;
-use crate::make_pattern::{pattern, sound_pattern};
+use crate::make_question::question_with;
 use crate::operations::{cuecount, CUECOUNT_BYTES};
 use crate::rng::Rng;
 use crate::tally::Tally;
@@ -140,22 +141,25 @@ fn sized_inputs() -> Vec<Input> {
     ]
 }
 
-/// The books of the fixed cases.
+/// The books of the fixed cases that are asked without the choice of case.
 fn fixed_counts() -> Vec<Input> {
     let mut inputs = Vec::new();
-    for fixed in fixed::all() {
-        if let Case::Count { pattern, book, .. } = fixed.case {
-            inputs.push((input(&pattern, &book), None));
+    for fixed in fixed::once() {
+        match fixed.case {
+            Case::Count { question, book, .. } if question.letters == Letters::Apart => {
+                inputs.push((input(&question.pattern, &book), None));
+            }
+            _ => {}
         }
     }
     inputs
 }
 
 fn seeded_input(rng: &mut Rng) -> Vec<u8> {
-    let pattern = if rng.chance(75) { sound_pattern(rng) } else { pattern(rng) };
-    let mut book = write(&macros_for(rng, &pattern));
+    let question = question_with(rng, Letters::Apart, 75);
+    let mut book = write(&macros_for(rng, &question));
     if rng.chance(25) {
         damage_book(rng, &mut book);
     }
-    input(&pattern, &book)
+    input(&question.pattern, &book)
 }

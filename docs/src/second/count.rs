@@ -10,8 +10,9 @@ use crate::tree::Pattern;
 use crate::written;
 
 /// So many keys are written out for one count at most.
-pub const LIMIT: u64 = 2_000_000;
+const LIMIT: u64 = 2_000_000;
 
+#[derive(Debug, PartialEq)]
 pub struct Counted {
     pub reports: Vec<Report>,
     pub steps: u64,

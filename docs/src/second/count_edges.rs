@@ -1,6 +1,7 @@
 //! Runs of the command's `count` at the edges: long books, long patterns, patterns that begin with `-`.
 
-use crate::command::{Form, Run, Start, Way};
+use crate::command::{Run, Start, Way};
+use crate::command_form::{Form, BARE, DASHES, OPTION};
 use crate::fixed_books::example;
 use crate::make_book::{keys, write};
 use crate::make_large::longest_book;
@@ -15,14 +16,14 @@ pub fn runs(seed: u64) -> Vec<Run> {
     runs
 }
 
-fn run(form: Form, pattern: &[u8], way: Way, book: &[u8], stated: &str) -> Run {
+pub fn run(form: Form, pattern: &[u8], way: Way, book: &[u8], stated: &str) -> Run {
     let pattern = Some((form, pattern.to_vec()));
     let start = Start { verb: "count", pattern, way, book: book.to_vec(), asked: None };
     (start, Some(String::from(stated)))
 }
 
 /// A bracket of so many bytes, which has the one key.
-fn wide(bytes: usize) -> Vec<u8> {
+pub fn wide(bytes: usize) -> Vec<u8> {
     [&b"["[..], &vec![b'B'; bytes - 2], b"]"].concat()
 }
 
@@ -34,7 +35,7 @@ fn books(longest: &[u8]) -> Vec<Run> {
     assert_eq!(books.len(), patterns.len());
     let mut runs = Vec::new();
     for (place, ((book, refusal), pattern)) in books.into_iter().zip(patterns).enumerate() {
-        let form = if place % 2 == 0 { Form::Dashes } else { Form::Option };
+        let form = if place % 2 == 0 { DASHES } else { OPTION };
         let way = if place % 3 == 1 { Way::Input(3) } else { Way::Path };
         runs.push(run(form, &pattern, way, &book, &format!("refused {refusal}")));
     }
@@ -46,11 +47,11 @@ fn books(longest: &[u8]) -> Vec<Run> {
 fn patterns(longest: &[u8]) -> Vec<Run> {
     let book = write(&example());
     let mut runs = vec![
-        run(Form::Dashes, &wide(128), Way::Input(2), &book, "lines 2 steps 17"),
-        run(Form::Option, &wide(129), Way::Path, longest, "refused 7"),
-        run(Form::Dashes, &[b'('; 130], Way::Path, &book, "refused 7"),
-        run(Form::Option, &wide(5_000), Way::Input(3), longest, "refused 7"),
-        run(Form::Bare, &vec![b'B'; 65_537], Way::Path, &book, "refused 7"),
+        run(DASHES, &wide(128), Way::Input(2), &book, "lines 2 steps 17"),
+        run(OPTION, &wide(129), Way::Path, longest, "refused 7"),
+        run(DASHES, &[b'('; 130], Way::Path, &book, "refused 7"),
+        run(OPTION, &wide(5_000), Way::Input(3), longest, "refused 7"),
+        run(BARE, &vec![b'B'; 65_537], Way::Path, &book, "refused 7"),
     ];
     runs[2].0.asked = Some(String::from("2"));
     runs
@@ -59,11 +60,11 @@ fn patterns(longest: &[u8]) -> Vec<Run> {
 fn dashes() -> Vec<Run> {
     let book = write(&[keys(b"-a\n--\n-e\na\n--help\n")]);
     vec![
-        run(Form::Dashes, b"-", Way::Path, &book, "lines 4"),
-        run(Form::Dashes, b"--", Way::Input(2), &book, "lines 2"),
-        run(Form::Option, b"--", Way::Path, &book, "lines 2"),
-        run(Form::Dashes, b"-e", Way::Path, &book, "lines 1"),
-        run(Form::Option, b"-e", Way::Input(1), &book, "lines 1"),
-        run(Form::Option, b"-a*$", Way::Path, &book, "lines 2"),
+        run(DASHES, b"-", Way::Path, &book, "lines 4"),
+        run(DASHES, b"--", Way::Input(2), &book, "lines 2"),
+        run(OPTION, b"--", Way::Path, &book, "lines 2"),
+        run(DASHES, b"-e", Way::Path, &book, "lines 1"),
+        run(OPTION, b"-e", Way::Input(1), &book, "lines 1"),
+        run(OPTION, b"-a*$", Way::Path, &book, "lines 2"),
     ]
 }

@@ -26,12 +26,16 @@ pub fn pattern_lines(pattern: &[u8]) -> String {
 pub fn describe(case: &Case) -> String {
     let kind = char::from(case.kind());
     let rest = match case {
-        Case::Line { pattern, line } => format!("{}line in hex: {}", pattern_lines(pattern), hex(line)),
-        Case::Run { pattern, run } => format!("{}run in hex: {}", pattern_lines(pattern), hex(run)),
-        Case::Count { number, words, pattern, book } => {
+        Case::Line { question, line } => {
+            format!("{}line in hex: {}", pattern_lines(&question.pattern), hex(line))
+        }
+        Case::Run { question, run } => {
+            format!("{}run in hex: {}", pattern_lines(&question.pattern), hex(run))
+        }
+        Case::Count { number, words, question, book } => {
             format!(
                 "macro {number}, work words {words}\n{}book in hex: {}",
-                pattern_lines(pattern),
+                pattern_lines(&question.pattern),
                 hex(book)
             )
         }

@@ -5,7 +5,7 @@ use std::collections::BTreeSet;
 
 type Texts = BTreeSet<Vec<u8>>;
 
-pub const KEYS: &[u8] = b"abx";
+pub const KEYS: &[u8] = b"abAx";
 pub const MOST: usize = 4;
 
 /// All lines of at most MOST of the keys.

@@ -2,11 +2,17 @@
 //! program under test must agree.
 
 use crate::case::Case;
+use crate::fixed_again::again;
 use crate::fixed_books::counts;
+use crate::fixed_letters::letters;
+use crate::fixed_letters_books::letters_in_books;
 use crate::fixed_lines::{BRACKETS, EXPRESSIONS, PAPER};
 use crate::fixed_parts::parts;
 use crate::fixed_runs::runs;
+use crate::letters::Letters;
+use crate::question::Question;
 
+#[derive(Clone)]
 pub struct Fixed {
     pub case: Case,
     /// The answer, or its first words: the hash of work words is not stated, sometimes not the steps.
@@ -18,21 +24,50 @@ impl Fixed {
         Fixed { case, stated: String::from(stated) }
     }
 
+    pub fn line(letters: Letters, pattern: &[u8], line: &[u8], stated: &str) -> Fixed {
+        Fixed::new(Case::Line { question: Question::new(letters, pattern), line: line.to_vec() }, stated)
+    }
+
+    pub fn run(letters: Letters, pattern: &[u8], run: &[u8], stated: &str) -> Fixed {
+        Fixed::new(Case::Run { question: Question::new(letters, pattern), run: run.to_vec() }, stated)
+    }
+
     /// Whether an answer begins with the words stated; only a count may say more.
     pub fn agrees(&self, answer: &str) -> bool {
-        let more = self.case.kind() == b'C' && answer.starts_with(&format!("{} ", self.stated));
+        let more =
+            matches!(self.case, Case::Count { .. }) && answer.starts_with(&format!("{} ", self.stated));
         more || answer == self.stated
     }
 }
 
+/// Document 01's cases, the same with case ignored, and those made for the choice of case.
 pub fn all() -> Vec<Fixed> {
+    let mut fixed = of_document_01();
+    fixed.extend(again(&of_document_01()));
+    fixed.extend(for_the_choice());
+    fixed
+}
+
+/// Without those asked again: each start of a program takes its time.
+pub fn once() -> Vec<Fixed> {
+    let mut fixed = of_document_01();
+    fixed.extend(for_the_choice());
+    fixed
+}
+
+fn of_document_01() -> Vec<Fixed> {
     let mut fixed: Vec<Fixed> = Vec::new();
     for (pattern, line, stated) in EXPRESSIONS.iter().chain(BRACKETS).chain(PAPER) {
-        let (pattern, line) = (pattern.as_bytes().to_vec(), line.as_bytes().to_vec());
-        fixed.push(Fixed::new(Case::Line { pattern, line }, stated));
+        fixed.push(Fixed::line(Letters::Apart, pattern.as_bytes(), line.as_bytes(), stated));
     }
     fixed.extend(runs());
     fixed.extend(counts());
     fixed.extend(parts());
+    fixed
+}
+
+fn for_the_choice() -> Vec<Fixed> {
+    let mut fixed = letters();
+    fixed.extend(letters_in_books());
     fixed
 }

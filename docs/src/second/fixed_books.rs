@@ -3,7 +3,9 @@
 
 use crate::case::Case;
 use crate::fixed::Fixed;
+use crate::letters::Letters;
 use crate::make_book::{call, keys, write, Macros};
+use crate::question::Question;
 
 const ENOUGH: usize = 36_864;
 
@@ -16,8 +18,8 @@ pub fn counts() -> Vec<Fixed> {
 }
 
 fn count(pattern: &str, macros: &[Vec<u16>], number: usize, words: usize, stated: &str) -> Fixed {
-    let pattern = pattern.as_bytes().to_vec();
-    Fixed::new(Case::Count { number, words, pattern, book: write(macros) }, stated)
+    let question = Question::new(Letters::Apart, pattern.as_bytes());
+    Fixed::new(Case::Count { number, words, question, book: write(macros) }, stated)
 }
 
 /// The book of the example under "The program cuecount".
@@ -127,7 +129,8 @@ fn orders() -> Vec<Fixed> {
     ] {
         let mut book = write(&example());
         book[at] = byte;
-        fixed.push(Fixed::new(Case::Count { number: 9, words: 0, pattern: Vec::new(), book }, stated));
+        let question = Question::new(Letters::Apart, b"");
+        fixed.push(Fixed::new(Case::Count { number: 9, words: 0, question, book }, stated));
     }
     fixed
 }

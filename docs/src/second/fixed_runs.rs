@@ -1,8 +1,8 @@
 //! Fixed plain runs with the counts stated for them: document 01's own, lines and their ends, the
 //! classes counted over all keys, and patterns at the limits of length and atoms.
 
-use crate::case::Case;
 use crate::fixed::Fixed;
+use crate::letters::Letters;
 
 /// Pattern, run, answer (document 01, "Runs on both sides" and "Lines").
 const RUNS: &[(&str, &str, &str)] = &[
@@ -56,11 +56,11 @@ pub fn runs() -> Vec<Fixed> {
 }
 
 fn run_of(pattern: &[u8], run: &[u8], stated: &str) -> Fixed {
-    Fixed::new(Case::Run { pattern: pattern.to_vec(), run: run.to_vec() }, stated)
+    Fixed::run(Letters::Apart, pattern, run, stated)
 }
 
 /// One line for each key but LF.
-fn every_key() -> Vec<u8> {
+pub fn every_key() -> Vec<u8> {
     (1..=255u8).filter(|&key| key != 10).flat_map(|key| [key, 10]).collect()
 }
 

@@ -1,4 +1,4 @@
-//! A second program for document 01, written apart from the first, to test it with.
+//! A second program for document 01 and S-1 of document 02, written apart from the first, to test it with.
 //! It works everything out by the definitions and prefers plainness to speed.
 
 mod answer;
@@ -10,6 +10,7 @@ mod case;
 mod child;
 mod classes;
 mod command;
+mod command_form;
 mod compare;
 mod compare_cases;
 mod compare_check;
@@ -19,35 +20,44 @@ mod compare_reach;
 mod compare_usage;
 mod count;
 mod count_edges;
+mod count_letters;
 mod describe;
 mod enumerate;
 mod expected;
 mod fixed;
+mod fixed_again;
 mod fixed_books;
+mod fixed_letters;
+mod fixed_letters_books;
 mod fixed_lines;
 mod fixed_parts;
 mod fixed_runs;
 mod form;
 mod hash;
+mod letters;
 mod make;
 mod make_book;
 mod make_bracket;
 mod make_damage;
 mod make_deep;
 mod make_large;
+mod make_letters;
 mod make_line;
 mod make_long;
 mod make_pattern;
+mod make_question;
 mod make_report;
 mod make_tree;
 mod meaning;
 mod operations;
 mod parser;
+mod question;
 mod refusal;
 mod report;
 mod rng;
 mod selftest;
 mod selftest_command;
+mod selftest_letters;
 mod states;
 mod summary;
 mod tally;

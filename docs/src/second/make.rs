@@ -1,13 +1,15 @@
 //! Seeded cases of every kind.
 
 use crate::case::Case;
+use crate::letters::Letters;
 use crate::make_book::{shallow, write, Macros};
 use crate::make_damage::damage_book;
 use crate::make_deep::{chain, deep, full};
+use crate::make_letters::mix_book;
 use crate::make_line;
-use crate::make_pattern::{pattern, sound_pattern};
+use crate::make_question::question;
 use crate::make_report::pair;
-use crate::parser;
+use crate::question::Question;
 use crate::rng::Rng;
 
 pub fn cases(seed: u64, count: u64) -> impl Iterator<Item = Case> {
@@ -30,39 +32,48 @@ fn case(rng: &mut Rng) -> Case {
 }
 
 fn line_case(rng: &mut Rng) -> Case {
-    let pattern = pattern(rng);
-    let mut line = make_line::line(rng, &pattern);
+    let question = question(rng, 0);
+    let mut line = make_line::line(rng, &question);
     if rng.chance(4) {
         line.insert(rng.below(line.len() + 1), rng.pick(&[0, 10]));
     }
-    Case::Line { pattern, line }
+    Case::Line { question, line }
 }
 
 fn run_case(rng: &mut Rng) -> Case {
-    let pattern = pattern(rng);
-    let mut run = make_line::run(rng, &pattern);
+    let question = question(rng, 0);
+    let mut run = make_line::run(rng, &question);
     if rng.chance(4) {
         run.insert(rng.below(run.len() + 1), 0);
     }
-    Case::Run { pattern, run }
+    Case::Run { question, run }
 }
 
 fn count_case(rng: &mut Rng) -> Case {
-    let pattern = if rng.chance(75) { sound_pattern(rng) } else { pattern(rng) };
-    let macros = macros_for(rng, &pattern);
+    let question = question(rng, 75);
+    let macros = macros_for(rng, &question);
     let number = number_near(rng, macros.len());
-    let words = words_near(rng, number, &pattern);
+    let words = words_near(rng, number, &question);
     let mut book = write(&macros);
     if rng.chance(8) {
         damage_book(rng, &mut book);
     }
-    Case::Count { number, words, pattern, book }
+    Case::Count { number, words, question, book }
+}
+
+/// With case ignored, often more letters of both cases than the lines have.
+pub fn macros_for(rng: &mut Rng, question: &Question) -> Macros {
+    let mut macros = plain_macros_for(rng, question);
+    if question.letters == Letters::Alike && rng.chance(50) {
+        mix_book(rng, &mut macros);
+    }
+    macros
 }
 
 /// Mostly books that can be written out.
-pub fn macros_for(rng: &mut Rng, pattern: &[u8]) -> Macros {
+fn plain_macros_for(rng: &mut Rng, question: &Question) -> Macros {
     match rng.below(200) {
-        0..=49 => deep(rng, pattern),
+        0..=49 => deep(rng, question),
         50 => {
             let count = rng.between(2, 120);
             let items = rng.between(1, 64);
@@ -73,7 +84,7 @@ pub fn macros_for(rng: &mut Rng, pattern: &[u8]) -> Macros {
             let count = rng.between(2, 200);
             chain(rng, count)
         }
-        _ => shallow(rng, pattern),
+        _ => shallow(rng, question),
     }
 }
 
@@ -89,8 +100,8 @@ fn number_near(rng: &mut Rng, count: usize) -> usize {
 }
 
 /// Exactly as many words as needed, one less, more, or none.
-fn words_near(rng: &mut Rng, number: usize, pattern: &[u8]) -> usize {
-    let atoms = parser::read(pattern).map_or(1, |tree| tree.atoms());
+fn words_near(rng: &mut Rng, number: usize, question: &Question) -> usize {
+    let atoms = question.read().map_or(1, |tree| tree.atoms());
     let needed = (number.min(1023) + 1) * (atoms + 7);
     let words = match rng.below(20) {
         0..=8 => needed,
@@ -104,8 +115,8 @@ fn words_near(rng: &mut Rng, number: usize, pattern: &[u8]) -> usize {
 
 /// Any book: sound, damaged, full, or mere bytes.
 pub fn some_book(rng: &mut Rng) -> Vec<u8> {
-    let pattern = sound_pattern(rng);
-    let macros = macros_for(rng, &pattern);
+    let question = question(rng, 100);
+    let macros = macros_for(rng, &question);
     let mut book = write(&macros);
     match rng.below(20) {
         0..=10 => damage_book(rng, &mut book),
@@ -158,6 +169,6 @@ pub fn partly_sound(rng: &mut Rng) -> Vec<u8> {
     if rng.chance(25) {
         return some_book(rng);
     }
-    let pattern = sound_pattern(rng);
-    write(&macros_for(rng, &pattern))
+    let question = question(rng, 100);
+    write(&macros_for(rng, &question))
 }

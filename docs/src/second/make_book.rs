@@ -2,6 +2,7 @@
 
 use crate::book::{FIRST_CALL, MARK, MOST_ITEMS};
 use crate::make_line;
+use crate::question::Question;
 use crate::rng::Rng;
 
 /// A book before it is written down: the items of each macro.
@@ -32,17 +33,17 @@ pub fn write(macros: &[Vec<u16>]) -> Vec<u8> {
     bytes
 }
 
-pub fn shallow(rng: &mut Rng, pattern: &[u8]) -> Macros {
+pub fn shallow(rng: &mut Rng, question: &Question) -> Macros {
     if rng.chance(40) {
-        cut_run(rng, pattern)
+        cut_run(rng, question)
     } else {
-        grown(rng, pattern)
+        grown(rng, question)
     }
 }
 
 /// A run cut into small macros which higher ones call in order, so that lines cross several calls.
-fn cut_run(rng: &mut Rng, pattern: &[u8]) -> Macros {
-    let mut run = make_line::run(rng, pattern);
+fn cut_run(rng: &mut Rng, question: &Question) -> Macros {
+    let mut run = make_line::run(rng, question);
     if run.is_empty() {
         run.push(10);
     }
@@ -75,7 +76,7 @@ fn bundle(rng: &mut Rng, level: Vec<u16>, macros: &mut Macros) -> Vec<u16> {
 }
 
 /// Each macro holds parts of lines and calls of any lower macros.
-pub fn grown(rng: &mut Rng, pattern: &[u8]) -> Macros {
+pub fn grown(rng: &mut Rng, question: &Question) -> Macros {
     let count = rng.between(1, 9);
     let mut macros: Macros = Vec::new();
     let mut lengths: Vec<usize> = Vec::new();
@@ -88,7 +89,7 @@ pub fn grown(rng: &mut Rng, pattern: &[u8]) -> Macros {
                 items.push(call(called));
                 length += lengths[called];
             } else {
-                let part = some_keys(rng, pattern);
+                let part = some_keys(rng, question);
                 length += part.len();
                 items.extend(part);
             }
@@ -110,11 +111,11 @@ fn lower(rng: &mut Rng, number: usize) -> usize {
 }
 
 /// At least one key, a part of some line with or without its LF.
-pub fn some_keys(rng: &mut Rng, pattern: &[u8]) -> Vec<u16> {
+pub fn some_keys(rng: &mut Rng, question: &Question) -> Vec<u16> {
     if rng.chance(18) {
         return vec![10];
     }
-    let mut line = make_line::line(rng, pattern);
+    let mut line = make_line::line(rng, question);
     if rng.chance(45) {
         line.push(10);
     }

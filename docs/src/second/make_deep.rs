@@ -5,19 +5,20 @@ use crate::book::{MOST_ITEMS, MOST_MACROS};
 use crate::make_book::{call, grown, keys, some_keys, Macros};
 use crate::make_line;
 use crate::operations::line_test;
+use crate::question::Question;
 use crate::rng::Rng;
 
-pub fn deep(rng: &mut Rng, pattern: &[u8]) -> Macros {
+pub fn deep(rng: &mut Rng, question: &Question) -> Macros {
     if rng.chance(45) {
-        near_top(rng, pattern)
+        near_top(rng, question)
     } else {
-        doubling(rng, pattern)
+        doubling(rng, question)
     }
 }
 
 /// Each macro calls the one below two or three times, with something else in between.
-fn doubling(rng: &mut Rng, pattern: &[u8]) -> Macros {
-    let mut macros = grown(rng, pattern);
+fn doubling(rng: &mut Rng, question: &Question) -> Macros {
+    let mut macros = grown(rng, question);
     for _ in 0..rng.between(10, 80) {
         let number = macros.len();
         let mut items = vec![call(number - 1); rng.between(2, 3)];
@@ -26,30 +27,30 @@ fn doubling(rng: &mut Rng, pattern: &[u8]) -> Macros {
         }
         if rng.chance(25) {
             let place = rng.below(items.len() + 1);
-            items.splice(place..place, some_keys(rng, pattern));
+            items.splice(place..place, some_keys(rng, question));
         }
         macros.push(items);
     }
-    add_short_end(rng, pattern, &mut macros);
+    add_short_end(rng, question, &mut macros);
     macros
 }
 
 /// A last macro that reaches only low ones, whatever overflows between.
-fn add_short_end(rng: &mut Rng, pattern: &[u8], macros: &mut Macros) {
+fn add_short_end(rng: &mut Rng, question: &Question, macros: &mut Macros) {
     if rng.chance(30) {
-        let mut items = some_keys(rng, pattern);
+        let mut items = some_keys(rng, question);
         items.push(call(rng.below(6.min(macros.len()))));
-        items.extend(some_keys(rng, pattern));
+        items.extend(some_keys(rng, question));
         macros.push(items);
     }
 }
 
 /// A line that matches, and one that does not if such a line is met.
-fn two_lines(rng: &mut Rng, pattern: &[u8]) -> (Vec<u8>, Vec<u8>) {
+fn two_lines(rng: &mut Rng, question: &Question) -> (Vec<u8>, Vec<u8>) {
     let (mut good, mut bad) = (vec![b'a'], Vec::new());
     for _ in 0..20 {
-        let line = make_line::line(rng, pattern);
-        match line_test(pattern, &line) {
+        let line = make_line::line(rng, question);
+        match line_test(question, &line) {
             Ok(true) if line.len() < 40 => good = line,
             Ok(false) if line.len() < 20 => bad = line,
             _ => {}
@@ -60,8 +61,8 @@ fn two_lines(rng: &mut Rng, pattern: &[u8]) -> (Vec<u8>, Vec<u8>) {
 
 /// Macro i holds 2^i matching lines; the one behind them calls as many as make a number just below,
 /// at or above 2^64 - 1; the last ones put keys before and behind.
-fn near_top(rng: &mut Rng, pattern: &[u8]) -> Macros {
-    let (mut good, mut bad) = two_lines(rng, pattern);
+fn near_top(rng: &mut Rng, question: &Question) -> Macros {
+    let (mut good, mut bad) = two_lines(rng, question);
     good.push(10);
     bad.push(10);
     let mut macros = vec![keys(&good)];
@@ -75,25 +76,25 @@ fn near_top(rng: &mut Rng, pattern: &[u8]) -> Macros {
     }
     items.truncate(MOST_ITEMS);
     macros.push(items);
-    around(rng, pattern, &bad, &mut macros);
-    add_short_end(rng, pattern, &mut macros);
+    around(rng, question, &bad, &mut macros);
+    add_short_end(rng, question, &mut macros);
     macros
 }
 
 /// Keys or lines before and behind the last macro, sometimes none.
-fn around(rng: &mut Rng, pattern: &[u8], bad: &[u8], macros: &mut Macros) {
+fn around(rng: &mut Rng, question: &Question, bad: &[u8], macros: &mut Macros) {
     for _ in 0..rng.below(3) {
         let number = macros.len() - 1;
         let mut items = Vec::new();
         if rng.chance(50) {
-            items.extend(some_keys(rng, pattern));
+            items.extend(some_keys(rng, question));
         }
         items.push(call(number));
         if rng.chance(40) {
             items.extend(keys(bad));
         }
         if rng.chance(40) {
-            items.extend(some_keys(rng, pattern));
+            items.extend(some_keys(rng, question));
         }
         if rng.chance(15) {
             items.push(call(number));

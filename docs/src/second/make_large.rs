@@ -1,14 +1,22 @@
 //! The largest and the deepest sound books, and cases over them.
 
 use crate::case::Case;
-use crate::make_book::write;
+use crate::letters::Letters;
+use crate::make_book::{write, Macros};
 use crate::make_damage::damage_book;
 use crate::make_deep::{chain, full};
+use crate::make_letters::mix_book;
 use crate::operations::COUNT_WORDS;
+use crate::question::Question;
 use crate::rng::Rng;
 
 /// 29 atoms that stay busy over the letters of full books.
 pub const BUSY: &[u8] = b"(a|b)*(a.b|b.a)+c?(aab|bba|[^c])*x?(a|b|c)(ac|ca|bc|cb).$";
+
+/// The same in letters of the other case, for questions with case ignored.
+pub fn busy_upper() -> Vec<u8> {
+    BUSY.to_ascii_uppercase()
+}
 
 /// 1,024 macros of 64 items, with few calls so that the count can be told.
 pub fn longest_book(rng: &mut Rng) -> Vec<u8> {
@@ -20,7 +28,20 @@ pub fn longest_book(rng: &mut Rng) -> Vec<u8> {
 /// The longest, another with so many calls that the count cannot be told, and 1,024 macros that each call
 /// the one below.
 pub fn largest_books(rng: &mut Rng) -> Vec<Vec<u8>> {
-    vec![longest_book(rng), write(&full(rng, 1024, 64, 12)), write(&chain(rng, 1024))]
+    largest(rng).iter().map(|macros| write(macros)).collect()
+}
+
+/// Books as large, with letters of both cases.
+pub fn mixed_books(rng: &mut Rng) -> Vec<Vec<u8>> {
+    let mut books = largest(rng);
+    for macros in books.iter_mut() {
+        mix_book(rng, macros);
+    }
+    books.iter().map(|macros| write(macros)).collect()
+}
+
+fn largest(rng: &mut Rng) -> Vec<Macros> {
+    vec![full(rng, 1024, 64, 1), full(rng, 1024, 64, 12), chain(rng, 1024)]
 }
 
 /// One of them with faults somewhere.
@@ -34,13 +55,10 @@ pub fn damaged_large(rng: &mut Rng) -> Vec<u8> {
 pub fn large_cases(seed: u64) -> Vec<Case> {
     let mut cases = Vec::new();
     for book in largest_books(&mut Rng::new(seed ^ 0x1A6)) {
-        let count = |number: usize, words: usize| {
-            let pattern = BUSY.to_vec();
-            Case::Count { number, words, pattern, book: book.clone() }
-        };
-        cases.push(count(1023, COUNT_WORDS));
-        cases.push(count(1023, COUNT_WORDS - 1));
-        cases.push(count(600, COUNT_WORDS));
+        let question = Question::new(Letters::Apart, BUSY);
+        cases.push(count(1023, COUNT_WORDS, &question, &book));
+        cases.push(count(1023, COUNT_WORDS - 1, &question, &book));
+        cases.push(count(600, COUNT_WORDS, &question, &book));
         cases.push(Case::Reach { number: 1023, entries: 1024, book: book.clone() });
         cases.push(Case::Reach { number: 1023, entries: 1023, book: book.clone() });
         cases.push(Case::Reach { number: 700, entries: 1100, book: book.clone() });
@@ -48,5 +66,14 @@ pub fn large_cases(seed: u64) -> Vec<Case> {
         cases.push(Case::Body { number: 1024, book: book.clone() });
         cases.push(Case::Sound { book });
     }
+    for book in mixed_books(&mut Rng::new(seed ^ 0x1A7)) {
+        let question = Question::new(Letters::Alike, &busy_upper());
+        cases.push(count(1023, COUNT_WORDS, &question, &book));
+        cases.push(count(1023, COUNT_WORDS - 1, &question, &book));
+    }
     cases
+}
+
+fn count(number: usize, words: usize, question: &Question, book: &[u8]) -> Case {
+    Case::Count { number, words, question: question.clone(), book: book.to_vec() }
 }

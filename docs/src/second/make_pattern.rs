@@ -6,34 +6,44 @@ use crate::parser::MOST_BYTES;
 use crate::rng::Rng;
 use crate::tree::*;
 
-const SOUP: &[u8] = b"aab()|*+?[]^$-.\\{}:=";
-const BRACKET_SOUP: &[u8] = b"aab]]^-[.:=\\z%";
-const NAMES: [&[u8]; 8] =
-    [b"[:alpha:]", b"[:digit:]", b"[:space:]", b"[:foo:]", b"[.a.]", b"[=a=]", b"[:alpha]", b"[:cntrl:]"];
+const SOUP: &[u8] = b"aaAb()|*+?[]^$-.\\{}:=";
+const BRACKET_SOUP: &[u8] = b"aaAbZ]]^-[.:=\\z%";
+const NAMES: [&[u8]; 10] = [
+    b"[:alpha:]",
+    b"[:digit:]",
+    b"[:space:]",
+    b"[:foo:]",
+    b"[.a.]",
+    b"[=a=]",
+    b"[:alpha]",
+    b"[:cntrl:]",
+    b"[:upper:]",
+    b"[:UPPER:]",
+];
 
-pub fn pattern(rng: &mut Rng) -> Vec<u8> {
+pub fn pattern(rng: &mut Rng, taste: Taste) -> Vec<u8> {
     match rng.below(100) {
-        0..=71 => sound_pattern(rng),
-        72..=79 => damaged_pattern(rng),
+        0..=71 => sound_pattern(rng, taste),
+        72..=79 => damaged_pattern(rng, taste),
         80..=83 => soup(rng, SOUP),
         84..=87 => bracket_soup(rng),
-        88..=91 => near_most_atoms(rng),
-        92..=94 => near_most_bytes(rng),
+        88..=91 => near_most_atoms(rng, taste),
+        92..=94 => near_most_bytes(rng, taste),
         95..=97 => nested(rng),
-        _ => odd_pattern(rng),
+        _ => odd_pattern(rng, taste),
     }
 }
 
-pub fn sound_pattern(rng: &mut Rng) -> Vec<u8> {
-    sound_tree(rng).text()
+pub fn sound_pattern(rng: &mut Rng, taste: Taste) -> Vec<u8> {
+    sound_tree(rng, taste).text()
 }
 
 /// A tree whose text fits; richer and larger ones are tried first.
-pub fn sound_tree(rng: &mut Rng) -> Pattern {
+pub fn sound_tree(rng: &mut Rng, taste: Taste) -> Pattern {
     let most = rng.pick(&[3, 5, 8, 14, 29]);
     loop {
         let atoms = rng.between(1, most);
-        let made = tree(rng, atoms, Taste::Rich);
+        let made = tree(rng, atoms, taste);
         let telling = !takes_anything(&made) || rng.chance(20);
         if telling && made.text().len() <= MOST_BYTES {
             return made;
@@ -47,22 +57,22 @@ fn takes_anything(tree: &Pattern) -> bool {
 }
 
 /// 27 to 31 atoms, plain ones so that the text stays short enough.
-fn near_most_atoms(rng: &mut Rng) -> Vec<u8> {
+fn near_most_atoms(rng: &mut Rng, taste: Taste) -> Vec<u8> {
     let atoms = rng.between(27, 31);
-    let taste = if rng.chance(50) { Taste::Plain } else { Taste::Rich };
+    let taste = if rng.chance(50) { Taste::Plain } else { taste };
     tree(rng, atoms, taste).text()
 }
 
 /// 127 to 130 bytes: one more branch, a bracket with as many elements as are missing.
-fn near_most_bytes(rng: &mut Rng) -> Vec<u8> {
+fn near_most_bytes(rng: &mut Rng, taste: Taste) -> Vec<u8> {
     let wanted = rng.between(127, 130);
-    let mut text = sound_pattern(rng);
+    let mut text = sound_pattern(rng, taste);
     if text.len() + 4 > wanted {
         return text;
     }
     text.extend_from_slice(b"|[");
     while text.len() + 1 < wanted {
-        text.push(rng.pick(b"abcxyz09"));
+        text.push(rng.pick(b"abcxyz09AZ"));
     }
     text.push(b']');
     text
@@ -88,8 +98,8 @@ fn nested(rng: &mut Rng) -> Vec<u8> {
     }
 }
 
-fn damaged_pattern(rng: &mut Rng) -> Vec<u8> {
-    let mut text = sound_pattern(rng);
+fn damaged_pattern(rng: &mut Rng, taste: Taste) -> Vec<u8> {
+    let mut text = sound_pattern(rng, taste);
     for _ in 0..rng.between(1, 2) {
         damage(rng, &mut text, SOUP);
     }
@@ -129,12 +139,12 @@ fn bracket_soup(rng: &mut Rng) -> Vec<u8> {
 }
 
 /// Empty, far too long, with dead bytes, or any bytes at all.
-fn odd_pattern(rng: &mut Rng) -> Vec<u8> {
+fn odd_pattern(rng: &mut Rng, taste: Taste) -> Vec<u8> {
     match rng.below(4) {
         0 => Vec::new(),
         1 => vec![b'a'; rng.pick(&[30, 128, 129, 200, 1000])],
         2 => {
-            let mut text = sound_pattern(rng);
+            let mut text = sound_pattern(rng, taste);
             let place = rng.below(text.len() + 1);
             text.insert(place, rng.pick(&[0, 10]));
             text

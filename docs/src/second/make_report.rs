@@ -1,7 +1,7 @@
 //! Seeded pairs of reports for joining: real ones, and any numbers at all.
 
 use crate::make_line;
-use crate::make_pattern::sound_tree;
+use crate::make_question::{some_letters, sound_question};
 use crate::meaning::Tester;
 use crate::report::{Report, MOST_STATES};
 use crate::rng::Rng;
@@ -27,14 +27,14 @@ pub fn pair(rng: &mut Rng) -> (Report, Report) {
     (left, right)
 }
 
-/// The reports of two runs under one pattern.
+/// The reports of two runs under one question.
 fn real(rng: &mut Rng) -> (Report, Report) {
-    let tree = sound_tree(rng);
-    let text = tree.text();
+    let letters = some_letters(rng);
+    let (question, tree) = sound_question(rng, letters);
     let states = States::of(&tree);
     let mut tester = Tester::new(&tree);
     let mut one = |rng: &mut Rng| {
-        let mut run = make_line::run(rng, &text);
+        let mut run = make_line::run(rng, &question);
         if rng.chance(40) {
             run.retain(|&key| key != 10);
         }

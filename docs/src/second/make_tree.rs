@@ -1,4 +1,5 @@
-//! Seeded pattern trees of the form in document 01, "Patterns".
+//! Seeded pattern trees of the form in document 01, "Patterns". Their sets are those without the choice of
+//! document 02, S-1.
 
 use crate::make_bracket::bracket_atom;
 use crate::parser::{any_key, one_key, MARKS};
@@ -7,12 +8,18 @@ use crate::tree::*;
 
 /// Plain bytes beyond the small alphabet.
 const ODD: &[u8] = b"]}-/ :=,\t\r\"09AZz~\x01\x7f\x80\x9b\xc3\xff";
+/// Letters of both cases, and plain bytes next to them or 32 away from others.
+const CASED: &[u8] = b"aaabbbcckzAAABBBCCKZ";
+const CASED_ODD: &[u8] = b"@@``]}_MNmnYy!:;\x7f\xc1\xc1\xe1\xe1\xda\xfa";
+const CASED_MARKS: &[u8] = b"[[[{{{\\|^.$?";
 
-/// How rich the atoms are: brackets and escapes make a pattern long.
+/// How rich the atoms are: brackets and escapes make a pattern long. Cased atoms are rich ones about
+/// letters of both cases and the bytes next to them.
 #[derive(Clone, Copy, PartialEq)]
 pub enum Taste {
     Plain,
     Rich,
+    Cased,
 }
 
 pub fn tree(rng: &mut Rng, atoms: usize, taste: Taste) -> Pattern {
@@ -85,15 +92,24 @@ pub fn mark(rng: &mut Rng) -> Mark {
 
 fn atom(rng: &mut Rng, taste: Taste) -> Atom {
     let kind = if taste == Taste::Plain { 0 } else { rng.below(100) };
+    let (common, odd, marks) = bytes_for(taste);
     match kind {
-        0..=54 => plain(rng.pick(b"aaabbbc")),
+        0..=54 => plain(rng.pick(common)),
         55..=61 => Atom { text: vec![b'.'], set: any_key() },
         62..=68 => {
-            let byte = rng.pick(MARKS);
+            let byte = rng.pick(marks);
             Atom { text: vec![b'\\', byte], set: one_key(byte) }
         }
-        69..=91 => bracket_atom(rng),
-        _ => plain(rng.pick(ODD)),
+        69..=91 => bracket_atom(rng, taste),
+        _ => plain(rng.pick(odd)),
+    }
+}
+
+/// Common plain bytes, rarer ones, and marks.
+fn bytes_for(taste: Taste) -> (&'static [u8], &'static [u8], &'static [u8]) {
+    match taste {
+        Taste::Cased => (CASED, CASED_ODD, CASED_MARKS),
+        Taste::Plain | Taste::Rich => (b"aaabbbc", ODD, MARKS),
     }
 }
 

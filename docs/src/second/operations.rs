@@ -2,8 +2,9 @@
 
 use crate::book;
 use crate::count::count;
+use crate::letters::Letters;
 use crate::meaning::{line_matches, Tester};
-use crate::parser;
+use crate::question::Question;
 use crate::refusal::*;
 
 pub const CUECOUNT_WORDS: usize = 4_096;
@@ -11,8 +12,8 @@ pub const CUECOUNT_BYTES: usize = 8_192;
 pub const COUNT_WORDS: usize = 36_864;
 
 /// The one-line test: the pattern first, then the line.
-pub fn line_test(pattern: &[u8], line: &[u8]) -> Result<bool, Refusal> {
-    let pattern = parser::read(pattern)?;
+pub fn line_test(question: &Question, line: &[u8]) -> Result<bool, Refusal> {
+    let pattern = question.read()?;
     if line.contains(&0) || line.contains(&10) {
         return Err(DEAD_KEY);
     }
@@ -20,8 +21,8 @@ pub fn line_test(pattern: &[u8], line: &[u8]) -> Result<bool, Refusal> {
 }
 
 /// The count over a plain run: the pattern first, then the run.
-pub fn run_count(pattern: &[u8], run: &[u8]) -> Result<u64, Refusal> {
-    let pattern = parser::read(pattern)?;
+pub fn run_count(question: &Question, run: &[u8]) -> Result<u64, Refusal> {
+    let pattern = question.read()?;
     if run.contains(&0) {
         return Err(DEAD_KEY);
     }
@@ -83,12 +84,12 @@ pub fn reach_numbers(asked: Option<usize>, bytes: &[u8]) -> Result<Vec<usize>, R
 /// after refusal 12.
 pub fn book_count(
     number: usize,
-    pattern: &[u8],
+    question: &Question,
     bytes: &[u8],
     work: &mut [u64],
 ) -> Result<(u64, u64), Refusal> {
     let book = book::read(bytes)?;
-    let pattern = parser::read(pattern)?;
+    let pattern = question.read()?;
     if number >= book.macros.len() {
         return Err(NO_SUCH_MACRO);
     }
@@ -108,12 +109,12 @@ pub fn book_count(
 }
 
 /// The count of the last macro; a book that is refused has none, and its refusal comes first anyway.
-pub fn last_count(pattern: &[u8], bytes: &[u8], words: usize) -> Result<(u64, u64), Refusal> {
+pub fn last_count(question: &Question, bytes: &[u8], words: usize) -> Result<(u64, u64), Refusal> {
     let last = sound(bytes)? - 1;
-    book_count(last, pattern, bytes, &mut vec![0; words])
+    book_count(last, question, bytes, &mut vec![0; words])
 }
 
-/// The line that the program `cuecount` prints for an input.
+/// The line that the program `cuecount` prints for an input. It has no choice of case.
 pub fn cuecount(input: &[u8]) -> String {
     if input.len() > CUECOUNT_BYTES {
         return count_line(Err(LONG_INPUT));
@@ -123,7 +124,7 @@ pub fn cuecount(input: &[u8]) -> String {
         Some(cut) => (&input[..cut], &input[cut + 1..]),
         None => (input, &input[input.len()..]),
     };
-    count_line(last_count(pattern, book, CUECOUNT_WORDS))
+    count_line(last_count(&Question::new(Letters::Apart, pattern), book, CUECOUNT_WORDS))
 }
 
 pub fn count_line(result: Result<(u64, u64), Refusal>) -> String {

@@ -1,6 +1,7 @@
 //! The pattern reader (document 01, "Patterns"): refusals 7, then 8 over the whole pattern, then 9.
 
-use crate::bracket::bracket;
+use crate::bracket::{bracket, finish};
+use crate::letters::{fold, Letters};
 use crate::refusal::*;
 use crate::tree::*;
 
@@ -12,16 +13,17 @@ pub const MARKS: &[u8; 12] = b"^.[$()|*+?{\\";
 pub struct Reader<'a> {
     bytes: &'a [u8],
     at: usize,
+    letters: Letters,
 }
 
-pub fn read(pattern: &[u8]) -> Result<Pattern, Refusal> {
+pub fn read(pattern: &[u8], letters: Letters) -> Result<Pattern, Refusal> {
     if pattern.is_empty() || pattern.len() > MOST_BYTES {
         return Err(PATTERN_LENGTH);
     }
     if pattern.contains(&0) || pattern.contains(&10) {
         return Err(BAD_PATTERN);
     }
-    let mut reader = Reader { bytes: pattern, at: 0 };
+    let mut reader = Reader { bytes: pattern, at: 0, letters };
     let tree = reader.pattern()?;
     if reader.at != pattern.len() {
         return Err(BAD_PATTERN);
@@ -134,15 +136,21 @@ impl Reader<'_> {
         }
     }
 
+    /// The keys named, then the folding, then the turn by a leading `^`, then 0 and LF out.
     fn atom_set(&mut self) -> Result<Set, Refusal> {
+        let (named, negated) = match self.next() {
+            Some(b'.') => (any_key(), false),
+            Some(b'[') => bracket(self)?,
+            Some(b'\\') => (self.escaped()?, false),
+            Some(byte) if !MARKS.contains(&byte) => (one_key(byte), false),
+            _ => return Err(BAD_PATTERN),
+        };
+        Ok(finish(fold(named, self.letters), negated))
+    }
+
+    fn escaped(&mut self) -> Result<Set, Refusal> {
         match self.next() {
-            Some(b'.') => Ok(any_key()),
-            Some(b'[') => bracket(self),
-            Some(b'\\') => match self.next() {
-                Some(byte) if MARKS.contains(&byte) => Ok(one_key(byte)),
-                _ => Err(BAD_PATTERN),
-            },
-            Some(byte) if !MARKS.contains(&byte) => Ok(one_key(byte)),
+            Some(byte) if MARKS.contains(&byte) => Ok(one_key(byte)),
             _ => Err(BAD_PATTERN),
         }
     }

@@ -1,27 +1,36 @@
 //! Checks this program with itself: stated answers, the two methods of counting, trees written down
-//! and read again, the meaning against a list of texts, joins against reports of longer runs.
+//! and read again, the meaning against a list of texts, joins against reports of longer runs; under both
+//! choices of case.
 
 use crate::answer::answer;
 use crate::book::{self, item, Book, Item};
 use crate::case::{Case, Stream};
-use crate::count::{count_within, LIMIT};
+use crate::count::count_within;
 use crate::describe::describe;
 use crate::enumerate;
 use crate::fixed;
+use crate::letters::{Letters, BOTH};
 use crate::make;
 use crate::make_book::write;
 use crate::make_large::BUSY;
+use crate::make_letters::mix_book;
 use crate::make_line;
 use crate::make_pattern::sound_tree;
+use crate::make_question::{sound_question, taste_for};
 use crate::make_tree::{tree, Taste};
 use crate::meaning::{line_matches, Tester};
 use crate::parser::{self, MOST_ATOMS};
+use crate::question::Question;
 use crate::report::join;
 use crate::rng::Rng;
 use crate::selftest_command;
+use crate::selftest_letters;
 use crate::states::{States, LINE_START};
 use crate::written;
 use std::collections::BTreeSet;
+
+/// So many keys are written out for one count: fewer than for an answer, so that this stays quick.
+const LIMIT: u64 = 400_000;
 
 /// What was checked and the first faults.
 #[derive(Default)]
@@ -43,18 +52,20 @@ impl Checks {
 
 pub fn selftest() -> bool {
     let mut checks = Checks::default();
-    let busy = parser::read(BUSY).map(|tree| tree.atoms());
+    let busy = parser::read(BUSY, Letters::Apart).map(|tree| tree.atoms());
     checks.check(busy == Ok(MOST_ATOMS), || String::from("the busy pattern has not 29 atoms"));
     stated(&mut checks);
     streams(&mut checks);
     selftest_command::all(&mut checks);
-    for number in 0..1500 {
+    for number in 0..2000 {
         let mut rng = Rng::for_case(0x5E1F, number);
-        trees(&mut rng, &mut checks);
-        methods(&mut rng, &mut checks);
-        joins(&mut rng, &mut checks);
+        let letters = BOTH[number as usize % 2];
+        trees(&mut rng, letters, &mut checks);
+        methods(&mut rng, letters, &mut checks);
+        joins(&mut rng, letters, &mut checks);
+        selftest_letters::laws(&mut rng, &mut checks);
         if number % 5 == 0 {
-            listed(&mut rng, &mut checks);
+            listed(&mut rng, letters, &mut checks);
         }
     }
     println!("{} passed, {} failed", checks.passed, checks.failed);
@@ -85,18 +96,20 @@ fn streams(checks: &mut Checks) {
     checks.check(stream.left.is_empty(), || String::from("stream: bytes left over"));
 }
 
-/// A tree written down is read as the same tree.
-fn trees(rng: &mut Rng, checks: &mut Checks) {
-    let made = sound_tree(rng);
+/// A tree written down is read as the same tree, without the choice of case.
+fn trees(rng: &mut Rng, letters: Letters, checks: &mut Checks) {
+    let taste = taste_for(rng, letters);
+    let made = sound_tree(rng, taste);
     let text = made.text();
-    checks.check(parser::read(&text) == Ok(made), || format!("tree: {}", text.escape_ascii()));
+    let read = parser::read(&text, Letters::Apart);
+    checks.check(read == Ok(made), || format!("tree: {}", text.escape_ascii()));
 }
 
 /// The written-out count and the one put together from macros agree in every report and in the steps.
-fn methods(rng: &mut Rng, checks: &mut Checks) {
-    let tree = sound_tree(rng);
-    let text = tree.text();
-    let bytes = write(&make::macros_for(rng, &text));
+fn methods(rng: &mut Rng, letters: Letters, checks: &mut Checks) {
+    let (question, tree) = sound_question(rng, letters);
+    let mut macros = make::macros_for(rng, &question);
+    let bytes = write(&macros);
     let book = match book::read(&bytes) {
         Ok(book) => book,
         Err(refusal) => return checks.check(false, || format!("a sound book was refused: {refusal}")),
@@ -104,15 +117,23 @@ fn methods(rng: &mut Rng, checks: &mut Checks) {
     let last = rng.below(book.macros.len());
     let one = count_within(&book, &tree, last, LIMIT);
     let other = count_within(&book, &tree, last, 0);
-    let same = one.reports == other.reports && one.steps == other.steps && one.lines == other.lines;
-    let shown =
-        || describe(&Case::Count { number: last, words: 0, pattern: text.clone(), book: bytes.clone() });
-    checks.check(same, || format!("two methods: {}", shown()));
+    let shown = || shown_count(last, &question, &bytes);
+    checks.check(one == other, || format!("two methods: {}", shown()));
     let items: usize = (0..=last).map(|number| book.items(number).len()).sum();
     let s = tree.atoms() + 3;
     checks.check(one.steps <= (items * s * s) as u64, || format!("too many steps: {}", shown()));
     let listed = reached_upwards(&book, last);
     checks.check(book.reached(last) == listed, || format!("reach list: {}", shown()));
+    if letters == Letters::Alike {
+        mix_book(rng, &mut macros);
+        let mixed = write(&macros);
+        let again = book::read(&mixed).map(|book| count_within(&book, &tree, last, 0));
+        checks.check(again == Ok(one), || format!("letters of the other case: {}", shown()));
+    }
+}
+
+fn shown_count(number: usize, question: &Question, book: &[u8]) -> String {
+    describe(&Case::Count { number, words: 0, question: question.clone(), book: book.to_vec() })
 }
 
 /// What a macro reaches, from the lists of the macros it calls.
@@ -131,24 +152,28 @@ pub fn reached_upwards(book: &Book, last: usize) -> Vec<u16> {
 }
 
 /// The join of two runs' reports is the report of the runs one after the other.
-fn joins(rng: &mut Rng, checks: &mut Checks) {
-    let tree = sound_tree(rng);
-    let text = tree.text();
+fn joins(rng: &mut Rng, letters: Letters, checks: &mut Checks) {
+    let (question, tree) = sound_question(rng, letters);
     let states = States::of(&tree);
     let mut tester = Tester::new(&tree);
-    let left = make_line::run(rng, &text);
-    let right = make_line::run(rng, &text);
+    let left = make_line::run(rng, &question);
+    let right = make_line::run(rng, &question);
     let mut report = |run: &[u8]| written::report(&states, &mut tester, run);
     let joined = join(&report(&left), &report(&right));
     let whole = report(&[left, right].concat());
-    checks.check(joined == Ok(whole), || format!("join under {}", text.escape_ascii()));
+    checks.check(joined == Ok(whole), || format!("join under {}", question.pattern.escape_ascii()));
 }
 
 /// The meaning agrees with the list of texts, and with the states, on every short line.
-fn listed(rng: &mut Rng, checks: &mut Checks) {
-    let taste = if rng.chance(50) { Taste::Plain } else { Taste::Rich };
+fn listed(rng: &mut Rng, letters: Letters, checks: &mut Checks) {
+    let taste = if rng.chance(50) { Taste::Plain } else { taste_for(rng, letters) };
     let atoms = rng.between(1, 7);
-    let tree = tree(rng, atoms, taste);
+    let text = tree(rng, atoms, taste).text();
+    let tree = match parser::read(&text, letters) {
+        Ok(tree) => tree,
+        // Its brackets are too long together.
+        Err(_) => return,
+    };
     let texts = enumerate::branch_texts(&tree);
     let states = States::of(&tree);
     for line in enumerate::all_lines() {
@@ -156,7 +181,7 @@ fn listed(rng: &mut Rng, checks: &mut Checks) {
         let by_list = enumerate::line_matches(&tree, &texts, &line);
         let by_states = states.accepts(states.after(LINE_START, &line));
         checks.check(meant == by_list && meant == by_states, || {
-            format!("{} on {}", tree.text().escape_ascii(), line.escape_ascii())
+            format!("{letters:?}: {} on {}", text.escape_ascii(), line.escape_ascii())
         });
     }
 }

@@ -1,20 +1,24 @@
-//! Checks what the command is compared by: how outputs are judged, macro numbers, the stated answers, and
-//! what `check` and `reach` tell by a second method.
+//! Checks what the command is compared by: how outputs are judged, macro numbers, the forms of a start, the
+//! stated answers, and what `check` and `reach` tell by a second method.
 
 use crate::asked;
 use crate::book;
 use crate::command::{expected, Run, Start};
+use crate::command_form::{in_turn, letters, ALIKE_FORMS};
 use crate::expected::Expected;
+use crate::letters::BOTH;
 use crate::operations::{check, reach_numbers};
 use crate::selftest::{reached_upwards, Checks};
-use crate::{compare_check, compare_count, compare_reach, count_edges};
+use crate::{compare_check, compare_count, compare_reach, count_edges, count_letters};
 
 const SEED: u64 = 0x5E1F;
 
 pub fn all(checks: &mut Checks) {
     judged(checks);
     numbers(checks);
+    forms(checks);
     stated(checks, &count_edges::runs(SEED), compare_count::own_answer);
+    stated(checks, &count_letters::runs(SEED), compare_count::own_answer);
     let sound_or_not = compare_check::runs(SEED);
     stated(checks, &sound_or_not, compare_check::own_answer);
     let reached = compare_reach::runs(SEED);
@@ -74,6 +78,18 @@ fn numbers(checks: &mut Checks) {
     }
     let high = asked::number("18446744073709551617");
     checks.check(high > Some(65_536), || String::from("a macro number of many digits"));
+}
+
+/// The forms in turn keep the choice, and a pattern that begins with `-` never stands bare.
+fn forms(checks: &mut Checks) {
+    for asked in BOTH {
+        for place in 0..5 * ALIKE_FORMS.len() {
+            let form = in_turn(place, asked, b"-i");
+            let guarded = form.split(' ').any(|word| ["--", "-e", "-ie"].contains(&word));
+            let kept = letters(form) == asked && letters(in_turn(place, asked, b"go")) == asked;
+            checks.check(guarded && kept, || format!("form {form} of {asked:?}"));
+        }
+    }
 }
 
 /// This program answers as stated.
