@@ -37,19 +37,29 @@ check) echo sound version 1 macros 2 items 3 bytes 4 ;;
 reach) echo 5 ;;
 esac'
 counted='lines 1 steps 2'
-expect 0 "$counted" '<count><B><book>' "$r" count B book
-expect 0 "$counted" '<count><B><book><1>' "$r" count B book 1
-expect 0 "$counted" '<count><><><>' "$r" count '' '' ''
-expect 0 "$counted" "<count><a  b$lf><a * book><1>" "$r" count "a  b$lf" 'a * book' 1
-expect 0 "$counted" '<count><B><->' "$r" count B -
-expect 0 "$counted" '<count><-><-><->' "$r" count - - -
-expect 0 "$counted" '<count><-x><book>' "$r" count -- -x book
-expect 0 "$counted" '<count><--><book>' "$r" count -- -- book
-expect 0 "$counted" '<count><B><-x><--help>' "$r" count B -x --help
-expect 0 "$counted" '<count><-x><book>' "$r" count -e -x book
-expect 0 "$counted" '<count><-x><book><2>' "$r" count -e-x book 2
-expect 0 "$counted" '<count><--><-e>' "$r" count -e -- -- -e
-expect 0 "$counted" '<count><><book>' "$r" count -e '' book
+expect 0 "$counted" '<count><sensitive><B><book>' "$r" count B book
+expect 0 "$counted" '<count><sensitive><B><book><1>' "$r" count B book 1
+expect 0 "$counted" '<count><sensitive><><><>' "$r" count '' '' ''
+expect 0 "$counted" "<count><sensitive><a  b$lf><a * book><1>" "$r" count "a  b$lf" 'a * book' 1
+expect 0 "$counted" '<count><sensitive><B><->' "$r" count B -
+expect 0 "$counted" '<count><sensitive><-><-><->' "$r" count - - -
+expect 0 "$counted" '<count><sensitive><-x><book>' "$r" count -- -x book
+expect 0 "$counted" '<count><sensitive><--><book>' "$r" count -- -- book
+expect 0 "$counted" '<count><sensitive><B><-x><--help>' "$r" count B -x --help
+expect 0 "$counted" '<count><sensitive><-x><book>' "$r" count -e -x book
+expect 0 "$counted" '<count><sensitive><-x><book><2>' "$r" count -e-x book 2
+expect 0 "$counted" '<count><sensitive><--><-e>' "$r" count -e -- -- -e
+expect 0 "$counted" '<count><sensitive><><book>' "$r" count -e '' book
+expect 0 "$counted" '<count><ignored><B><book>' "$r" count -i B book
+expect 0 "$counted" '<count><ignored><B><book><1>' "$r" count -i -i B book 1
+expect 0 "$counted" '<count><ignored><-i><book>' "$r" count -i -- -i book
+expect 0 "$counted" '<count><ignored><-i><book>' "$r" count -i -e -i book
+expect 0 "$counted" '<count><ignored><-i><book>' "$r" count -e -i -i book
+expect 0 "$counted" '<count><ignored><x><book>' "$r" count -ie x book
+expect 0 "$counted" '<count><sensitive><-i><book>' "$r" count -e -i book
+expect 0 "$counted" '<count><sensitive><-i><book>' "$r" count -- -i book
+expect 0 "$counted" '<count><sensitive><B><book><-i>' "$r" count B book -i
+expect 0 "$counted" '<count><sensitive><i><book>' "$r" count -ei book
 expect 0 'sound version 1 macros 2 items 3 bytes 4' '<check><book>' "$r" check book
 expect 0 'sound version 1 macros 2 items 3 bytes 4' '<check><-h>' "$r" check -- -h
 expect 0 5 '<reach><book>' "$r" reach book

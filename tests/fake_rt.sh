@@ -17,7 +17,7 @@ mkdir -p target/bin
 cat >target/bin/rakvinje <<EOF
 #!/bin/sh
 steps=1
-[ "\$3" != - ] || steps=\$(wc -c)
+[ "\$4" != - ] || steps=\$(wc -c)
 echo lines $(cat crates/low/src/lib.rt) steps \$steps
 EOF
 chmod +x target/bin/rakvinje

@@ -52,6 +52,33 @@ expect 0 'lines 2 steps 17' '' "$r" count B "$room/a book"
 ln -s "$PWD/rakvinje" "$room/link"
 expect 0 'lines 2 steps 17' '' env -C / "$room/link" count B "$PWD/$small"
 
+# Count with case ignored. The lines of the book: GO, go, Go1, and one of the four bytes next to letters.
+book letters 'MBK\1\0\1\0\17\0G\0O\0\n\0g\0o\0\n\0G\0o\0001\0\n\0@\0[\0`\0{\0\n\0'
+letters=$room/letters
+expect 0 'lines 1 steps 26' '' "$r" count go "$letters"
+for words in '-i go' '-i GO' '-ie gO' '-i -e Go' '-e gO -i' '-i -i go' '-i -- GO'; do
+    # shellcheck disable=SC2086 # these are words
+    expect 0 'lines 3 steps 36' '' "$r" count $words "$letters"
+    # shellcheck disable=SC2086
+    expect 0 'lines 3 steps 36' '' "$r" count $words - 0 <"$letters"
+done
+expect 0 'lines 3 steps 36' '' "$r" count -i '[g]O' "$letters"
+expect 0 'lines 3 steps 36' '' "$r" count -i '[F-H]o' "$letters"
+expect 0 'lines 3 steps 34' '' "$r" count '^[^g]' "$letters"
+expect 0 'lines 1 steps 27' '' "$r" count -i '^[^g]' "$letters"
+expect 0 'lines 1 steps 29' '' "$r" count '[@-[]$' "$letters"
+expect 0 'lines 2 steps 32' '' "$r" count -i '[@-[]$' "$letters"
+expect 0 'lines 2 steps 34' '' "$r" count '[[:upper:]]' "$letters"
+expect 0 'lines 3 steps 39' '' "$r" count -i '[[:upper:]]' "$letters"
+expect 0 'lines 41238876233640667 steps 10255' '' "$r" count 'HOIST|haze' "$arena"
+expect 0 'lines 114409866292587160 steps 10489' '' "$r" count -i 'HOIST|haze' "$arena"
+expect 0 'lines 17 steps 5688' '' "$r" count -i 'HOIST|haze' "$arena" 170
+expect 1 'refused 7' '*over 128 bytes*' "$r" count -i '' "$small"
+expect 1 'refused 8' '*not of the form*' "$r" count -i '[a-Z]' "$small"
+expect 1 'refused 8' '*not of the form*' "$r" count -i '[[:UPPER:]]' "$small"
+expect 1 'refused 9' '*over 29 atoms*' "$r" count -i "$(many x 30)" "$small"
+expect 1 'refused 10' '*no macro of that number*' "$r" count -i B "$small" 2
+
 # Check.
 expect 0 'sound version 1 macros 2 items 5 bytes 21' '' "$r" check "$small"
 expect 0 'sound version 1 macros 300 items 5434 bytes 11475' '' "$r" check "$arena"
@@ -221,7 +248,7 @@ expect 2 '' '*' bash -c '"$@" >/dev/full' - "$r" help count
 for verb in count check reach; do
     example=$(sed -n 's/^  \$ //p' scripts/help/$verb.txt)
     [ -n "$example" ] || example="echo 'the help of $verb has no example'"
-    expect 0 "$(sed '1,/^  \$ /d; s/^  //' scripts/help/$verb.txt)" '' bash -c "$example"
+    expect 0 "$(sed '1,/^  \$ /d; /^  \$ /d; s/^  //' scripts/help/$verb.txt)" '' bash -ec "$example"
 done
 
 # Document 01's program, where its input cannot be read, or its output written.
@@ -248,13 +275,18 @@ expect 2 '' "*check has no option '-e'*" "$r" check -e B "$small"
 expect 2 '' '*option -e needs a value*rakvinje help count*' "$r" count -e
 expect 2 '' '*option -e is given twice*rakvinje help count*' "$r" count -e B -e C "$small"
 expect 2 '' '*option -e is given twice*rakvinje help count*' "$r" count -e '' -e C "$small"
-usage="usage: rakvinje count PATTERN BOOK [[]MACRO]${lf}   or: rakvinje count -e PATTERN BOOK [[]MACRO]"
+usage="usage: rakvinje count [[]-i] PATTERN BOOK [[]MACRO]${lf}   or: rakvinje count [[]-i] -e PATTERN BOOK [[]MACRO]"
 expect 2 '' "$usage" "$r" count
 expect 2 '' "$usage" "$r" count B
 expect 2 '' "$usage" "$r" count --
 expect 2 '' "$usage" "$r" count -e B
 expect 2 '' "$usage" "$r" count B "$small" 1 1
 expect 2 '' "$usage" "$r" count -e B "$small" 1 1
+expect 2 '' "$usage" "$r" count -i
+expect 2 '' "$usage" "$r" count -i B
+expect 2 '' "$usage" "$r" count -ie B
+expect 2 '' "*no option '-i'*rakvinje help check*" "$r" check -i "$small"
+expect 2 '' "*no option '-i'*rakvinje help reach*" "$r" reach -i "$small"
 expect 2 '' 'usage: rakvinje check BOOK' "$r" check
 expect 2 '' 'usage: rakvinje check BOOK' "$r" check "$small" 1
 expect 2 '' 'usage: rakvinje reach BOOK [[]MACRO]' "$r" reach

@@ -2,12 +2,14 @@
 use Prim.Native.Nat.{ℕ, _+_, _<_, _≤_}
 use native.Mathlib.Omega.{arith}
 use mathlib.Core.Path.{_≡_, refl, sym, _∙_}
-use mathlib.Core.Bool.{Bool, true, false, not, _&&_, xor, Bool·beq, or-true, or-false, and-false}
+use mathlib.Core.Bool.{Bool, true, false, not, _&&_, xor, or-true, or-false, and-false}
 use mathlib.Core.List.{List}
 use lib.Bits.{bitOr}
 use lib.Dec.{leb, eqb}
 use lib.ListN.{getD, set}
 use borrow.Author.Tests.{le-leb, lt-leb, eq-eqb, ne-eqb, eqb-true}
+use Rattle.letters.specs.declared.Case.{Case}
+use Rattle.letters.specs.Letters.{folded}
 use Rattle.brackets.specs.declared.element.Element as declared
 use Rattle.brackets.specs.Form.{Element, byte, range}
 use Rattle.brackets.specs.Sets.{inElement}
@@ -76,41 +78,34 @@ module _ (e : declared.Element) where
   element-added d before after h g = rw h g
 
 -- whether a key is in a set
-module _ (s : List Bool) (negated : Bool) (k : ℕ) where
-  unlike : (a b : Bool) → not (Bool·beq a b) ≡ xor b a
-  unfolding xor
-  unlike true true = refl
-  unlike true false = refl
-  unlike false true = refl
-  unlike false false = refl
-
-  pub key-tests : k < 256 → not (eqb k 0) && (not (eqb k 10) && not (Bool·beq (getD s k false) negated)) ≡ hasKey s negated k
+module _ (case : Case) (s : List Bool) (negated : Bool) (k : ℕ) where
+  pub key-tests : (has : Bool) → k < 256 → has ≡ xor negated (folded case (λ j. getD s j false) k) → not (eqb k 0) && (not (eqb k 10) && has) ≡ hasKey case s negated k
   unfolding hasKey
-  key-tests h = go (eqb k 0) refl
+  key-tests has h f = rw (← f) (go (eqb k 0) refl)
     where
-      go : (t : Bool) → eqb k 0 ≡ t → not t && (not (eqb k 10) && not (Bool·beq (getD s k false) negated)) ≡ lineKey k && xor negated (getD s k false)
+      go : (t : Bool) → eqb k 0 ≡ t → not t && (not (eqb k 10) && has) ≡ lineKey k && has
       go true e = rw (eqb-true k 0 e)
-      go false e = rw (← key-test k h e, unlike)
+      go false e = rw (← key-test k h e)
 
 -- what a set puts into the words of its keys
-module _ (s : List Bool) (negated : Bool) (states : ℕ) where
-  no-key-high : (k : ℕ) → 256 ≤ k → hasKey s negated k ≡ false
+module _ (case : Case) (s : List Bool) (negated : Bool) (states : ℕ) where
+  no-key-high : (k : ℕ) → 256 ≤ k → hasKey case s negated k ≡ false
   unfolding hasKey
   no-key-high k h = let g : 255 < k = omega arith in rw (lt-leb k 255 g) (rw (and-false (leb 1 k)))
 
-  pub keys-first : (keys : List ℕ) → keys ≡ partly (withKey s negated states) 0 keys
-  keys-first keys = entry-none (withKey s negated states) keys
+  pub keys-first : (keys : List ℕ) → keys ≡ partly (withKey case s negated states) 0 keys
+  keys-first keys = entry-none (withKey case s negated states) keys
 
-  module _ (k : ℕ) (now before : List ℕ) (inv : now ≡ partly (withKey s negated states) k before) where
-    module _ (has : Bool) (e : has ≡ hasKey s negated k) where
-      pub keys-in : (after : List ℕ) → after ≡ set now k (bitOr (getD now k 0) states) → has ≡ true → after ≡ partly (withKey s negated states) (k + 1) before
+  module _ (k : ℕ) (now before : List ℕ) (inv : now ≡ partly (withKey case s negated states) k before) where
+    module _ (has : Bool) (e : has ≡ hasKey case s negated k) where
+      pub keys-in : (after : List ℕ) → after ≡ set now k (bitOr (getD now k 0) states) → has ≡ true → after ≡ partly (withKey case s negated states) (k + 1) before
       unfolding withKey
-      keys-in after g h = g ∙ entry-set 0 (withKey s negated states) k now before inv (bitOr (getD now k 0) states) (rw (sym e ∙ h))
+      keys-in after g h = g ∙ entry-set 0 (withKey case s negated states) k now before inv (bitOr (getD now k 0) states) (rw (sym e ∙ h))
 
-      pub keys-out : (after : List ℕ) → after ≡ now → has ≡ false → after ≡ partly (withKey s negated states) (k + 1) before
+      pub keys-out : (after : List ℕ) → after ≡ now → has ≡ false → after ≡ partly (withKey case s negated states) (k + 1) before
       unfolding withKey
-      keys-out after g h = g ∙ entry-kept 0 (withKey s negated states) k now before inv (rw (sym e ∙ h))
+      keys-out after g h = g ∙ entry-kept 0 (withKey case s negated states) k now before inv (rw (sym e ∙ h))
 
-    pub keys-last : 256 ≤ k → now ≡ mapWith (withKey s negated states) 0 before
+    pub keys-last : 256 ≤ k → now ≡ mapWith (withKey case s negated states) 0 before
     unfolding withKey
-    keys-last h = entry-last 0 (withKey s negated states) k now before inv (λ j x g. rw (no-key-high j (omega arith)))
+    keys-last h = entry-last 0 (withKey case s negated states) k now before inv (λ j x g. rw (no-key-high j (omega arith)))

@@ -4,6 +4,7 @@ use native.Mathlib.Omega.{arith}
 use mathlib.Core.Path.{_≡_, ap}
 use mathlib.Core.List.{List}
 use lib.ListN.{length, drop, length-drop}
+use Rattle.letters.specs.declared.Case.{Case}
 use Rattle.brackets.specs.declared.atom.AtomRead.{AtomRead}
 use Rattle.brackets.specs.declared.atom.AtomRead.the-variants.{At, Fault}
 use Rattle.brackets.specs.Form.{Atom}
@@ -15,16 +16,16 @@ module _ (o : Parsed Atom) where
   pub fault-place : (n : ℕ) → o ≡ fault → Fault ≡ placeBehind n o
   fault-place n e = rw e
 
-  pub fault-table : (states : ℕ) (keys : List ℕ) → o ≡ fault → keys ≡ keysBehind o states keys
-  fault-table states keys e = rw e
+  pub fault-table : (case : Case) (states : ℕ) (keys : List ℕ) → o ≡ fault → keys ≡ keysBehind case o states keys
+  fault-table case states keys e = rw e
 
   -- another parse gives the same answer
   module _ (q : Parsed Atom) (e : o ≡ q) where
     pub same-place : (n : ℕ) (r : AtomRead) → r ≡ placeBehind n q → r ≡ placeBehind n o
     same-place n r f = rw e f
 
-    pub same-table : (states : ℕ) (before after : List ℕ) → after ≡ keysBehind q states before → after ≡ keysBehind o states before
-    same-table states before after f = rw e f
+    pub same-table : (case : Case) (states : ℕ) (before after : List ℕ) → after ≡ keysBehind case q states before → after ≡ keysBehind case o states before
+    same-table case states before after f = rw e f
 
 -- what was read ends before place q
 pub behind-place : (a : Atom) (s : List ℕ) (q : ℕ) → q ≤ length s → At q ≡ placeBehind (length s) (parsed a (drop q s))

@@ -10,6 +10,7 @@ use lib.Dec.{eqb}
 use lib.ListN.{length, drop, getD, drop-of-length-le, List·getD-eq-default}
 use lib.Seq.{drop-cons, drop-length, getD-drop, drop-drop}
 use borrow.Author.Tests.{eq-eqb, ne-eqb, le-leb, not-true, not-false}
+use Rattle.letters.specs.declared.Case.{Case}
 use Rattle.brackets.specs.declared.atom.AtomRead.{AtomRead}
 use Rattle.brackets.specs.declared.atom.AtomRead.the-variants.{At}
 use Rattle.brackets.specs.Form.{Atom, marks, dot, plain, escaped}
@@ -47,8 +48,8 @@ module _ (s : List ℕ) (p : ℕ) where
     ends : p + k ≤ length s → At (p + k) ≡ placeBehind (length s) (atomAt s p)
     ends h = same-place (atomAt s p) (parsed a (drop (p + k) s)) e (length s) (At (p + k)) (behind-place a s (p + k) h)
 
-    stores : (states : ℕ) (before after : List ℕ) → after ≡ keysWith a states before → after ≡ keysBehind (atomAt s p) states before
-    stores states before after f = same-table (atomAt s p) (parsed a (drop (p + k) s)) e states before after f
+    stores : (case : Case) (states : ℕ) (before after : List ℕ) → after ≡ keysWith case a states before → after ≡ keysBehind case (atomAt s p) states before
+    stores case states before after f = same-table (atomAt s p) (parsed a (drop (p + k) s)) e case states before after f
 
   module _ (b : ℕ) (e : b ≡ getD s p 0) where
     front : at 0 (drop p s) ≡ b
@@ -62,7 +63,7 @@ module _ (s : List ℕ) (p : ℕ) where
       pub dot-place : p < length s → At (p + 1) ≡ placeBehind (length s) (atomAt s p)
       dot-place l = ends dot 1 atom-dot (omega arith)
 
-      pub dot-table : (states : ℕ) (before after : List ℕ) → after ≡ keysWith dot states before → after ≡ keysBehind (atomAt s p) states before
+      pub dot-table : (case : Case) (states : ℕ) (before after : List ℕ) → after ≡ keysWith case dot states before → after ≡ keysBehind case (atomAt s p) states before
       dot-table = stores dot 1 atom-dot
 
     module _ (no-dot : b ≡ 46 → ⊥) where
@@ -74,7 +75,7 @@ module _ (s : List ℕ) (p : ℕ) where
         pub bracket-place : (r : AtomRead) → r ≡ placeBehind (length s) (bracketWithin (length s) (drop (p + 1) s)) → r ≡ placeBehind (length s) (atomAt s p)
         bracket-place = same-place (atomAt s p) (bracketWithin (length s) (drop (p + 1) s)) atom-bracket (length s)
 
-        pub bracket-table : (states : ℕ) (before after : List ℕ) → after ≡ keysBehind (bracketWithin (length s) (drop (p + 1) s)) states before → after ≡ keysBehind (atomAt s p) states before
+        pub bracket-table : (case : Case) (states : ℕ) (before after : List ℕ) → after ≡ keysBehind case (bracketWithin (length s) (drop (p + 1) s)) states before → after ≡ keysBehind case (atomAt s p) states before
         bracket-table = same-table (atomAt s p) (bracketWithin (length s) (drop (p + 1) s)) atom-bracket
 
       module _ (no-bracket : b ≡ 91 → ⊥) where
@@ -98,7 +99,7 @@ module _ (s : List ℕ) (p : ℕ) where
                 ]
 
             -- an escaped byte has the keys of a plain one
-            pub escaped-table : (states : ℕ) (before after : List ℕ) → after ≡ keysWith (plain x) states before → after ≡ keysBehind (atomAt s p) states before
+            pub escaped-table : (case : Case) (states : ℕ) (before after : List ℕ) → after ≡ keysWith case (plain x) states before → after ≡ keysBehind case (atomAt s p) states before
             unfolding setOf named
             escaped-table = stores (escaped x) 2 atom-escaped
 
@@ -115,5 +116,5 @@ module _ (s : List ℕ) (p : ℕ) where
             pub plain-place : p < length s → At (p + 1) ≡ placeBehind (length s) (atomAt s p)
             plain-place l = ends (plain b) 1 atom-plain (omega arith)
 
-            pub plain-table : (states : ℕ) (before after : List ℕ) → after ≡ keysWith (plain b) states before → after ≡ keysBehind (atomAt s p) states before
+            pub plain-table : (case : Case) (states : ℕ) (before after : List ℕ) → after ≡ keysWith case (plain b) states before → after ≡ keysBehind case (atomAt s p) states before
             plain-table = stores (plain b) 1 atom-plain

@@ -2,11 +2,12 @@
 use Prim.Native.Nat.{ℕ, zero, suc, _+_, _-_, _<_, _≤_}
 use native.Mathlib.Omega.{arith}
 use mathlib.Core.Path.{_≡_, refl, sym, ap, _∙_}
-use mathlib.Core.Bool.{Bool, true, false, not, _&&_, cond, xor, and-false, or-false, or-assoc}
+use mathlib.Core.Bool.{Bool, true, false, not, _&&_, cond, and-false, or-false, or-assoc}
 use mathlib.Core.List.{List, [], _∷_}
 use lib.Dec.{eqb}
 use lib.ListN.{length, getD, drop, replicate, length-drop, drop-of-length-le}
 use mir.Val.{boolByte}
+use Rattle.letters.specs.declared.Case.{Case}
 use Rattle.brackets.specs.declared.atom.AtomRead.{AtomRead}
 use Rattle.brackets.specs.declared.atom.AtomRead.the-variants.{At, Fault}
 use Rattle.brackets.specs.declared.element.Element as declared
@@ -17,7 +18,7 @@ use Rattle.brackets.specs.Brackets.{Parsed, parsed, fault, next, done, r
 use Rattle.brackets.specs.Promises.{withElement, withElements, withKey, elementOf, elementShown, elementsFrom, ElementsDone}
 use Rattle.brackets.proofs.Bytes.{first-at}
 use Rattle.brackets.proofs.Entries.{with-same, with-with, with-none}
-use Rattle.brackets.proofs.Stored.{set-stored, set-entry}
+use Rattle.brackets.proofs.Stored.{named-stored, set-entry}
 use Rattle.brackets.proofs.Taken.{Shown, shown-fault, shown-found, none-read}
 use Rattle.runs.proofs.Tests.{clash}
 use Rattle.brackets.specs.Answers.{placeBehind, mapWith, keysBehind}
@@ -103,9 +104,9 @@ module _ (s : List ℕ) (start : ℕ) (before : List Bool) (p : ℕ) (first : Bo
 
 -- a set that has the bytes of some elements
 module _ (es : List Element) (s : List Bool) (negated : Bool) (e : s ≡ mapWith (withElements es) 0 (replicate 256 false)) where
-  bracket-set : (k : ℕ) → k < 256 → xor negated (getD s k false) ≡ named (bracket negated es) k
+  filled-set : (k : ℕ) → k < 256 → getD s k false ≡ named (bracket negated es) k
   unfolding withElements named
-  bracket-set k h = rw (e, set-entry (withElements es) k h)
+  filled-set k h = rw (e, set-entry (withElements es) k h)
 
 -- a set whose elements were read, or not
 module _ (l : List ℕ) (start : ℕ) (s : List Bool) (r : AtomRead) (d : ElementsDone (length l) (elementsFrom start l) (replicate 256 false) s r) where
@@ -162,7 +163,7 @@ module _ (l : List ℕ) (b : ℕ) (e : b ≡ getD l 0 0) where
       unfolding bracketFrom
       text-place = rw (text-read, fill .parse) (fill .place)
 
-      pub text-table : (states : ℕ) (before after : List ℕ) → after ≡ mapWith (withKey s (eqb b 94) states) 0 before → after ≡ keysBehind (readBracket l) states before
+      pub text-table : (case : Case) (states : ℕ) (before after : List ℕ) → after ≡ mapWith (withKey case s (eqb b 94) states) 0 before → after ≡ keysBehind case (readBracket l) states before
       unfolding bracketFrom
-      text-table states before after f =
-          rw (text-read, fill .parse) (f ∙ set-stored (bracket (eqb b 94) (fill .elements)) s (eqb b 94) (bracket-set (fill .elements) s (eqb b 94) (fill .full)) states before)
+      text-table case states before after f =
+          rw (text-read, fill .parse) (f ∙ named-stored case (bracket (eqb b 94) (fill .elements)) s (filled-set (fill .elements) s (eqb b 94) (fill .full)) states before)

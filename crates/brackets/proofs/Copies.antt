@@ -10,6 +10,7 @@ use lib.Seq.{ext-getD, getD-take, getD-drop, length-take-le}
 use borrow.Author.Tests.{lt-ltb, le-leb, lt-leb}
 use mir.Syntax.{w64}
 use mir.Val.{Fits}
+use Rattle.letters.specs.declared.Case.{Case}
 use Rattle.brackets.specs.declared.atom.AtomRead.{AtomRead}
 use Rattle.brackets.specs.declared.atom.AtomRead.the-variants.{At, Fault}
 use Rattle.brackets.specs.Form.{Atom}
@@ -74,8 +75,8 @@ module _ (s : List ℕ) (p : ℕ) where
     copy-size = sym (ap length e ∙ length-drop p s)
 
     module _ (most : length s ≤ 128) where
-      pub copy-table : (states : ℕ) (before after : List ℕ) → after ≡ keysBehind (readBracket part) states before → after ≡ keysBehind (bracketWithin (length s) (drop p s)) states before
-      copy-table states before after h = rw (within s (drop p s) most, ← e) h
+      pub copy-table : (case : Case) (states : ℕ) (before after : List ℕ) → after ≡ keysBehind case (readBracket part) states before → after ≡ keysBehind case (bracketWithin (length s) (drop p s)) states before
+      copy-table case states before after h = rw (within s (drop p s) most, ← e) h
 
       module _ (r : AtomRead) (d : r ≡ placeBehind (length part) (readBracket part)) where
         read : r ≡ placeBehind (length s - p) (readBracket (drop p s))

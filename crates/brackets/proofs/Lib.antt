@@ -12,6 +12,7 @@ pub mod Elements
 pub mod Entries
 pub mod Parses
 pub mod Ranges
+pub mod SetLaws
 pub mod Shorter
 pub mod Stored
 pub mod Taken

@@ -4,6 +4,7 @@ use mathlib.Core.Bool.{cond}
 use mathlib.Core.List.{List, [], _∷_}
 use lib.Bits.{bitOr}
 use lib.ListN.{length}
+use Rattle.letters.specs.declared.Case.{Case}
 use Rattle.brackets.specs.declared.atom.AtomRead.{AtomRead}
 use Rattle.brackets.specs.Form.{Atom}
 use Rattle.brackets.specs.Brackets.{Parsed, parsed, fault}
@@ -20,10 +21,10 @@ mapWith f i [] = []
 mapWith f i (x ∷ xs) = f i x ∷ mapWith f (suc i) xs
 
 -- the table that has a word of states for each key, with these states put into the words of an atom's keys
-abbrev pub keysWith : Atom → ℕ → List ℕ → List ℕ
-keysWith a states keys = mapWith (λ k x. cond (setOf a k) (bitOr x states) x) 0 keys
+abbrev pub keysWith : Case → Atom → ℕ → List ℕ → List ℕ
+keysWith c a states keys = mapWith (λ k x. cond (setOf c a k) (bitOr x states) x) 0 keys
 
 -- the table behind an atom: a fault leaves it as it was
-abbrev pub keysBehind : Parsed Atom → ℕ → List ℕ → List ℕ
-keysBehind (parsed a rest) states keys = keysWith a states keys
-keysBehind fault states keys = keys
+abbrev pub keysBehind : Case → Parsed Atom → ℕ → List ℕ → List ℕ
+keysBehind c (parsed a rest) states keys = keysWith c a states keys
+keysBehind c fault states keys = keys

@@ -15,6 +15,8 @@ use Rattle.brackets.specs.Form.{Element, byte, range, class, className, 
 use Rattle.brackets.specs.Brackets.{Parsed, parsed, fault, readElements}
 use Rattle.brackets.specs.Sets.{Range, classRanges, inElement, inElements}
 use Rattle.brackets.specs.Answers.{mapWith}
+use Rattle.letters.specs.declared.Case.{Case}
+use Rattle.letters.specs.Letters.{folded}
 use Rattle.runs.specs.Keys.{lineKey}
 
 -- an entry of a set, with the bytes of an element added, or of some elements
@@ -24,13 +26,13 @@ withElement e k x = x || inElement k e
 unfoldable pub withElements : List Element → ℕ → Bool → Bool
 withElements es k x = x || inElements k es
 
--- "Every set says no for 0 and for LF": a key of a set of bytes, or of all others if it is negated
-unfoldable pub hasKey : List Bool → Bool → ℕ → Bool
-hasKey set negated k = lineKey k && xor negated (getD set k false)
+-- "Every set says no for 0 and for LF": a key of a set of bytes with its letters folded, or of all others if it is negated
+unfoldable pub hasKey : Case → List Bool → Bool → ℕ → Bool
+hasKey c set negated k = lineKey k && xor negated (folded c (λ j. getD set j false) k)
 
 -- a key's word, with these states put into it if the key is in the set
-unfoldable pub withKey : List Bool → Bool → ℕ → ℕ → ℕ → ℕ
-withKey set negated states k x = cond (hasKey set negated k) (bitOr x states) x
+unfoldable pub withKey : Case → List Bool → Bool → ℕ → ℕ → ℕ → ℕ
+withKey c set negated states k x = cond (hasKey c set negated k) (bitOr x states) x
 
 -- a list with 0 behind it, n numbers in all
 abbrev pub padded : ℕ → List ℕ → List ℕ

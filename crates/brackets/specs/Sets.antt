@@ -5,6 +5,8 @@ use mathlib.Core.List.{List, [], _∷_}
 use lib.Dec.{leb, eqb}
 use lib.ListN.{getD}
 use Rattle.brackets.specs.Form.{Element, byte, range, class, Atom, plain, dot, escaped, bracket}
+use Rattle.letters.specs.declared.Case.{Case}
+use Rattle.letters.specs.Letters.{folded}
 use Rattle.runs.specs.Keys.{lineKey}
 
 -- a range of bytes, both ends in it
@@ -46,13 +48,26 @@ unfoldable pub inElements : ℕ → List Element → Bool
 inElements k [] = false
 inElements k (e ∷ es) = inElement k e || inElements k es
 
--- the bytes that an atom names; a leading `^` is "for all keys but these"
+-- the bytes that an atom names
 unfoldable pub named : Atom → ℕ → Bool
 named (plain b) k = eqb k b
 named dot k = true
 named (escaped b) k = eqb k b
-named (bracket n es) k = xor n (inElements k es)
+named (bracket n es) k = inElements k es
 
--- "Every set says no for 0 and for LF, also where a range or class covers them"
-unfoldable pub setOf : Atom → ℕ → Bool
-setOf a k = lineKey k && named a k
+-- a leading `^` is "for all keys but these"
+abbrev pub negated : Atom → Bool
+negated (plain b) = false
+negated dot = false
+negated (escaped b) = false
+negated (bracket n es) = n
+
+-- the sets of the atoms: whether a key is in the set of an atom
+abbrev pub Sets : Type 0
+Sets = Atom → ℕ → Bool
+
+-- The set of an atom. Document 02, S-1: with case ignored the letters are folded, and "Inside a bracket this happens before a leading `^` turns
+-- the set round." "Every set says no for 0 and for LF, also where a range or class covers them". Without the choice it is document 01's
+-- (`plain-set`, `dot-set`, `escaped-set`, `bracket-set`).
+unfoldable pub setOf : Case → Sets
+setOf c a k = lineKey k && xor (negated a) (folded c (named a) k)

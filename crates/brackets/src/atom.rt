@@ -3,6 +3,7 @@ use crate::bracket::read_bracket;
 use crate::look::peek;
 use crate::set::store_dot;
 use crate::set::store_key;
+use letters::Case;
 ghost use mathlib.Core.Path.{_≡_};
 ghost use lib.ListN.{length};
 ghost use Rattle.brackets.specs.Form.{marks};
@@ -34,32 +35,32 @@ fn is_mark(b: u8) -> bool
 }
 
 // The atom at a place. Its keys get these states into their words; a fault leaves the words as they are.
-pub fn read_atom(s: &[u8], at: usize, states: u64, keys: &mut [u64; 256]) -> AtomRead
+pub fn read_atom(s: &[u8], at: usize, case: Case, states: u64, keys: &mut [u64; 256]) -> AtomRead
     ensures place { λ r. ⌜ r ≡ placeBehind (length (now (s .entry))) (atomAt (now (s .entry)) at) ⌝ }
-    ensures table { λ _. ⌜ now (keys .exit) ≡ keysBehind (atomAt (now (s .entry)) at) states (now (keys .entry)) ⌝ }
+    ensures table { λ _. ⌜ now (keys .exit) ≡ keysBehind case (atomAt (now (s .entry)) at) states (now (keys .entry)) ⌝ }
 {
     if at >= s.len() {
         return AtomRead::Fault;
     }
     let b = peek(s, at);
     if b == b'.' {
-        store_dot(states, keys);
+        store_dot(case, states, keys);
         return AtomRead::At(at + 1);
     }
     if b == b'[' {
-        return read_bracket(s, at + 1, states, keys);
+        return read_bracket(s, at + 1, case, states, keys);
     }
     if b == b'\\' {
         let escaped = peek(s, at + 1);
         if !is_mark(escaped) {
             return AtomRead::Fault;
         }
-        store_key(escaped, states, keys);
+        store_key(escaped, case, states, keys);
         return AtomRead::At(at + 2);
     }
     if (b == 0) | is_mark(b) {
         return AtomRead::Fault;
     }
-    store_key(b, states, keys);
+    store_key(b, case, states, keys);
     AtomRead::At(at + 1)
 }

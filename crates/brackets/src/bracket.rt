@@ -6,6 +6,7 @@ use crate::element::read_element;
 use crate::look::peek;
 use crate::set::add_element;
 use crate::set::store;
+use letters::Case;
 ghost use mathlib.Core.Path.{_≡_};
 ghost use Prim.Native.Nat.{_-_, _≤_};
 ghost use lib.ListN.{drop, length, take};
@@ -39,15 +40,15 @@ fn read_elements(text: &[u8], start: usize, set: &mut [bool; 256]) -> AtomRead
 
 // The bytes after `[`: "optional `^` for all keys but these, elements, `]`". The elements start behind the `^`. The keys
 // get these states into their words.
-fn read_text(text: &[u8], states: u64, keys: &mut [u64; 256]) -> AtomRead
+fn read_text(text: &[u8], case: Case, states: u64, keys: &mut [u64; 256]) -> AtomRead
     ensures place { λ r. ⌜ r ≡ placeBehind (length (now (text .entry))) (readBracket (now (text .entry))) ⌝ }
-    ensures table { λ _. ⌜ now (keys .exit) ≡ keysBehind (readBracket (now (text .entry))) states (now (keys .entry)) ⌝ }
+    ensures table { λ _. ⌜ now (keys .exit) ≡ keysBehind case (readBracket (now (text .entry))) states (now (keys .entry)) ⌝ }
 {
     let negated = peek(text, 0) == b'^';
     let mut set = [false; 256];
     match read_elements(text, negated as usize, &mut set) {
         AtomRead::At(end) => {
-            store(&set, negated, states, keys);
+            store(&set, case, negated, states, keys);
             AtomRead::At(end)
         }
         AtomRead::Fault => AtomRead::Fault,
@@ -71,9 +72,15 @@ fn copied(s: &[u8], at: usize) -> [u8; 128]
 
 // The bracket whose `[` stands before a place. Its keys get these states into their words; a fault leaves the words as
 // they are. A text that the copy might not hold is a fault.
-pub(crate) fn read_bracket(s: &[u8], at: usize, states: u64, keys: &mut [u64; 256]) -> AtomRead
+pub(crate) fn read_bracket(
+    s: &[u8],
+    at: usize,
+    case: Case,
+    states: u64,
+    keys: &mut [u64; 256],
+) -> AtomRead
     ensures place { λ r. ⌜ r ≡ placeBehind (length (now (s .entry))) (bracketWithin (length (now (s .entry))) (drop at (now (s .entry)))) ⌝ }
-    ensures table { λ _. ⌜ now (keys .exit) ≡ keysBehind (bracketWithin (length (now (s .entry))) (drop at (now (s .entry)))) states (now (keys .entry)) ⌝ }
+    ensures table { λ _. ⌜ now (keys .exit) ≡ keysBehind case (bracketWithin (length (now (s .entry))) (drop at (now (s .entry)))) states (now (keys .entry)) ⌝ }
 {
     if s.len() > 128 {
         return AtomRead::Fault;
@@ -83,7 +90,7 @@ pub(crate) fn read_bracket(s: &[u8], at: usize, states: u64, keys: &mut [u64; 25
     }
     let copy = copied(s, at);
     let n = s.len() - at;
-    match read_text(&copy[..n], states, keys) {
+    match read_text(&copy[..n], case, states, keys) {
         AtomRead::At(end) => AtomRead::At(at + end),
         AtomRead::Fault => AtomRead::Fault,
     }

@@ -1,6 +1,8 @@
 // The set of an atom's keys: it "says yes or no for every byte value from 0 to 255" (document 01, "Patterns").
 use crate::class::class_at;
 use crate::element::Element;
+use letters::Case;
+use letters::in_set;
 ghost use mathlib.Core.Path.{_≡_};
 ghost use Prim.Native.Nat.{_<_};
 ghost use Rattle.brackets.specs.Form.{byte, class, dot, plain, range};
@@ -52,21 +54,28 @@ pub(crate) fn add_element(set: &mut [bool; 256], e: Element)
     }
 }
 
-// Whether a key is in the set. "Every set says no for 0 and for LF", also a negated one.
-fn has_key(set: &[bool; 256], negated: bool, k: usize) -> bool
+// Whether a key is in the set, whose letters are folded before a `^` turns it round. "Every set says no for 0 and for LF", also a
+// negated one.
+fn has_key(set: &[bool; 256], case: Case, negated: bool, k: usize) -> bool
     requires { ⌜ k < 256 ⌝ }
-    ensures { λ r. ⌜ r ≡ hasKey (now (set .entry)) negated k ⌝ }
+    ensures { λ r. ⌜ r ≡ hasKey case (now (set .entry)) negated k ⌝ }
 {
-    (k != 0) & ((k != 10) & (set[k] != negated))
+    (k != 0) & ((k != 10) & in_set(set, case, negated, k as u8))
 }
 
-// Puts these states into the words of the set's keys.
-pub(crate) fn store(set: &[bool; 256], negated: bool, states: u64, keys: &mut [u64; 256])
-    ensures { λ _. ⌜ now (keys .exit) ≡ mapWith (withKey (now (set .entry)) negated states) 0 (now (keys .entry)) ⌝ }
+// Puts these states into the words of the set's keys. Every atom's set goes through here.
+pub(crate) fn store(
+    set: &[bool; 256],
+    case: Case,
+    negated: bool,
+    states: u64,
+    keys: &mut [u64; 256],
+)
+    ensures { λ _. ⌜ now (keys .exit) ≡ mapWith (withKey case (now (set .entry)) negated states) 0 (now (keys .entry)) ⌝ }
 {
     let mut k = 0;
     while k < 256 {
-        if has_key(set, negated, k) {
+        if has_key(set, case, negated, k) {
             keys[k] |= states;
         }
         k += 1;
@@ -74,18 +83,18 @@ pub(crate) fn store(set: &[bool; 256], negated: bool, states: u64, keys: &mut [u
 }
 
 // The same for the set of one byte.
-pub(crate) fn store_key(b: u8, states: u64, keys: &mut [u64; 256])
-    ensures { λ _. ⌜ now (keys .exit) ≡ keysWith (plain b) states (now (keys .entry)) ⌝ }
+pub(crate) fn store_key(b: u8, case: Case, states: u64, keys: &mut [u64; 256])
+    ensures { λ _. ⌜ now (keys .exit) ≡ keysWith case (plain b) states (now (keys .entry)) ⌝ }
 {
     let mut set = [false; 256];
     add_byte(&mut set, b);
-    store(&set, false, states, keys);
+    store(&set, case, false, states, keys);
 }
 
 // The same for `.`, "every key but LF": all bytes but those of an empty set.
-pub(crate) fn store_dot(states: u64, keys: &mut [u64; 256])
-    ensures { λ _. ⌜ now (keys .exit) ≡ keysWith dot states (now (keys .entry)) ⌝ }
+pub(crate) fn store_dot(case: Case, states: u64, keys: &mut [u64; 256])
+    ensures { λ _. ⌜ now (keys .exit) ≡ keysWith case dot states (now (keys .entry)) ⌝ }
 {
     let set = [false; 256];
-    store(&set, true, states, keys);
+    store(&set, case, true, states, keys);
 }

@@ -4,6 +4,7 @@ use crate::numbers::prepare;
 use crate::numbers::report;
 use crate::numbers::small;
 use crate::show;
+use counter::Case;
 use counter::MOST_WORDS;
 use counter::count_book;
 use counter::join;
@@ -18,24 +19,24 @@ const HEAD: usize = 13;
 const JOINING: usize = 593;
 
 // Counts with these work words. Their hash is printed after a refusal too: it shows what the count left there.
-fn count_in(pattern: &[u8], book: &[u8], m: usize, work: &mut [u64])
+fn count_in(book: &[u8], pattern: &[u8], case: Case, m: usize, work: &mut [u64])
     requires { ⌜ length (now work) ≤ mostWords ⌝ }
 {
     prepare(work);
-    let answer = count_book(book, pattern, m, work);
+    let answer = count_book(book, pattern, case, m, work);
     show::count(answer, hash(work));
 }
 
 // Counts with the first w of the work words: the others are there because an array's length is fixed.
-fn count(pattern: &[u8], book: &[u8], m: usize, w: usize)
+fn count(book: &[u8], pattern: &[u8], case: Case, m: usize, w: usize)
     requires { ⌜ w ≤ mostWords ⌝ }
 {
     let mut work = [0; MOST_WORDS];
-    count_in(pattern, book, m, &mut work[..w]);
+    count_in(book, pattern, case, m, &mut work[..w]);
 }
 
-// `C`: the macro, the work words, the pattern's length, the book's, the pattern and the book.
-pub(crate) fn counting(bytes: &[u8]) -> usize
+// `C`: the macro, the work words, the pattern's length, the book's, the pattern and the book; `c` with case ignored.
+pub(crate) fn counting(bytes: &[u8], case: Case) -> usize
     ensures { λ r. ⌜ r ≤ length (now (bytes .entry)) ⌝ }
 {
     if bytes.len() < HEAD {
@@ -51,7 +52,7 @@ pub(crate) fn counting(bytes: &[u8]) -> usize
     if end > bytes.len() {
         return 0;
     }
-    count(&bytes[HEAD..book], &bytes[book..end], m, w);
+    count(&bytes[book..end], &bytes[HEAD..book], case, m, w);
     end
 }
 

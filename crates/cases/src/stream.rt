@@ -8,6 +8,7 @@ use crate::plain::lines;
 use crate::plain::runs;
 use crate::reach_lists::reaches;
 use crate::show;
+use counter::Case;
 ghost use Prim.Native.Nat.{_≤_};
 ghost use lib.ListN.{length};
 
@@ -20,9 +21,12 @@ fn first(bytes: &[u8]) -> usize
         return 0;
     }
     match bytes[0] {
-        b'L' => lines(bytes),
-        b'R' => runs(bytes),
-        b'C' => counting(bytes),
+        b'L' => lines(bytes, Case::Sensitive),
+        b'l' => lines(bytes, Case::Ignored),
+        b'R' => runs(bytes, Case::Sensitive),
+        b'r' => runs(bytes, Case::Ignored),
+        b'C' => counting(bytes, Case::Sensitive),
+        b'c' => counting(bytes, Case::Ignored),
         b'K' => checks(bytes),
         b'B' => bodies(bytes),
         b'H' => reaches(bytes),

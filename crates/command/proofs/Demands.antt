@@ -10,12 +10,14 @@ use mathlib.Core.Option.{none, some}
 use lib.Dec.{ltb}
 use lib.ListN.{length, replicate, length-replicate}
 use borrow.Author.Tests.{ltb-true, le-ltb}
+use Rattle.letters.specs.declared.Case.{Case}
 use Rattle.refusal.specs.declared.Refusal.the-variants.{NoSuchMacro, InsufficientSpace}
 use Rattle.runs.proofs.Tests.{clash}
 use Rattle.book.specs.Format.{Macro}
 use Rattle.book.specs.Reading.{Reading, got, refused, readBook}
 use Rattle.book.proofs.Refusals.{book-refusals}
 use Rattle.pattern.specs.Form.{Pattern}
+use Rattle.pattern.specs.Meaning.{query}
 use Rattle.pattern.specs.Reader as reader
 use Rattle.pattern.proofs.Accepts.{pattern-refusals}
 use Rattle.reports.specs.declared.total.Total.{Total}
@@ -39,37 +41,37 @@ counted : (z : Total) (k : ℕ) (v : List ℕ) → CommandRefusal (finishedBy z 
 counted (Total.Lines n) k v = inl (omega arith)
 counted Total.TooMany k v = inr refl
 
-module _ (b p : List ℕ) (m : ℕ) (work : List ℕ) (enough : length work ≡ mostWords) where
-  of-count : CommandRefusal (countResult (readBook b) (reader.readPattern p) m work .refusal)
+module _ (c : Case) (b p : List ℕ) (m : ℕ) (work : List ℕ) (enough : length work ≡ mostWords) where
+  of-count : CommandRefusal (countResult c (readBook b) (reader.readPattern p) m work .refusal)
   of-count = go (readBook b) refl (reader.readPattern p) refl
     where
-      space : (ms : List Macro) (t : Pattern) → (m < length ms → needed t m ≤ mostWords) → (x : Bool) → ltb m (length ms) ≡ x → CommandRefusal (cond x (cond (ltb (length work) (needed t m)) (stopped InsufficientSpace work) (countOf t ms m work)) (stopped NoSuchMacro work) .refusal)
+      space : (ms : List Macro) (t : Pattern) → (m < length ms → needed (query c t) m ≤ mostWords) → (x : Bool) → ltb m (length ms) ≡ x → CommandRefusal (cond x (cond (ltb (length work) (needed (query c t) m)) (stopped InsufficientSpace work) (countOf (query c t) ms m work)) (stopped NoSuchMacro work) .refusal)
       space ms t room true e =
-          let few : needed t m ≤ length work = rw enough (room (ltb-true m (length ms) e)) in
-          rw (le-ltb (length work) (needed t m) few) (counted (totalOf (matchingLines t ms m)) (steps t ms m) (filled t ms m work))
+          let few : needed (query c t) m ≤ length work = rw enough (room (ltb-true m (length ms) e)) in
+          rw (le-ltb (length work) (needed (query c t) m) few) (counted (totalOf (matchingLines (query c t) ms m)) (steps (query c t) ms m) (filled (query c t) ms m work))
       space ms t room false e = inl (omega arith)
 
-      go : (g : Reading (List Macro)) → readBook b ≡ g → (q : reader.Read) → reader.readPattern p ≡ q → CommandRefusal (countResult g q m work .refusal)
-      go (refused r) d q e = rw (count-refused-book m work r q) (inl (omega (arith, book-refusals b r d)))
-      go (got ms rest) d (reader.refused r) e = rw (count-refused-pattern m work ms rest r) (inl (omega (arith, pattern-refusals p r e .1)))
+      go : (g : Reading (List Macro)) → readBook b ≡ g → (q : reader.Read) → reader.readPattern p ≡ q → CommandRefusal (countResult c g q m work .refusal)
+      go (refused r) d q e = rw (count-refused-book c m work r q) (inl (omega (arith, book-refusals b r d)))
+      go (got ms rest) d (reader.refused r) e = rw (count-refused-pattern c m work ms rest r) (inl (omega (arith, pattern-refusals p r e .1)))
       go (got ms rest) d (reader.accepted t) e =
-          rw (count-accepted m work ms rest t)
-          (space ms t (λ l. needed-most b p t m e (rw d l)) (ltb m (length ms)) refl)
+          rw (count-accepted c m work ms rest t)
+          (space ms t (λ l. needed-most c b p t m e (rw d l)) (ltb m (length ms)) refl)
 
 -- the count of a macro, of the last one, and of the one that a text names
-module _ (b p : List ℕ) where
-  pub macro-refusals : (m : ℕ) → CommandRefusal (macroAnswer b p m .refusal)
+module _ (c : Case) (b p : List ℕ) where
+  pub macro-refusals : (m : ℕ) → CommandRefusal (macroAnswer c b p m .refusal)
   unfolding macroAnswer
-  macro-refusals m = of-count b p m (replicate mostWords 0) (length-replicate {A = ℕ} mostWords 0)
+  macro-refusals m = of-count c b p m (replicate mostWords 0) (length-replicate {A = ℕ} mostWords 0)
 
-  pub last-refusals : CommandRefusal (lastAnswer b p .refusal)
+  pub last-refusals : CommandRefusal (lastAnswer c b p .refusal)
   unfolding lastAnswer lastResult
-  last-refusals = of-count b p (lastMacro (readBook b)) (replicate mostWords 0) (length-replicate {A = ℕ} mostWords 0)
+  last-refusals = of-count c b p (lastMacro (readBook b)) (replicate mostWords 0) (length-replicate {A = ℕ} mostWords 0)
 
-  pub named-refusals : (text : List ℕ) (t : Told) → namedAnswer b p text ≡ some t → CommandRefusal (t .refusal)
+  pub named-refusals : (text : List ℕ) (t : Told) → namedAnswer c b p text ≡ some t → CommandRefusal (t .refusal)
   unfolding namedAnswer
   named-refusals text t e = go (isNumber text) e
     where
-      go : (x : Bool) → cond x (some (macroAnswer b p (decimal text))) none ≡ some t → CommandRefusal (t .refusal)
-      go true h = let same : macroAnswer b p (decimal text) ≡ t = cc in rw (← same) (macro-refusals (decimal text))
+      go : (x : Bool) → cond x (some (macroAnswer c b p (decimal text))) none ≡ some t → CommandRefusal (t .refusal)
+      go true h = let same : macroAnswer c b p (decimal text) ≡ t = cc in rw (← same) (macro-refusals (decimal text))
       go false h = clash (cc)

@@ -9,6 +9,7 @@ use lib.Dec.{ltb}
 use lib.ListN.{length, getD, take, drop, replicate, drop-of-length-le, length-drop}
 use lib.Seq.{drop-cons, drop-length, take-all}
 use borrow.Author.Tests.{eq-eqb, ne-eqb, lt-ltb, le-ltb, ltb-true, ltb-false}
+use Rattle.letters.specs.declared.Case.{Case}
 use Rattle.refusal.specs.declared.Refusal.{Refusal}
 use Rattle.refusal.specs.Figures.{Figures}
 use Rattle.refusal.proofs.Number.{number-positive}
@@ -76,9 +77,9 @@ module _ {w : List ℕ} {at : ℕ} (x : Searched w at) where
       omega (arith, x .rest)
 
 -- The whole.
-pub last-counted : (book pattern before : List ℕ) {m : ℕ} {o : Outcome} → m ≡ lastMacro (readBook book) → o ≡ bookResult book pattern m before → o ≡ lastResult book pattern before
+pub last-counted : (c : Case) (book pattern before : List ℕ) {m : ℕ} {o : Outcome} → m ≡ lastMacro (readBook book) → o ≡ bookResult c book pattern m before → o ≡ lastResult c book pattern before
 unfolding lastResult
-last-counted book pattern before e k = k ∙ ap (λ (n : ℕ). bookResult book pattern n before) e
+last-counted c book pattern before e k = k ∙ ap (λ (n : ℕ). bookResult c book pattern n before) e
 
 pub answer-long : (w work : List ℕ) → 8192 < length w → stopped InputTooLong work ≡ programResult w work
 unfolding programResult
@@ -90,7 +91,7 @@ bookFrom w start = take (length w - start) (drop start w)
 
 -- an input that is not too long, where its pattern ends, and where its book starts
 module _ (w : List ℕ) {end start : ℕ} (h : length w ≤ 8192) (e : end ≡ patternEnd w) (f : start ≡ min (end + 1) (length w)) where
-  pub answer-book : (before after : List ℕ) (r : BookCount) → outcome r after ≡ lastResult (bookFrom w start) (take end w) before → outcome r after ≡ programResult w before
+  pub answer-book : (before after : List ℕ) (r : BookCount) → outcome r after ≡ lastResult Case.Sensitive (bookFrom w start) (take end w) before → outcome r after ≡ programResult w before
   unfolding programResult
   answer-book before after r k =
       let book : bookFrom w start ≡ drop (suc (patternEnd w)) w = take-all (length w - start) (drop start w) (rw length-drop (omega arith)) ∙ ap (λ (n : ℕ). drop n w) f ∙ behind (end + 1) ∙ ap (λ (n : ℕ). drop n w) (add-one end ∙ ap suc e) in
@@ -119,10 +120,10 @@ module _ (r : BookCount) (after : List ℕ) where
   unfolding programAnswer
   program-told w e = told-of e
 
-  pub macro-told : (book pattern : List ℕ) (m : ℕ) → outcome r after ≡ bookResult book pattern m (replicate mostWords 0) → toldBy r ≡ macroAnswer book pattern m
+  pub macro-told : (c : Case) (book pattern : List ℕ) (m : ℕ) → outcome r after ≡ bookResult c book pattern m (replicate mostWords 0) → toldBy r ≡ macroAnswer c book pattern m
   unfolding macroAnswer
-  macro-told book pattern m e = told-of e
+  macro-told c book pattern m e = told-of e
 
-  pub last-told : (book pattern : List ℕ) → outcome r after ≡ lastResult book pattern (replicate mostWords 0) → toldBy r ≡ lastAnswer book pattern
+  pub last-told : (c : Case) (book pattern : List ℕ) → outcome r after ≡ lastResult c book pattern (replicate mostWords 0) → toldBy r ≡ lastAnswer c book pattern
   unfolding lastAnswer
-  last-told book pattern e = told-of e
+  last-told c book pattern e = told-of e

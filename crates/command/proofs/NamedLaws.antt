@@ -8,6 +8,7 @@ use mathlib.Core.Option.{none, some}
 use lib.Dec.{leb}
 use lib.ListN.{replicate}
 use borrow.Author.Tests.{leb-true, leb-false}
+use Rattle.letters.specs.declared.Case.{Case}
 use Rattle.decimals.specs.declared.number.Number.{Number}
 use Rattle.decimals.specs.Decimals.{decimal, numberIn}
 use Rattle.book.specs.Reading.{readBook}
@@ -19,21 +20,21 @@ use Rattle.decimals.proofs.NumberLaws.{number-value, number-none}
 use Rattle.counter.proofs.Demands.{beyond-alike}
 
 -- A number from 1,024 on is refused like 1,024: no book has such a macro.
-pub asked-alike : (b : List ℕ) (p : reader.Read) (n : ℕ) (work : List ℕ) → countResult (readBook b) p (min n 1024) work ≡ countResult (readBook b) p n work
-asked-alike b p n work = go (leb n 1024) refl
+pub asked-alike : (c : Case) (b : List ℕ) (p : reader.Read) (n : ℕ) (work : List ℕ) → countResult c (readBook b) p (min n 1024) work ≡ countResult c (readBook b) p n work
+asked-alike c b p n work = go (leb n 1024) refl
   where
-    go : (x : Bool) → leb n 1024 ≡ x → countResult (readBook b) p (min n 1024) work ≡ countResult (readBook b) p n work
+    go : (x : Bool) → leb n 1024 ≡ x → countResult c (readBook b) p (min n 1024) work ≡ countResult c (readBook b) p n work
     go true l = let h = leb-true n 1024 l in let same : min n 1024 ≡ n = omega arith in rw same refl
-    go false l = let h = leb-false n 1024 l in beyond-alike b p (min n 1024) n work (omega arith) (omega arith)
+    go false l = let h = leb-false n 1024 l in beyond-alike c b p (min n 1024) n work (omega arith) (omega arith)
 
 -- What is told of the macro that a text names.
-module _ (book pattern text : List ℕ) {a : Number} (e : a ≡ numberIn text) where
-  pub named-told : {t : Told} {m : ℕ} → a ≡ Number.Value m → t ≡ macroAnswer book pattern m → some t ≡ namedAnswer book pattern text
+module _ (c : Case) (book pattern text : List ℕ) {a : Number} (e : a ≡ numberIn text) where
+  pub named-told : {t : Told} {m : ℕ} → a ≡ Number.Value m → t ≡ macroAnswer c book pattern m → some t ≡ namedAnswer c book pattern text
   unfolding namedAnswer macroAnswer
   named-told {t} {m} f g =
       let (is, number) = number-value text e f in
-      rw is (ap some (g ∙ rw number (ap (λ (o : Outcome). told o) (asked-alike book (reader.readPattern pattern) (decimal text) (replicate mostWords 0)))))
+      rw is (ap some (g ∙ rw number (ap (λ (o : Outcome). told o) (asked-alike c book (reader.readPattern pattern) (decimal text) (replicate mostWords 0)))))
 
-  pub named-none : a ≡ Number.Malformed → none ≡ namedAnswer book pattern text
+  pub named-none : a ≡ Number.Malformed → none ≡ namedAnswer c book pattern text
   unfolding namedAnswer
   named-none f = rw (number-none text e f) refl

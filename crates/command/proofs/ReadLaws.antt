@@ -8,6 +8,8 @@ use lib.Dec.{leb}
 use lib.ListN.{length, take, length-take, replicate}
 use lib.Seq.{take-all, length-take-le}
 use borrow.Author.Tests.{leb-true, leb-false}
+use Rattle.letters.specs.declared.Case.{Case}
+use Rattle.command.specs.declared.buffer.PatternInput.{PatternInput}
 use Rattle.book.proofs.Prefix.{book-prefix}
 use Rattle.pattern.proofs.Accepts.{pattern-prefix}
 use Rattle.counter.specs.declared.counting.BookCount.{BookCount}
@@ -49,16 +51,16 @@ input-prefix n w work h = go (leb (length w) n) refl
         sym (answer-long (take n w) work (omega arith)) ∙ answer-long w work (omega arith)
 
 -- the count of a macro and of the last one: the book's first 133,128 bytes and the pattern's first 129
-module _ (b p : List ℕ) where
-  pub last-prefix : lastAnswer (take 133128 b) (take 129 p) ≡ lastAnswer b p
+module _ (c : Case) (b p : List ℕ) where
+  pub last-prefix : lastAnswer c (take 133128 b) (take 129 p) ≡ lastAnswer c b p
   unfolding lastAnswer lastResult
   last-prefix = rw (book-prefix 133128 b (omega arith), pattern-prefix 129 p (omega arith)) refl
 
-  pub macro-prefix : (m : ℕ) → macroAnswer (take 133128 b) (take 129 p) m ≡ macroAnswer b p m
+  pub macro-prefix : (m : ℕ) → macroAnswer c (take 133128 b) (take 129 p) m ≡ macroAnswer c b p m
   unfolding macroAnswer
   macro-prefix m = rw (book-prefix 133128 b (omega arith), pattern-prefix 129 p (omega arith)) refl
 
-  pub named-prefix : (text : List ℕ) → namedAnswer (take 133128 b) (take 129 p) text ≡ namedAnswer b p text
+  pub named-prefix : (text : List ℕ) → namedAnswer c (take 133128 b) (take 129 p) text ≡ namedAnswer c b p text
   unfolding namedAnswer
   named-prefix text = rw (macro-prefix (decimal text)) refl
 
@@ -71,24 +73,24 @@ pub answers-read : (input part : List ℕ) (n : ℕ) (r : BookCount) → length 
 unfolding ProgramAnswers
 answers-read input part n r long is e w read = rw (e, is, read, long) (program-prefix w)
 
-module _ (book bytes : List ℕ) (n : ℕ) (pattern text : List ℕ) (k : ℕ) (long : length book ≡ 133128) (wide : length pattern ≡ 129) (is : bytes ≡ take n book) (same : text ≡ take k pattern) where
-  pub last-read : (r : BookCount) → toldBy r ≡ lastAnswer bytes text → LastAnswers book n pattern k r
+module _ (book bytes : List ℕ) (n : ℕ) (pattern text : List ℕ) (a : PatternInput) (long : length book ≡ 133128) (wide : length pattern ≡ 129) (is : bytes ≡ take n book) (same : text ≡ take (a .bytes) pattern) where
+  pub last-read : (r : BookCount) → toldBy r ≡ lastAnswer (a .case) bytes text → LastAnswers book n pattern a r
   unfolding LastAnswers
-  last-read r e b p f g = rw (e, is, same, f, g, long, wide) (last-prefix b p)
+  last-read r e b p f g = rw (e, is, same, f, g, long, wide) (last-prefix (a .case) b p)
 
-  pub named-read : (number : List ℕ) (r : NamedCount) → toldNamed r ≡ namedAnswer bytes text number → NamedAnswers book n pattern k number r
+  pub named-read : (number : List ℕ) (r : NamedCount) → toldNamed r ≡ namedAnswer (a .case) bytes text number → NamedAnswers book n pattern a number r
   unfolding NamedAnswers
-  named-read number r e b p f g = rw (e, is, same, f, g, long, wide) (named-prefix b p number)
+  named-read number r e b p f g = rw (e, is, same, f, g, long, wide) (named-prefix (a .case) b p number)
 
 -- what they promise, for those who go on from it
 pub program-answers : (input : List ℕ) (n : ℕ) (r : BookCount) → ProgramAnswers input n r → (w : List ℕ) → ReadFrom input n w → toldBy r ≡ programAnswer w
 unfolding ProgramAnswers
 program-answers input n r a = a
 
-pub last-answers : (book : List ℕ) (n : ℕ) (pattern : List ℕ) (k : ℕ) (r : BookCount) → LastAnswers book n pattern k r → (b p : List ℕ) → ReadFrom book n b → ReadFrom pattern k p → toldBy r ≡ lastAnswer b p
+pub last-answers : (book : List ℕ) (n : ℕ) (pattern : List ℕ) (a : PatternInput) (r : BookCount) → LastAnswers book n pattern a r → (b p : List ℕ) → ReadFrom book n b → ReadFrom pattern (a .bytes) p → toldBy r ≡ lastAnswer (a .case) b p
 unfolding LastAnswers
-last-answers book n pattern k r a = a
+last-answers book n pattern a r h = h
 
-pub named-answers : (book : List ℕ) (n : ℕ) (pattern : List ℕ) (k : ℕ) (text : List ℕ) (r : NamedCount) → NamedAnswers book n pattern k text r → (b p : List ℕ) → ReadFrom book n b → ReadFrom pattern k p → toldNamed r ≡ namedAnswer b p text
+pub named-answers : (book : List ℕ) (n : ℕ) (pattern : List ℕ) (a : PatternInput) (text : List ℕ) (r : NamedCount) → NamedAnswers book n pattern a text r → (b p : List ℕ) → ReadFrom book n b → ReadFrom pattern (a .bytes) p → toldNamed r ≡ namedAnswer (a .case) b p text
 unfolding NamedAnswers
-named-answers book n pattern k text r a = a
+named-answers book n pattern a text r h = h

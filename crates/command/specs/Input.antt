@@ -5,6 +5,7 @@ use mathlib.Core.List.{List, [], _∷_}
 use lib.Dec.{eqb, ltb}
 use lib.ListN.{length, take, drop, replicate}
 use Rattle.refusal.specs.declared.Refusal.the-variants.{InputTooLong}
+use Rattle.letters.specs.declared.Case.{Case}
 use Rattle.book.specs.Format.{Macro}
 use Rattle.book.specs.Reading.{Reading, got, refused, readBook}
 use Rattle.pattern.specs.Reader.{readPattern}
@@ -31,14 +32,14 @@ lastMacro (got ms rest) = length ms - 1
 lastMacro (refused r) = 0
 
 -- the count of the last macro
-unfoldable pub lastResult : List ℕ → List ℕ → List ℕ → Outcome
-lastResult book pattern work = countResult (readBook book) (readPattern pattern) (lastMacro (readBook book)) work
+unfoldable pub lastResult : Case → List ℕ → List ℕ → List ℕ → Outcome
+lastResult c book pattern work = countResult c (readBook book) (readPattern pattern) (lastMacro (readBook book)) work
 
--- 14: "program only, over 8,192 bytes", which "comes before all"
+-- 14: "program only, over 8,192 bytes", which "comes before all". The program has no choice of case.
 unfoldable pub programResult : List ℕ → List ℕ → Outcome
 programResult w work =
     cond (ltb 8192 (length w)) (stopped InputTooLong work)
-    (lastResult (bookIn w) (patternIn w) work)
+    (lastResult Case.Sensitive (bookIn w) (patternIn w) work)
 
 -- What a program tells: the refusal's number, or 0 with the lines and the steps. The work words are its own.
 pub record Told : Type 0 where
@@ -56,9 +57,9 @@ toldBy r = told (outcome r [])
 unfoldable pub programAnswer : List ℕ → Told
 programAnswer w = told (programResult w (replicate 4096 0))
 
--- the command for people, with 36 words for each of 1,024 macros
-unfoldable pub macroAnswer : List ℕ → List ℕ → ℕ → Told
-macroAnswer book pattern m = told (countResult (readBook book) (readPattern pattern) m (replicate mostWords 0))
+-- the command for people, with case ignored or not, and 36 words for each of 1,024 macros
+unfoldable pub macroAnswer : Case → List ℕ → List ℕ → ℕ → Told
+macroAnswer c book pattern m = told (countResult c (readBook book) (readPattern pattern) m (replicate mostWords 0))
 
-unfoldable pub lastAnswer : List ℕ → List ℕ → Told
-lastAnswer book pattern = told (lastResult book pattern (replicate mostWords 0))
+unfoldable pub lastAnswer : Case → List ℕ → List ℕ → Told
+lastAnswer c book pattern = told (lastResult c book pattern (replicate mostWords 0))

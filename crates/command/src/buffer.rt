@@ -1,4 +1,5 @@
 // What was read into a buffer.
+use letters::Case;
 ghost use mathlib.Core.Path.{_≡_};
 ghost use lib.ListN.{take};
 
@@ -8,6 +9,12 @@ pub const BOOK_READ: usize = 133127 + 1;
 
 // The bytes of a pattern that are read: one more than the longest pattern has.
 pub const PATTERN_READ: usize = 128 + 1;
+
+// How many bytes of a pattern were read, and whether case is ignored.
+pub struct PatternInput {
+    pub bytes: usize,
+    pub case: Case,
+}
 
 // The first n bytes of a buffer, or all of it.
 pub fn read_part<'a>(buffer: &'a [u8], n: usize) -> &'a [u8]

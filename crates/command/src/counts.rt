@@ -1,6 +1,7 @@
 // What the command for people answers to a count: it takes any book, and has work words for each of them.
 use crate::buffer::BOOK_READ;
 use crate::buffer::PATTERN_READ;
+use crate::buffer::PatternInput;
 use crate::buffer::read_part;
 use crate::last::last_in;
 use counter::BookCount;
@@ -8,6 +9,7 @@ use counter::MOST_WORDS;
 use counter::count_book;
 use decimals::Number;
 use decimals::number_in;
+use letters::Case;
 ghost use mathlib.Core.Path.{_≡_};
 ghost use Rattle.command.specs.Input.{lastAnswer, macroAnswer, toldBy};
 ghost use Rattle.command.specs.Named.{namedAnswer, toldNamed};
@@ -20,42 +22,49 @@ pub enum NamedCount {
 }
 
 // How many lines of macro m's run match the pattern, and the steps.
-fn count_macro(book: &[u8], pattern: &[u8], m: usize) -> BookCount
-    ensures { λ r. ⌜ toldBy r ≡ macroAnswer (now (book .entry)) (now (pattern .entry)) m ⌝ }
+fn count_macro(book: &[u8], pattern: &[u8], case: Case, m: usize) -> BookCount
+    ensures { λ r. ⌜ toldBy r ≡ macroAnswer case (now (book .entry)) (now (pattern .entry)) m ⌝ }
 {
     let mut work = [0; MOST_WORDS];
-    count_book(book, pattern, m, &mut work)
+    count_book(book, pattern, case, m, &mut work)
 }
 
 // The same of the macro whose number a text has in decimal digits.
-fn named_in(book: &[u8], pattern: &[u8], text: &[u8]) -> NamedCount
-    ensures { λ r. ⌜ toldNamed r ≡ namedAnswer (now (book .entry)) (now (pattern .entry)) (now (text .entry)) ⌝ }
+fn named_in(book: &[u8], pattern: &[u8], case: Case, text: &[u8]) -> NamedCount
+    ensures { λ r. ⌜ toldNamed r ≡ namedAnswer case (now (book .entry)) (now (pattern .entry)) (now (text .entry)) ⌝ }
 {
     match number_in(text) {
-        Number::Value(m) => NamedCount::Count(count_macro(book, pattern, m)),
+        Number::Value(m) => NamedCount::Count(count_macro(book, pattern, case, m)),
         Number::Malformed => NamedCount::NoNumber,
     }
 }
 
 // The same of the last macro.
-fn last_of(book: &[u8], pattern: &[u8]) -> BookCount
-    ensures { λ r. ⌜ toldBy r ≡ lastAnswer (now (book .entry)) (now (pattern .entry)) ⌝ }
+fn last_of(book: &[u8], pattern: &[u8], case: Case) -> BookCount
+    ensures { λ r. ⌜ toldBy r ≡ lastAnswer case (now (book .entry)) (now (pattern .entry)) ⌝ }
 {
     let mut work = [0; MOST_WORDS];
-    last_in(book, pattern, &mut work)
+    last_in(book, pattern, case, &mut work)
 }
 
-// The count of the macro that a text names, in every book of which these n bytes were read, under every pattern of which these k were.
+// The count of the macro that a text names, in every book of which these n bytes were read, under every pattern of which those asked for
+// were.
 pub fn count_named(
     book: &[u8; BOOK_READ],
     n: usize,
     pattern: &[u8; PATTERN_READ],
-    k: usize,
+    given: PatternInput,
     text: &[u8],
 ) -> NamedCount
-    ensures { λ r. ⌜ NamedAnswers (now (book .entry)) n (now (pattern .entry)) k (now (text .entry)) r ⌝ }
+    ensures { λ r. ⌜ NamedAnswers (now (book .entry)) n (now (pattern .entry)) given (now (text .entry)) r ⌝ }
 {
-    named_in(read_part(book, n), read_part(pattern, k), text)
+    let case = given.case;
+    named_in(
+        read_part(book, n),
+        read_part(pattern, given.bytes),
+        case,
+        text,
+    )
 }
 
 // The same of the last macro.
@@ -63,9 +72,10 @@ pub fn count_last(
     book: &[u8; BOOK_READ],
     n: usize,
     pattern: &[u8; PATTERN_READ],
-    k: usize,
+    given: PatternInput,
 ) -> BookCount
-    ensures { λ r. ⌜ LastAnswers (now (book .entry)) n (now (pattern .entry)) k r ⌝ }
+    ensures { λ r. ⌜ LastAnswers (now (book .entry)) n (now (pattern .entry)) given r ⌝ }
 {
-    last_of(read_part(book, n), read_part(pattern, k))
+    let case = given.case;
+    last_of(read_part(book, n), read_part(pattern, given.bytes), case)
 }

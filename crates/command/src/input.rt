@@ -2,6 +2,7 @@
 use crate::buffer::read_part;
 use crate::last::last_in;
 use counter::BookCount;
+use letters::Case;
 use refusal::Refusal;
 ghost use Prim.Native.Nat.{_≤_, _+_, min};
 ghost use mathlib.Core.Path.{_≡_};
@@ -38,7 +39,7 @@ fn book_start(end: usize, len: usize) -> usize
     if end < len { end + 1 } else { len }
 }
 
-// The count of the last macro of the book behind the pattern, or a refusal: 14 before all else.
+// The count of the last macro of the book behind the pattern, or a refusal: 14 before all else. The program has no choice of case.
 fn answer_in(input: &[u8], work: &mut [u64]) -> BookCount
     ensures { λ r. ⌜ outcome r (now (work .exit)) ≡ programResult (now (input .entry)) (now (work .entry)) ⌝ }
 {
@@ -47,7 +48,7 @@ fn answer_in(input: &[u8], work: &mut [u64]) -> BookCount
     }
     let end = pattern_end(input);
     let start = book_start(end, input.len());
-    last_in(&input[start..], &input[..end], work)
+    last_in(&input[start..], &input[..end], Case::Sensitive, work)
 }
 
 // What the program answers, with its 4,096 work words.

@@ -3,6 +3,7 @@ use book::Checked;
 use book::check;
 use counter::BookCount;
 use counter::count_book;
+use letters::Case;
 ghost use mathlib.Core.Path.{_≡_};
 ghost use Rattle.book.specs.Reading.{readBook};
 ghost use Rattle.counter.specs.Answers.{outcome};
@@ -19,8 +20,8 @@ pub fn last_macro(book: &[u8]) -> usize
 }
 
 // How many lines of the last macro's run match the pattern, and the steps.
-pub(crate) fn last_in(book: &[u8], pattern: &[u8], work: &mut [u64]) -> BookCount
-    ensures { λ r. ⌜ outcome r (now (work .exit)) ≡ lastResult (now (book .entry)) (now (pattern .entry)) (now (work .entry)) ⌝ }
+pub(crate) fn last_in(book: &[u8], pattern: &[u8], case: Case, work: &mut [u64]) -> BookCount
+    ensures { λ r. ⌜ outcome r (now (work .exit)) ≡ lastResult case (now (book .entry)) (now (pattern .entry)) (now (work .entry)) ⌝ }
 {
-    count_book(book, pattern, last_macro(book), work)
+    count_book(book, pattern, case, last_macro(book), work)
 }

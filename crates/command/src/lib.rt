@@ -6,6 +6,7 @@ mod last;
 
 pub use buffer::BOOK_READ;
 pub use buffer::PATTERN_READ;
+pub use buffer::PatternInput;
 pub use buffer::read_part;
 pub use counts::NamedCount;
 pub use counts::count_last;

@@ -17,6 +17,8 @@ use Rattle.book.specs.declared.layout.Checked.{Checked}
 use Rattle.book.specs.declared.layout.Layout.{Layout}
 use Rattle.book.proofs.LayoutLaws.{well-in}
 use Rattle.book.proofs.Expansion.{expansion-run}
+use Rattle.pattern.specs.Meaning.{Query, query}
+use Rattle.letters.specs.declared.Case.{Case}
 use Rattle.pattern.specs.Form.{Pattern}
 use Rattle.pattern.specs.Reader as reader
 use Rattle.pattern.specs.Automata.{Automaton, VerdictOn, KeysFrom, EnterFrom}
@@ -44,14 +46,14 @@ module _ {book offsets : List ℕ} {m : ℕ} {p : Accepting} {before : List ℕ}
   module _ {keys enter after : List ℕ} {n : ℕ} (f : Filled keys enter p (macrosIn book) m before after n) where
     module _ {r : Report} {a : SpanCount} {x : Total} (l : r ≡ loadedAt after (placeOf p m) (p .states)) (i : a ≡ inReport r) (z : x ≡ totalIn p a) where
       -- the count is that of the run
-      counted : (t : Pattern) → Automaton t keys enter p → x ≡ totalOf (matchingLines t (macrosIn book) m)
+      counted : (t : Query) → Automaton t keys enter p → x ≡ totalOf (matchingLines t (macrosIn book) m)
       counted t d =
           let ms = macrosIn book in
           let well = well-in book (g .inside) in
           let there : r ≡ report t (expansion ms m) = l ∙ rw (states-of d) (reports-at t (d .few) ms (suc m) m (omega arith) after (drop (needed t m) before) (f .counts t d .0)) in
           z ∙ ap (totalIn p) (i ∙ ap inReport there ∙ in-report t (expansion ms m)) ∙ total-run d (expansion ms m) (expansion-run ms well m)
 
-      told : (t : Pattern) → Automaton t keys enter p → finishedBy x n after ≡ countOf t (macrosIn book) m before
+      told : (t : Query) → Automaton t keys enter p → finishedBy x n after ≡ countOf t (macrosIn book) m before
       told t d =
           let both = f .counts t d in
           ap (λ (y : Total). finishedBy y n after) (counted t d) ∙ rw (both .1, both .0) refl
@@ -65,32 +67,33 @@ module _ {book offsets : List ℕ} {m : ℕ} {p : Accepting} {before : List ℕ}
       macro-over e t d = ap (λ (y : Total). finishedBy y n after) (sym e) ∙ told t d
 
 -- A refusal leaves the work words; what is settled is counted.
-module _ (book : Reading (List Macro)) (pattern : reader.Read) (m : ℕ) (before : List ℕ) where
-  stopped-by : {r : Refusal} → front book pattern (λ t. needed t m) m (length before) ≡ refused r → stopped r before ≡ countResult book pattern m before
+module _ (c : Case) (book : Reading (List Macro)) (pattern : reader.Read) (m : ℕ) (before : List ℕ) where
+  stopped-by : {r : Refusal} → front book pattern (λ t. needed (query c t) m) m (length before) ≡ refused r → stopped r before ≡ countResult c book pattern m before
   unfolding countResult
   stopped-by e = rw e refl
 
-  counted-by : {ms : List Macro} {t : Pattern} → front book pattern (λ t. needed t m) m (length before) ≡ settled (ms, t) → countOf t ms m before ≡ countResult book pattern m before
+  counted-by : {ms : List Macro} {t : Pattern} → front book pattern (λ t. needed (query c t) m) m (length before) ≡ settled (ms, t) → countOf (query c t) ms m before ≡ countResult c book pattern m before
   unfolding countResult
   counted-by e = rw e refl
 
 -- Any book.
 module _ (book : List ℕ) (l : Layout) (e : layoutFigures l ≡ layoutResult (readBook book)) where
-  pub book-refused : {r : Refusal} (p : reader.Read) (m : ℕ) (before : List ℕ) → l .answer ≡ Checked.Refused r → stopped r before ≡ countResult (readBook book) p m before
-  book-refused p m before f = stopped-by (readBook book) p m before (front-book (readBook book) p (λ t. needed t m) m (length before) (book-refuses book l e f))
+  pub book-refused : {r : Refusal} (c : Case) (p : reader.Read) (m : ℕ) (before : List ℕ) → l .answer ≡ Checked.Refused r → stopped r before ≡ countResult c (readBook book) p m before
+  book-refused c p m before f = stopped-by c (readBook book) p m before (front-book (readBook book) p (λ t. needed (query c t) m) m (length before) (book-refuses book l e f))
 
--- A sound book, and any pattern.
-module _ {book offsets : List ℕ} {macros : ℕ} (i : InBook book offsets macros) (s keys enter keys' enter' : List ℕ) {v : Verdict} where
-  module _ (figures : VerdictOn s v) (keyed : KeysFrom s keys keys') (entered : EnterFrom s enter enter') where
-    pub pattern-refused : (m : ℕ) (before : List ℕ) {r : Refusal} → v ≡ Verdict.Refused r → stopped r before ≡ bookResult book s m before
-    pattern-refused m before e =
-        stopped-by (readBook book) (reader.readPattern s) m before
-        (front-pattern (readBook book) (reader.readPattern s) (λ t. needed t m) m (length before) (i .sound) (pattern-refuses s keys enter keys' enter' figures keyed entered e))
+-- A sound book, and a pattern that is refused.
+module _ {book offsets : List ℕ} {macros : ℕ} (i : InBook book offsets macros) (s : List ℕ) {v : Verdict} {r : Refusal} (figures : VerdictOn s v) (e : v ≡ Verdict.Refused r) where
+  pub pattern-refused : (c : Case) (m : ℕ) (before : List ℕ) → stopped r before ≡ bookResult c book s m before
+  pattern-refused c m before =
+      stopped-by c (readBook book) (reader.readPattern s) m before
+      (front-pattern (readBook book) (reader.readPattern s) (λ t. needed (query c t) m) m (length before) (i .sound) (pattern-refuses s figures e))
 
-    -- an accepted one
+-- A sound book, and a pattern that is accepted.
+module _ {book offsets : List ℕ} {macros : ℕ} (i : InBook book offsets macros) (c : Case) (s keys enter keys' enter' : List ℕ) {v : Verdict} where
+  module _ (figures : VerdictOn s v) (keyed : KeysFrom c s keys keys') (entered : EnterFrom s enter enter') where
     module _ {p : Accepting} (e : v ≡ Verdict.Accepted p) where
-      accepted : InPattern s keys' enter' p
-      accepted = pattern-in s keys enter keys' enter' figures keyed entered e
+      accepted : InPattern c s keys' enter' p
+      accepted = pattern-in c s keys enter keys' enter' figures keyed entered e
 
       -- a size of some words more than states is small
       pub size-fits : (k : ℕ) → leb k 4 ≡ true → p .states + k < 2 ^ 64
@@ -98,11 +101,11 @@ module _ {book offsets : List ℕ} {macros : ℕ} (i : InBook book offsets macro
 
       -- macro m, with these work words
       module _ (m : ℕ) (before : List ℕ) (x : Space) (told : settledBy x ≡ spaceStep macros m (suc m * (p .states + 4)) (length before)) where
-        sized : settledBy x ≡ spaceStep macros m (needed (accepted .tree) m) (length before)
+        sized : settledBy x ≡ spaceStep macros m (needed (query c (accepted .tree)) m) (length before)
         sized = rw (← states-of (accepted .tables)) told
 
-        pub space-refused : {r : Refusal} → x ≡ Space.Refused r → stopped r before ≡ bookResult book s m before
-        space-refused f = stopped-by (readBook book) (reader.readPattern s) m before (front-refuses i accepted (λ t. needed t m) m (length before) x sized f)
+        pub space-refused : {r : Refusal} → x ≡ Space.Refused r → stopped r before ≡ bookResult c book s m before
+        space-refused f = stopped-by c (readBook book) (reader.readPattern s) m before (front-refuses i accepted (λ t. needed (query c t) m) m (length before) x sized f)
 
         module _ (f : x ≡ Space.Enough) where
           pub macro-in : MacroFits book offsets m p before
@@ -115,8 +118,8 @@ module _ {book offsets : List ℕ} {macros : ℕ} (i : InBook book offsets macro
                 room = space-room macros m (suc m * (p .states + 4)) (length before) x told f;
               }
 
-          pub macro-counted : (after : List ℕ) (r : BookCount) → BookCounted keys' enter' p (macrosIn book) m before after r → outcome r after ≡ bookResult book s m before
+          pub macro-counted : (after : List ℕ) (r : BookCount) → BookCounted keys' enter' p (macrosIn book) m before after r → outcome r after ≡ bookResult c book s m before
           unfolding BookCounted
           macro-counted after r g =
-              let settles = front-settles i accepted (λ t. needed t m) m (length before) x sized f in
-              g (accepted .tree) (accepted .tables) ∙ counted-by (readBook book) (reader.readPattern s) m before settles
+              let settles = front-settles i accepted (λ t. needed (query c t) m) m (length before) x sized f in
+              g (query c (accepted .tree)) (accepted .tables) ∙ counted-by c (readBook book) (reader.readPattern s) m before settles

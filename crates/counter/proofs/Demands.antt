@@ -17,6 +17,10 @@ use Rattle.book.specs.Reach.{Reaches, Alike}
 use Rattle.book.specs.Reading.{Reading, got, refused, readBook, macrosIn}
 use Rattle.book.proofs.Coding.{encode-read}
 use Rattle.book.proofs.Reach.{expansion-alike}
+use Rattle.letters.specs.declared.Case.{Case}
+use Rattle.letters.specs.Letters.{SameLetters}
+use Rattle.lines.proofs.CaseLaws.{letters-matching}
+use Rattle.pattern.specs.Meaning.{Query, query}
 use Rattle.pattern.specs.Moves.{states}
 use Rattle.pattern.specs.Reader as reader
 use Rattle.spans.specs.Pairs.{pairs}
@@ -32,33 +36,33 @@ use Rattle.pattern.proofs.Readings.{accepted-few}
 use Rattle.counter.proofs.FrontLaws.{count-refused-book, count-refused-pattern, count-accepted}
 
 -- a sound book, an accepted pattern, a macro of the book, and work space enough
-pub record Countable (b p work : List ℕ) (ms : List Macro) (t : Pattern) (m : ℕ) : Type 0 where
+pub record Countable (c : Case) (b p work : List ℕ) (ms : List Macro) (t : Pattern) (m : ℕ) : Type 0 where
   pub well : wellFormed ms ≡ true
   pub book : b ≡ encode ms
   pub pattern : reader.readPattern p ≡ reader.accepted t
   pub inside : m < length ms
-  pub enough : needed t m ≤ length work
+  pub enough : needed (query c t) m ≤ length work
 
-module _ {b p work : List ℕ} {ms : List Macro} {t : Pattern} {m : ℕ} (a : Countable b p work ms t m) where
+module _ {c : Case} {b p work : List ℕ} {ms : List Macro} {t : Pattern} {m : ℕ} (a : Countable c b p work ms t m) where
   -- what is answered then
-  answer : bookResult b p m work ≡ countOf t ms m work
+  answer : bookResult c b p m work ≡ countOf (query c t) ms m work
   answer =
-      rw (a .book, encode-read ms (a .well), a .pattern, count-accepted, lt-ltb m (length ms) (a .inside), le-ltb (length work) (needed t m) (a .enough)) refl
+      rw (a .book, encode-read ms (a .well), a .pattern, count-accepted, lt-ltb m (length ms) (a .inside), le-ltb (length work) (needed (query c t) m) (a .enough)) refl
 
   -- "the count given equals the number of lines of the macro's written-out run that match"
-  pub count-equals : matchingLines t ms m ≤ most → bookResult b p m work ≡ finished (matchingLines t ms m) (steps t ms m) (filled t ms m work)
-  count-equals h = answer ∙ rw (few-lines (matchingLines t ms m) h) refl
+  pub count-equals : matchingLines (query c t) ms m ≤ most → bookResult c b p m work ≡ finished (matchingLines (query c t) ms m) (steps (query c t) ms m) (filled (query c t) ms m work)
+  count-equals h = answer ∙ rw (few-lines (matchingLines (query c t) ms m) h) refl
 
   -- "It is refused exactly when that number passes 2^64 − 1."
-  pub count-refused : most < matchingLines t ms m → bookResult b p m work ≡ stopped CountOverflow (filled t ms m work)
-  count-refused h = answer ∙ rw (many-lines (matchingLines t ms m) h) refl
+  pub count-refused : most < matchingLines (query c t) ms m → bookResult c b p m work ≡ stopped CountOverflow (filled (query c t) ms m work)
+  count-refused h = answer ∙ rw (many-lines (matchingLines (query c t) ms m) h) refl
 
-  pub refused-exactly : (0 < bookResult b p m work .refusal) ↔ (most < matchingLines t ms m)
-  refused-exactly = (λ h. go (leb (matchingLines t ms m) most) refl h, λ h. rw (count-refused h) (omega arith))
+  pub refused-exactly : (0 < bookResult c b p m work .refusal) ↔ (most < matchingLines (query c t) ms m)
+  refused-exactly = (λ h. go (leb (matchingLines (query c t) ms m) most) refl h, λ h. rw (count-refused h) (omega arith))
     where
-      go : (x : Bool) → leb (matchingLines t ms m) most ≡ x → 0 < bookResult b p m work .refusal → most < matchingLines t ms m
-      go true e h = absurd (omega (arith, h, ap (λ (o : Outcome). o .refusal) (count-equals (leb-true (matchingLines t ms m) most e))))
-      go false e h = leb-false (matchingLines t ms m) most e
+      go : (x : Bool) → leb (matchingLines (query c t) ms m) most ≡ x → 0 < bookResult c b p m work .refusal → most < matchingLines (query c t) ms m
+      go true e h = absurd (omega (arith, h, ap (λ (o : Outcome). o .refusal) (count-equals (leb-true (matchingLines (query c t) ms m) most e))))
+      go false e h = leb-false (matchingLines (query c t) ms m) most e
 
 -- "alike in every macro that the one named reaches"
 abbrev pub AlikeReached : List Macro → List Macro → ℕ → Type 0
@@ -68,18 +72,23 @@ AlikeReached ms ns m = (j : ℕ) → Reaches ms m j → Alike ms ns j
 abbrev pub SameCount : Outcome → Outcome → Type 0
 SameCount x y = (x .refusal ≡ y .refusal) × (x .lines ≡ y .lines)
 
+-- Document 02, S-1: "both are asked with the same choice".
 -- "Two sound books alike in every macro that the one named reaches, whatever their other macros hold, give the same count for it
 -- under the same pattern, each with such work space, or are both refused."
-module _ {b c p work space : List ℕ} {ms ns : List Macro} {t : Pattern} {m : ℕ} (x : Countable b p work ms t m) (y : Countable c p space ns t m) (alike : AlikeReached ms ns m) where
-  pub alike-counts : SameCount (bookResult b p m work) (bookResult c p m space)
-  alike-counts = rw (answer x, answer y, expansion-alike ms ns m alike) (go (totalOf (matchingLines t ns m)) (steps t ms m) (steps t ns m) (filled t ms m work) (filled t ns m space))
+module _ {case : Case} {b c p work space : List ℕ} {ms ns : List Macro} {t : Pattern} {m : ℕ} (x : Countable case b p work ms t m) (y : Countable case c p space ns t m) (alike : AlikeReached ms ns m) where
+  pub alike-counts : SameCount (bookResult case b p m work) (bookResult case c p m space)
+  alike-counts = rw (answer x, answer y, expansion-alike ms ns m alike) (go (totalOf (matchingLines (query case t) ns m)) (steps (query case t) ms m) (steps (query case t) ns m) (filled (query case t) ms m work) (filled (query case t) ns m space))
     where
       go : (z : Total) (k j : ℕ) (v w : List ℕ) → SameCount (finishedBy z k v) (finishedBy z j w)
       go (Total.Lines n) k j v w = (refl, refl)
       go Total.TooMany k j v w = (refl, refl)
 
+-- Runs that differ only in the case of letters have as many lines that match where case is ignored, in whatever books they stand.
+pub letters-count : (t : Pattern) (ms ns : List Macro) (m n : ℕ) → SameLetters (expansion ms m) (expansion ns n) → matchingLines (query Case.Ignored t) ms m ≡ matchingLines (query Case.Ignored t) ns n
+letters-count t ms ns m n e = letters-matching t (expansion ms m) (expansion ns n) e
+
 -- "are never more than the number of items in the macros up to the one named, times the square of the number of states"
-module _ (t : Pattern) where
+module _ (t : Query) where
   pub steps-bound : (ms : List Macro) (m : ℕ) → steps t ms m ≤ itemsTo ms m * (states t * states t)
   unfolding steps itemsTo itemSteps
   steps-bound ms m = sum-scale (suc m) (states t * states t) (stepsWithin t ms) (λ i. length (getD ms i [])) (λ i. within (getD ms i []))
@@ -88,22 +97,22 @@ module _ (t : Pattern) where
       within items = sum-le (length items) (states t * states t) (λ k. pairs t (expand (λ j. expansion ms j) (take k items))) (λ k l. pairs-square t (expand (λ j. expansion ms j) (take k items)))
 
 -- So many words are enough for every sound book and accepted pattern.
-pub needed-most : (b p : List ℕ) (t : Pattern) (m : ℕ) → reader.readPattern p ≡ reader.accepted t → m < length (macrosIn b) → needed t m ≤ mostWords
-needed-most b p t m e h =
+pub needed-most : (c : Case) (b p : List ℕ) (t : Pattern) (m : ℕ) → reader.readPattern p ≡ reader.accepted t → m < length (macrosIn b) → needed (query c t) m ≤ mostWords
+needed-most c b p t m e h =
     let number : suc m ≤ 1024 = omega (arith, macros-few b) in
-    let wide : states t + 4 ≤ 36 = omega (arith, accepted-few p t e) in
+    let wide : states (query c t) + 4 ≤ 36 = omega (arith, accepted-few p t e) in
     mul-le-mul number wide
 
 -- No book has a macro from 1,024 on: all such numbers are refused alike.
-pub beyond-alike : (b : List ℕ) (p : reader.Read) (m n : ℕ) (work : List ℕ) → 1024 ≤ m → 1024 ≤ n → countResult (readBook b) p m work ≡ countResult (readBook b) p n work
-beyond-alike b p m n work g h = go (readBook b) refl p
+pub beyond-alike : (c : Case) (b : List ℕ) (p : reader.Read) (m n : ℕ) (work : List ℕ) → 1024 ≤ m → 1024 ≤ n → countResult c (readBook b) p m work ≡ countResult c (readBook b) p n work
+beyond-alike c b p m n work g h = go (readBook b) refl p
   where
-    go : (r : Reading (List Macro)) → readBook b ≡ r → (q : reader.Read) → countResult r q m work ≡ countResult r q n work
-    go (refused r) d q = count-refused-book m work r q ∙ sym (count-refused-book n work r q)
-    go (got ms rest) d (reader.refused r) = count-refused-pattern m work ms rest r ∙ sym (count-refused-pattern n work ms rest r)
+    go : (r : Reading (List Macro)) → readBook b ≡ r → (q : reader.Read) → countResult c r q m work ≡ countResult c r q n work
+    go (refused r) d q = count-refused-book c m work r q ∙ sym (count-refused-book c n work r q)
+    go (got ms rest) d (reader.refused r) = count-refused-pattern c m work ms rest r ∙ sym (count-refused-pattern c n work ms rest r)
     go (got ms rest) d (reader.accepted t) =
         let few : length ms ≤ 1024 = rw d at (macros-few b) in
-        rw (count-accepted m work ms rest t, count-accepted n work ms rest t, le-ltb m (length ms) (omega arith), le-ltb n (length ms) (omega arith)) refl
+        rw (count-accepted c m work ms rest t, count-accepted c n work ms rest t, le-ltb m (length ms) (omega arith), le-ltb n (length ms) (omega arith)) refl
 
 -- Demand 1: "it refuses with the one number that the table in document 01 sets, zeros in the answer and the work space left as
 -- stated under it".
@@ -118,9 +127,26 @@ module _ (m : ℕ) (work : List ℕ) where
   left-with true false Total.TooMany k v h = (refl, refl, λ e. absurd (e refl))
   left-with false y z k v h = (refl, refl, λ e. refl)
 
-  pub refused-left : (g : Reading (List Macro)) (r : reader.Read) → Left (countResult g r m work)
-  refused-left (refused q) r = rw count-refused-book (λ h. (refl, refl, λ e. refl))
-  refused-left (got ms rest) (reader.refused q) = rw count-refused-pattern (λ h. (refl, refl, λ e. refl))
-  refused-left (got ms rest) (reader.accepted t) =
-      rw (count-accepted m work ms rest t)
-      (left-with (ltb m (length ms)) (ltb (length work) (needed t m)) (totalOf (matchingLines t ms m)) (steps t ms m) (filled t ms m work))
+  pub refused-left : (c : Case) (g : Reading (List Macro)) (r : reader.Read) → Left (countResult c g r m work)
+  refused-left c (refused q) r = rw count-refused-book (λ h. (refl, refl, λ e. refl))
+  refused-left c (got ms rest) (reader.refused q) = rw count-refused-pattern (λ h. (refl, refl, λ e. refl))
+  refused-left c (got ms rest) (reader.accepted t) =
+      rw (count-accepted c m work ms rest t)
+      (left-with (ltb m (length ms)) (ltb (length work) (needed (query c t) m)) (totalOf (matchingLines (query c t) ms m)) (steps (query c t) ms m) (filled (query c t) ms m work))
+
+  -- Document 02, S-1: what is refused before any work does not depend on whether case is ignored
+  abbrev pub SameRefusal : Outcome → Outcome → Type 0
+  SameRefusal x y = 0 < x .refusal → (x .refusal ≡ 12 → ⊥) → x ≡ y
+
+  pub refused-alike : (c d : Case) (g : Reading (List Macro)) (r : reader.Read) → SameRefusal (countResult c g r m work) (countResult d g r m work)
+  refused-alike c d (refused q) r = rw (count-refused-book c m work q r, count-refused-book d m work q r) (λ h e. refl)
+  refused-alike c d (got ms rest) (reader.refused q) = rw (count-refused-pattern c m work ms rest q, count-refused-pattern d m work ms rest q) (λ h e. refl)
+  refused-alike c d (got ms rest) (reader.accepted t) =
+      rw (count-accepted c m work ms rest t, count-accepted d m work ms rest t)
+      (go (ltb m (length ms)) (ltb (length work) (needed (query c t) m)) (totalOf (matchingLines (query c t) ms m)) (steps (query c t) ms m) (filled (query c t) ms m work) (countOf (query d t) ms m work))
+    where
+      go : (x y : Bool) (z : Total) (k : ℕ) (v : List ℕ) (o : Outcome) → SameRefusal (cond x (cond y (stopped InsufficientSpace work) (finishedBy z k v)) (stopped NoSuchMacro work)) (cond x (cond y (stopped InsufficientSpace work) o) (stopped NoSuchMacro work))
+      go true true z k v o h e = refl
+      go true false (Total.Lines n) k v o h e = absurd (omega arith)
+      go true false Total.TooMany k v o h e = absurd (e refl)
+      go false y z k v o h e = refl

@@ -22,7 +22,8 @@ use Rattle.book.specs.MacroItems.{itemsFrom, decoded}
 use Rattle.book.proofs.MacroItems.{count-few, count-fits, items-sound}
 use Rattle.book.proofs.LayoutLaws.{well-in, macros-few}
 use Rattle.book.proofs.Expansion.{calls-lower, expansion-law, expansion-run, well-key}
-use Rattle.pattern.specs.Form.{Pattern, atomCount}
+use Rattle.pattern.specs.Meaning.{Query}
+use Rattle.pattern.specs.Form.{atomCount}
 use Rattle.pattern.specs.Moves.{states}
 use Rattle.pattern.specs.Automata.{Automaton}
 use Rattle.pattern.specs.declared.automaton.Accepting.{Accepting}
@@ -35,7 +36,7 @@ use Rattle.counter.specs.declared.items.MacroCount.{MacroCount}
 use Rattle.counter.specs.Counting.{stepsWithin, steps, macroWords, reportsOver}
 use Rattle.counter.specs.Promises.{placeOf, AllServed, ItemsFit, ItemsCounted, MacroFits, Filled}
 
-module _ (t : Pattern) (few : atomCount t ≤ 29) (ms : List Macro) where
+module _ (t : Query) (few : atomCount (t .tree) ≤ 29) (ms : List Macro) where
   -- the report of macro j, where those of the first n stand in front
   pub reports-at : (n j : ℕ) → j < n → (work rest : List ℕ) → work ≡ firstWords (macroWords t ms) n ++ rest → loadedAt work (j * (states t + 4)) (states t) ≡ report t (expansion ms j)
   reports-at n j h work rest e =
@@ -52,7 +53,7 @@ pub record FillSoFar (keys enter : List ℕ) (p : Accepting) (ms : List Macro) (
   pub inside : i ≤ suc m
   pub long : length after ≡ length before
   pub few : n ≤ i * 65536
-  pub counts : (t : Pattern) → Automaton t keys enter p → (after ≡ reportsOver t ms i before) × (n ≡ sumBelow i (stepsWithin t ms))
+  pub counts : (t : Query) → Automaton t keys enter p → (after ≡ reportsOver t ms i before) × (n ≡ sumBelow i (stepsWithin t ms))
 
 module _ {keys enter : List ℕ} {p : Accepting} {ms : List Macro} {m : ℕ} {before : List ℕ} where
   pub fill-start : FillSoFar keys enter p ms m before before 0 0
@@ -124,7 +125,7 @@ module _ {keys enter : List ℕ} {p : Accepting} {book : List ℕ} {m : ℕ} {be
           its : decoded items ≡ getD ms i []
           its = ap decoded (f ∙ ap (λ (o : List ℕ). itemsFrom book o i) (g .table)) ∙ items-sound book i (lt-of-le-of-lt below (g .inside))
 
-          next : (t : Pattern) → Automaton t keys enter p → work ≡ reportsOver t ms i before → a .report ≡ report t (expansion ms i) → after ≡ reportsOver t ms (i + 1) before
+          next : (t : Query) → Automaton t keys enter p → work ≡ reportsOver t ms i before → a .report ≡ report t (expansion ms i) → after ≡ reportsOver t ms (i + 1) before
           next t d j w =
               let k = states t + 4 in
               let size : report t (expansion ms i) .s ≡ states t = report-size t (expansion ms i) in

@@ -17,7 +17,9 @@ use Rattle.book.specs.Answer.{layoutFigures, layoutResult}
 use Rattle.book.specs.declared.layout.Checked.{Checked}
 use Rattle.book.specs.declared.layout.Layout.{Layout}
 use Rattle.book.proofs.LayoutLaws.{layout-figures, layout-table, layout-refused, layout-sound, layout-count}
+use Rattle.letters.specs.declared.Case.{Case}
 use Rattle.pattern.specs.Form.{Pattern}
+use Rattle.pattern.specs.Meaning.{query}
 use Rattle.pattern.specs.Reader as reader
 use Rattle.pattern.specs.Automata.{VerdictOn, KeysFrom, EnterFrom}
 use Rattle.pattern.specs.declared.automaton.Accepting.{Accepting}
@@ -40,13 +42,13 @@ module _ (book : List ℕ) (l : Layout) (e : layoutFigures l ≡ layoutResult (r
     book-in = record { table = layout-table book l e; many = layout-count book (layout-figures book e) f; sound = book-settles }
 
 -- A pattern, by what `read_pattern` answers.
-module _ (s keys enter keys' enter' : List ℕ) {v : Verdict} (figures : VerdictOn s v) (keyed : KeysFrom s keys keys') (entered : EnterFrom s enter enter') where
-  pub pattern-refuses : {r : Refusal} → v ≡ Verdict.Refused r → patternStep (reader.readPattern s) ≡ refused r
-  pattern-refuses e = ap patternStep (read-refused s keys enter keys' enter' figures keyed entered e)
+pub pattern-refuses : (s : List ℕ) {v : Verdict} {r : Refusal} → VerdictOn s v → v ≡ Verdict.Refused r → patternStep (reader.readPattern s) ≡ refused r
+pattern-refuses s figures e = ap patternStep (read-refused s figures e)
 
-  pub pattern-in : {p : Accepting} → v ≡ Verdict.Accepted p → InPattern s keys' enter' p
+module _ (c : Case) (s keys enter keys' enter' : List ℕ) {v : Verdict} (figures : VerdictOn s v) (keyed : KeysFrom c s keys keys') (entered : EnterFrom s enter enter') where
+  pub pattern-in : {p : Accepting} → v ≡ Verdict.Accepted p → InPattern c s keys' enter' p
   pattern-in e =
-      let a = read-accepted s keys enter keys' enter' figures keyed entered e in
+      let a = read-accepted c s keys enter keys' enter' figures keyed entered e in
       record { tree = a .tree; sound = ap patternStep (a .reading); tables = a .tables; small = omega (arith, states-of (a .tables), a .tables .few) }
 
 -- The macro and the words, by their numbers.
@@ -120,7 +122,7 @@ module _ (book : Reading (List Macro)) (pattern : reader.Read) (need : Pattern �
       front-settled g = rw (e, f, g) refl
 
 -- A sound book and an accepted pattern: the third step's answer is that of them all.
-module _ {book offsets : List ℕ} {macros : ℕ} (i : InBook book offsets macros) {s keys enter : List ℕ} {p : Accepting} (a : InPattern s keys enter p) where
+module _ {book offsets : List ℕ} {macros : ℕ} (i : InBook book offsets macros) {c : Case} {s keys enter : List ℕ} {p : Accepting} (a : InPattern c s keys enter p) where
   module _ (need : Pattern → ℕ) (m words : ℕ) (x : Space) (e : settledBy x ≡ spaceStep macros m (need (a .tree)) words) where
     told : settledBy x ≡ spaceStep (length (macrosIn book)) m (need (a .tree)) words
     told = rw (← i .many) e
@@ -148,18 +150,18 @@ front-answer f g ms rest t need m words = go (ltb m (length ms)) (ltb words (nee
     go false b = refl
 
 -- The count, case by case.
-module _ (m : ℕ) (work : List ℕ) where
-  pub count-refused-book : (r : Refusal) (p : reader.Read) → countResult (Reading.refused r) p m work ≡ stopped r work
+module _ (c : Case) (m : ℕ) (work : List ℕ) where
+  pub count-refused-book : (r : Refusal) (p : reader.Read) → countResult c (Reading.refused r) p m work ≡ stopped r work
   unfolding countResult
   count-refused-book r p = refl
 
   module _ (ms : List Macro) (rest : List ℕ) where
-    pub count-refused-pattern : (r : Refusal) → countResult (Reading.got ms rest) (reader.refused r) m work ≡ stopped r work
+    pub count-refused-pattern : (r : Refusal) → countResult c (Reading.got ms rest) (reader.refused r) m work ≡ stopped r work
     unfolding countResult
     count-refused-pattern r = refl
 
     pub count-accepted : (t : Pattern) →
-        countResult (Reading.got ms rest) (reader.accepted t) m work
-        ≡ cond (ltb m (length ms)) (cond (ltb (length work) (needed t m)) (stopped InsufficientSpace work) (countOf t ms m work)) (stopped NoSuchMacro work)
+        countResult c (Reading.got ms rest) (reader.accepted t) m work
+        ≡ cond (ltb m (length ms)) (cond (ltb (length work) (needed (query c t) m)) (stopped InsufficientSpace work) (countOf (query c t) ms m work)) (stopped NoSuchMacro work)
     unfolding countResult
-    count-accepted t = front-answer (λ r. stopped r work) (λ (ms, t). countOf t ms m work) ms rest t (λ t. needed t m) m (length work)
+    count-accepted t = front-answer (λ r. stopped r work) (λ (ms, t). countOf (query c t) ms m work) ms rest t (λ t. needed (query c t) m) m (length work)

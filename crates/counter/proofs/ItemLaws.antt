@@ -21,7 +21,7 @@ use Rattle.book.specs.Reading.{itemOf}
 use Rattle.book.specs.MacroItems.{decoded}
 use Rattle.book.proofs.MacroItems.{decoded-length, decoded-more}
 use Rattle.book.proofs.Expansion.{expand-none, expand-more}
-use Rattle.pattern.specs.Form.{Pattern}
+use Rattle.pattern.specs.Meaning.{Query}
 use Rattle.pattern.specs.Moves.{states}
 use Rattle.pattern.specs.Automata.{Automaton}
 use Rattle.pattern.specs.declared.automaton.Accepting.{Accepting}
@@ -38,11 +38,11 @@ use Rattle.counter.specs.Counting.{itemSteps}
 use Rattle.counter.specs.Promises.{Served, AllServed, AfterItem, ItemsFit, ItemsCounted}
 
 -- the steps of no item, and of one more
-steps-none : (t : Pattern) (called : ℕ → List ℕ) → itemSteps t called [] ≡ 0
+steps-none : (t : Query) (called : ℕ → List ℕ) → itemSteps t called [] ≡ 0
 unfolding itemSteps
 steps-none t called = sum-none (λ k. pairs t (expand called (take k [])))
 
-steps-more : (t : Pattern) (called : ℕ → List ℕ) (is : List Item) (i : Item) → itemSteps t called (is ++ (i ∷ [])) ≡ itemSteps t called is + pairs t (expand called is)
+steps-more : (t : Query) (called : ℕ → List ℕ) (is : List Item) (i : Item) → itemSteps t called (is ++ (i ∷ [])) ≡ itemSteps t called is + pairs t (expand called is)
 unfolding itemSteps
 steps-more t called is i =
     ap (λ (n : ℕ). sumBelow n (λ k. pairs t (expand called (take k (is ++ (i ∷ [])))))) (length-append is (i ∷ []))
@@ -83,12 +83,12 @@ pub call-small : (s j : ℕ) → s ≤ 32 → j < 65536 → Fits w64 (j * (s + 4
 call-small s j h l = let thin : s + 4 ≤ 36 = omega arith in omega (arith, mul-le-mul-left j thin)
 
 -- the run of an item
-run-of-item : (t : Pattern) (called : ℕ → List ℕ) (work : List ℕ) (i : Item) → Served t called work i → isRun (keysOf called i) ≡ true
+run-of-item : (t : Query) (called : ℕ → List ℕ) (work : List ℕ) (i : Item) → Served t called work i → isRun (keysOf called i) ≡ true
 run-of-item t called work (Key k) h = run-cons k [] h run-none
 run-of-item t called work (Call j) h = h .1
 
 -- a and n are what is kept of some items, whose keys are a run, and their steps
-abbrev pub KeptAndSteps : Pattern → (ℕ → List ℕ) → List Item → SpanCount → ℕ → Type 0
+abbrev pub KeptAndSteps : Query → (ℕ → List ℕ) → List Item → SpanCount → ℕ → Type 0
 KeptAndSteps t called items a n = (a ≡ spanCount t (expand called items)) × (isRun (expand called items) ≡ true) × (n ≡ itemSteps t called items)
 
 -- All items: after k of them.
@@ -96,7 +96,7 @@ pub record ItemsSoFar (keys enter : List ℕ) (p : Accepting) (work : List ℕ) 
   pub inside : k ≤ items .count
   pub small : a .span .s ≤ 32
   pub few : n ≤ k * 1024
-  pub counts : (t : Pattern) → Automaton t keys enter p → (called : ℕ → List ℕ) → AllServed t called work (decoded items) → KeptAndSteps t called (take k (decoded items)) a n
+  pub counts : (t : Query) → Automaton t keys enter p → (called : ℕ → List ℕ) → AllServed t called work (decoded items) → KeptAndSteps t called (take k (decoded items)) a n
 
 module _ {keys enter : List ℕ} {p : Accepting} {work : List ℕ} {items : Items} (fits : ItemsFit items p) where
   pub items-start : {a : SpanCount} → a ≡ emptyCount (p .states) → ItemsSoFar keys enter p work items a 0 0

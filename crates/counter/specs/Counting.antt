@@ -8,6 +8,8 @@ use Rattle.refusal.specs.Number.{number}
 use Rattle.book.specs.Format.{Macro}
 use Rattle.book.specs.Expansion.{expand, expansion}
 use Rattle.book.specs.Reading.{Reading, readBook}
+use Rattle.letters.specs.declared.Case.{Case}
+use Rattle.pattern.specs.Meaning.{Query, query}
 use Rattle.pattern.specs.Moves.{states}
 use Rattle.pattern.specs.Reader as reader
 use Rattle.lines.specs.Lines.{matching}
@@ -17,22 +19,21 @@ use Rattle.reports.specs.Totals.{totalOf}
 use Rattle.reports.specs.Reports.{report}
 use Rattle.reports.specs.Words.{reportWords}
 use Rattle.runs.specs.Kept.{wordsOver}
-use Rattle.pattern.specs.Form.{Pattern}
 use Rattle.runs.specs.Counts.{sumBelow}
 use Rattle.counter.specs.Front.{answerBy, front}
 
 -- Steps.
 
 -- "over each item, the pairs", where `called` gives the runs of called macros
-unfoldable pub itemSteps : Pattern → (ℕ → List ℕ) → Macro → ℕ
+unfoldable pub itemSteps : Query → (ℕ → List ℕ) → Macro → ℕ
 itemSteps t called items = sumBelow (length items) (λ k. pairs t (expand called (take k items)))
 
 -- the steps within one macro
-abbrev pub stepsWithin : Pattern → List Macro → ℕ → ℕ
+abbrev pub stepsWithin : Query → List Macro → ℕ → ℕ
 stepsWithin t ms i = itemSteps t (λ j. expansion ms j) (getD ms i [])
 
 -- "Steps of macro m: over macros 0 to m"
-unfoldable pub steps : Pattern → List Macro → ℕ → ℕ
+unfoldable pub steps : Query → List Macro → ℕ → ℕ
 steps t ms m = sumBelow (suc m) (stepsWithin t ms)
 
 -- "items is how many items macros 0 to m hold together"
@@ -42,10 +43,10 @@ itemsTo ms m = sumBelow (suc m) (λ i. length (getD ms i []))
 -- Work words.
 
 -- "A count needs (m + 1) × (s + 4) words (64 bits) of work space": s + 4 for each macro's report
-abbrev pub reportSize : Pattern → ℕ
+abbrev pub reportSize : Query → ℕ
 reportSize t = states t + 4
 
-abbrev pub needed : Pattern → ℕ → ℕ
+abbrev pub needed : Query → ℕ → ℕ
 needed t m = suc m * reportSize t
 
 -- words that are enough for every book and pattern: 1,024 macros, 32 states (`needed-most`)
@@ -53,15 +54,15 @@ abbrev pub mostWords : ℕ
 mostWords = 1024 * (32 + 4)
 
 -- the words of macro i's report
-abbrev pub macroWords : Pattern → List Macro → ℕ → List ℕ
+abbrev pub macroWords : Query → List Macro → ℕ → List ℕ
 macroWords t ms i = reportWords (report t (expansion ms i))
 
 -- the reports of the first n macros stored over the front of the work words
-abbrev pub reportsOver : Pattern → List Macro → ℕ → List ℕ → List ℕ
+abbrev pub reportsOver : Query → List Macro → ℕ → List ℕ → List ℕ
 reportsOver t ms n work = wordsOver (macroWords t ms) (reportSize t) n work
 
 -- "After it these first words hold the reports of macros 0 to m .. Later words are not touched."
-abbrev pub filled : Pattern → List Macro → ℕ → List ℕ → List ℕ
+abbrev pub filled : Query → List Macro → ℕ → List ℕ → List ℕ
 filled t ms m work = reportsOver t ms (suc m) work
 
 -- The answer: the refusal's number, or 0 with the lines and the steps; and the work words.
@@ -78,7 +79,7 @@ abbrev pub finished : ℕ → ℕ → List ℕ → Outcome
 finished n k work = record { refusal = 0; lines = n; steps = k; work = work }
 
 -- "the number of lines of the macro's written-out run that match"
-abbrev pub matchingLines : Pattern → List Macro → ℕ → ℕ
+abbrev pub matchingLines : Query → List Macro → ℕ → ℕ
 matchingLines t ms m = matching t (expansion ms m)
 
 -- so many lines, with k steps, or 12
@@ -87,14 +88,15 @@ finishedBy (Total.Lines n) k work = finished n k work
 finishedBy Total.TooMany k work = stopped CountOverflow work
 
 -- 12: "over 2^64 − 1", which "leaves the reports written"
-abbrev pub countOf : Pattern → List Macro → ℕ → List ℕ → Outcome
+abbrev pub countOf : Query → List Macro → ℕ → List ℕ → Outcome
 countOf t ms m work = finishedBy (totalOf (matchingLines t ms m)) (steps t ms m) (filled t ms m work)
 
 -- "1 to 6 come in reading order, item by item; then 7; then 8 over the whole pattern; 9; 10; 11; 12."; "other lent memory is
 -- unchanged"
-unfoldable pub countResult : Reading (List Macro) → reader.Read → ℕ → List ℕ → Outcome
-countResult book pattern m work = answerBy (λ r. stopped r work) (λ (ms, t). countOf t ms m work) (front book pattern (λ t. needed t m) m (length work))
+unfoldable pub countResult : Case → Reading (List Macro) → reader.Read → ℕ → List ℕ → Outcome
+countResult c book pattern m work =
+    answerBy (λ r. stopped r work) (λ (ms, t). countOf (query c t) ms m work) (front book pattern (λ t. needed (query c t) m) m (length work))
 
--- what the count of macro m answers, of a book and under a pattern as they are lent
-abbrev pub bookResult : List ℕ → List ℕ → ℕ → List ℕ → Outcome
-bookResult book pattern m work = countResult (readBook book) (reader.readPattern pattern) m work
+-- what the count of macro m answers, of a book and under a pattern as they are lent, with case ignored or not
+abbrev pub bookResult : Case → List ℕ → List ℕ → ℕ → List ℕ → Outcome
+bookResult c book pattern m work = countResult c (readBook book) (reader.readPattern pattern) m work

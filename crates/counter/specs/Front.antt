@@ -10,7 +10,9 @@ use Rattle.refusal.specs.declared.Refusal.the-variants.{NoSuchMacro, Insufficie
 use Rattle.book.specs.Format.{Macro}
 use Rattle.book.specs.Reading.{Reading, readBook, macrosIn}
 use Rattle.book.specs.Answer.{layout}
+use Rattle.letters.specs.declared.Case.{Case}
 use Rattle.pattern.specs.Form.{Pattern}
+use Rattle.pattern.specs.Meaning.{query}
 use Rattle.pattern.specs.Reader as reader
 use Rattle.pattern.specs.Automata.{Automaton}
 use Rattle.pattern.specs.declared.automaton.Accepting.{Accepting}
@@ -65,11 +67,11 @@ pub record InBook (book offsets : List ℕ) (macros : ℕ) : Type 0 where
   pub many : macros ≡ length (macrosIn book)
   pub sound : bookStep (readBook book) ≡ settled (macrosIn book)
 
--- the second: an accepted pattern's tables
-pub record InPattern (s keys enter : List ℕ) (p : Accepting) : Type 0 where
+-- the second: an accepted pattern's tables, by the choice of case
+pub record InPattern (c : Case) (s keys enter : List ℕ) (p : Accepting) : Type 0 where
   pub tree : Pattern
   pub sound : patternStep (reader.readPattern s) ≡ settled tree
-  pub tables : Automaton tree keys enter p
+  pub tables : Automaton (query c tree) keys enter p
   pub small : p .states ≤ 32
 
 -- the third: nothing

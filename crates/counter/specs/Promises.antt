@@ -12,7 +12,7 @@ use Rattle.book.specs.Format.{Macro}
 use Rattle.book.specs.Expansion.{keysOf, expand}
 use Rattle.book.specs.Reading.{macrosIn}
 use Rattle.book.specs.Answer.{layout}
-use Rattle.pattern.specs.Form.{Pattern}
+use Rattle.pattern.specs.Meaning.{Query}
 use Rattle.pattern.specs.Moves.{states}
 use Rattle.pattern.specs.Automata.{Automaton}
 use Rattle.pattern.specs.declared.automaton.Accepting.{Accepting}
@@ -25,18 +25,18 @@ use Rattle.counter.specs.Counting.{itemSteps, steps, filled, countOf}
 use Rattle.counter.specs.Answers.{outcome}
 
 -- an item is a key, or a call whose run's report stands in the work words
-abbrev pub Served : Pattern → (ℕ → List ℕ) → List ℕ → Item → Type 0
+abbrev pub Served : Query → (ℕ → List ℕ) → List ℕ → Item → Type 0
 Served t called work (Key k) = isKey k ≡ true
 Served t called work (Call j) = (loadedAt work (j * (states t + 4)) (states t) ≡ report t (called j)) × (isRun (called j) ≡ true)
 
 -- and so is each of some
-abbrev pub AllServed : Pattern → (ℕ → List ℕ) → List ℕ → List Item → Type 0
+abbrev pub AllServed : Query → (ℕ → List ℕ) → List ℕ → List Item → Type 0
 AllServed t called work items = (item : Item) → List·Memᴰ item items → Served t called work item
 
 -- what is kept of a run with the run of one item more
 pub record AfterItem (keys enter : List ℕ) (p : Accepting) (work : List ℕ) (a : SpanCount) (item : Item) (b : SpanCount) : Type 0 where
   pub small : b .span .s ≤ 32
-  pub extends : (t : Pattern) → Automaton t keys enter p → (called : ℕ → List ℕ) (w : List ℕ) → isRun w ≡ true → Served t called work item → a ≡ spanCount t w
+  pub extends : (t : Query) → Automaton t keys enter p → (called : ℕ → List ℕ) (w : List ℕ) → isRun w ≡ true → Served t called work item → a ≡ spanCount t w
       → b ≡ spanCount t (w ++ keysOf called item)
 
 -- items and states within the limits of the code
@@ -52,7 +52,7 @@ placeOf p i = i * (p .states + 4)
 -- the report of the run of some items, and their steps; each item has at most 32 × 32 pairs
 pub record ItemsCounted (keys enter : List ℕ) (p : Accepting) (work : List ℕ) (items : List Item) (r : MacroCount) : Type 0 where
   pub few : r .steps ≤ 65536
-  pub counts : (t : Pattern) → Automaton t keys enter p → (called : ℕ → List ℕ) → AllServed t called work items → (r .report ≡ report t (expand called items)) × (r .steps ≡ itemSteps t called items)
+  pub counts : (t : Query) → Automaton t keys enter p → (called : ℕ → List ℕ) → AllServed t called work items → (r .report ≡ report t (expand called items)) × (r .steps ≡ itemSteps t called items)
 
 -- macro m of a sound book whose layout has these offsets, with room for the reports of macros 0 to m
 pub record MacroFits (book offsets : List ℕ) (m : ℕ) (p : Accepting) (work : List ℕ) : Type 0 where
@@ -64,8 +64,8 @@ pub record MacroFits (book offsets : List ℕ) (m : ℕ) (p : Accepting) (work :
 -- the reports of macros 0 to m stand in the work words, and their steps were counted
 pub record Filled (keys enter : List ℕ) (p : Accepting) (ms : List Macro) (m : ℕ) (before after : List ℕ) (n : ℕ) : Type 0 where
   pub long : length after ≡ length before
-  pub counts : (t : Pattern) → Automaton t keys enter p → (after ≡ filled t ms m before) × (n ≡ steps t ms m)
+  pub counts : (t : Query) → Automaton t keys enter p → (after ≡ filled t ms m before) × (n ≡ steps t ms m)
 
 -- the count of macro m, where the work words suffice
 unfoldable pub BookCounted : List ℕ → List ℕ → Accepting → List Macro → ℕ → List ℕ → List ℕ → BookCount → Type 0
-BookCounted keys enter p ms m before after r = (t : Pattern) → Automaton t keys enter p → outcome r after ≡ countOf t ms m before
+BookCounted keys enter p ms m before after r = (t : Query) → Automaton t keys enter p → outcome r after ≡ countOf t ms m before

@@ -5,6 +5,7 @@ use crate::items::items_report;
 use book::Checked;
 use book::items_of;
 use book::layout_of;
+use letters::Case;
 use pattern::Accepting;
 use pattern::Verdict;
 use pattern::read_pattern;
@@ -32,10 +33,11 @@ pub enum BookCount {
     Refused(Refusal),
 }
 
-// The macro that is asked for, and how many the book has.
+// The macro that is asked for, how many the book has, and whether case is ignored.
 struct Asked {
     macros: usize,
     m: usize,
+    case: Case,
 }
 
 // A macro of the book, and an accepted pattern.
@@ -103,12 +105,13 @@ fn counted_sound(
     work: &mut [u64],
 ) -> BookCount
     requires { ⌜ InBook (now book) (now offsets) (asked .macros) ⌝ }
-    ensures { λ r. ⌜ outcome r (now (work .exit)) ≡ countResult (readBook (now (book .entry))) (readPattern (now (pattern .entry))) (asked .m) (now (work .entry)) ⌝ }
+    ensures { λ r. ⌜ outcome r (now (work .exit)) ≡ countResult (asked .case) (readBook (now (book .entry))) (readPattern (now (pattern .entry))) (asked .m) (now (work .entry)) ⌝ }
 {
     let m = asked.m;
+    let case = asked.case;
     let mut keys = [0; 256];
     let mut enter = [0; 32];
-    match read_pattern(pattern, &mut keys, &mut enter) {
+    match read_pattern(pattern, case, &mut keys, &mut enter) {
         Verdict::Refused(r) => BookCount::Refused(r),
         Verdict::Accepted(p) => {
             let width = p.states + BEHIND_ROWS;
@@ -120,10 +123,10 @@ fn counted_sound(
     }
 }
 
-// How many lines of macro m's run match a pattern, and the steps (document 01, "States and steps", "Reports", "Refused"). The
-// first (m + 1) × (s + 4) work words then hold the reports of macros 0 to m.
-pub fn count_book(book: &[u8], pattern: &[u8], m: usize, work: &mut [u64]) -> BookCount
-    ensures { λ r. ⌜ outcome r (now (work .exit)) ≡ countResult (readBook (now (book .entry))) (readPattern (now (pattern .entry))) m (now (work .entry)) ⌝ }
+// How many lines of macro m's run match a pattern, with case ignored or not, and the steps (document 01, "States and steps", "Reports",
+// "Refused"). The first (m + 1) × (s + 4) work words then hold the reports of macros 0 to m.
+pub fn count_book(book: &[u8], pattern: &[u8], case: Case, m: usize, work: &mut [u64]) -> BookCount
+    ensures { λ r. ⌜ outcome r (now (work .exit)) ≡ countResult case (readBook (now (book .entry))) (readPattern (now (pattern .entry))) m (now (work .entry)) ⌝ }
 {
     let found = layout_of(book);
     let answer = found.answer;
@@ -131,7 +134,13 @@ pub fn count_book(book: &[u8], pattern: &[u8], m: usize, work: &mut [u64]) -> Bo
         Checked::Refused(r) => BookCount::Refused(r),
         Checked::Sound(n) => {
             let macros = n as usize;
-            counted_sound(book, &found.offsets, Asked { macros, m }, pattern, work)
+            counted_sound(
+                book,
+                &found.offsets,
+                Asked { macros, m, case },
+                pattern,
+                work,
+            )
         }
     }
 }

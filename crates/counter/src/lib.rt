@@ -12,6 +12,7 @@ pub use counting::MOST_WORDS;
 pub use counting::count_book;
 pub use front::Space;
 pub use front::space_for;
+pub use letters::Case;
 pub use lines::LineTest;
 pub use lines::RunCount;
 pub use lines::count_run;

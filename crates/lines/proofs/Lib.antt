@@ -7,4 +7,5 @@ pub mod Tallying
 pub mod Answering
 pub mod PartLaws
 pub mod Demands
+pub mod CaseLaws
 pub mod Tables

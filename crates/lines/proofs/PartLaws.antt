@@ -7,8 +7,7 @@ use mathlib.Core.Bool.{Bool, true, false, cond, _&&_}
 use mathlib.Core.List.{List, [], _∷_, _++_}
 use lib.Dec.{leb, eqb}
 use Rattle.lines.specs.Lines.{onto, lines, countIn, matching, isOpen}
-use Rattle.pattern.specs.Form.{Pattern}
-use Rattle.pattern.specs.Meaning.{matches}
+use Rattle.pattern.specs.Meaning.{Query, matches}
 use Rattle.runs.proofs.Tests.{clash, and-both, and-fst, and-snd}
 use Rattle.runs.specs.Keys.{lineKey, isLine, lineEnd, isRun}
 use Rattle.lines.specs.Parts.{firstPart, laterParts, lastPart, partsBefore}
@@ -212,7 +211,7 @@ count-parts X [] [] = refl
 count-parts X (c ∷ l) [] = omega arith
 count-parts X l (m ∷ ms) = ap (λ (n : ℕ). cond (X l) 1 0 + n) (count-parts X m ms) ∙ sym (add-assoc (cond (X l) 1 0) (countIn X (partsBefore m ms)) _)
 
-module _ (t : Pattern) (w : List ℕ) where
+module _ (t : Query) (w : List ℕ) where
   -- a run without a line end is one line, if it has a key
   pub matching-whole : laterParts w ≡ [] → matching t w ≡ countLast (matches t) w
   unfolding matching countIn partsBefore lastPart

@@ -12,8 +12,8 @@ use Rattle.stateset.specs.Set.{bit, word, anyBelow, common, imageOf}
 use Rattle.stateset.proofs.Sets.{word-ext, word-one, bit-word}
 use Rattle.stateset.proofs.Some.{any-ext, any-widen}
 use Rattle.stateset.proofs.Common.{common-words}
-use Rattle.pattern.specs.Form.{Pattern, atomCount}
-use Rattle.pattern.specs.Meaning.{matches}
+use Rattle.pattern.specs.Form.{atomCount}
+use Rattle.pattern.specs.Meaning.{Query, matches}
 use Rattle.pattern.specs.Moves.{states, move, accepting, leads, acceptedFrom}
 use Rattle.pattern.specs.Automata.{Automaton}
 use Rattle.pattern.specs.declared.automaton.Accepting.{Accepting}
@@ -39,17 +39,17 @@ module _ (keys enter : List ℕ) (a : Accepting) (x k : ℕ) where
           made w y z = rw (z, y, w, v, l, j, h, g, c, b, q, p, f, d, s) refl
 
 -- a move by look-up leads to the states that the pattern's moves lead to
-pub looked-up : {t : Pattern} {keys enter : List ℕ} {a : Accepting} → Automaton t keys enter a → (x k : ℕ) → lineKey k ≡ true → lookedUp keys enter a x k ≡ moved t x k
+pub looked-up : {t : Query} {keys enter : List ℕ} {a : Accepting} → Automaton t keys enter a → (x k : ℕ) → lineKey k ≡ true → lookedUp keys enter a x k ≡ moved t x k
 unfolding lookedUp moved
 looked-up {t} d x k l = rw (d .keyed, d .entered, always-of d, ends-of d) (advanced t (d .few) x k l)
 
 -- line-start alone
-pub reached-none : (t : Pattern) → 1 ≡ reached t []
+pub reached-none : (t : Query) → 1 ≡ reached t []
 unfolding reached
 reached-none t = word-one 32 0 (omega arith) ∙ word-ext 32 (λ p. eqb 0 p) (leads t 0 []) (λ p h. sym (leads-none t 0 p))
 
 -- from a state of the pattern
-module _ (t : Pattern) (few : atomCount t ≤ 29) (q : ℕ) (inside : q < states t) (w : List ℕ) where
+module _ (t : Query) (few : atomCount (t .tree) ≤ 29) (q : ℕ) (inside : q < states t) (w : List ℕ) where
   -- no key leads to a state that the pattern does not have
   pub leads-high : (p : ℕ) → states t ≤ p → leads t q w p ≡ false
   leads-high p h = go (leads t q w p) refl
@@ -73,19 +73,19 @@ module _ (t : Pattern) (few : atomCount t ≤ 29) (q : ℕ) (inside : q < states
       ∙ sym (leads-append t w (c ∷ []) q p inside))
 
   -- the line is accepted
-  pub leads-accepts : common 64 (word 32 (leads t q w)) (word 32 (accepting t)) ≡ acceptedFrom t q w
-  leads-accepts = common-words 32 (leads t q w) (accepting t) (omega arith) ∙ wide (accepting t) ∙ sym (accepted-is t q w)
+  pub leads-accepts : common 64 (word 32 (leads t q w)) (word 32 (accepting (t .tree))) ≡ acceptedFrom t q w
+  leads-accepts = common-words 32 (leads t q w) (accepting (t .tree)) (omega arith) ∙ wide (accepting (t .tree)) ∙ sym (accepted-is t q w)
 
 -- the same from line-start
-module _ (t : Pattern) (few : atomCount t ≤ 29) (w : List ℕ) where
+module _ (t : Query) (few : atomCount (t .tree) ≤ 29) (w : List ℕ) where
   pub reached-more : (c : ℕ) → moved t (reached t w) c ≡ reached t (w ++ (c ∷ []))
   unfolding reached
   reached-more c = leads-more t few 0 (omega arith) w c
 
-  pub reached-accepts : common 64 (reached t w) (word 32 (accepting t)) ≡ acceptedFrom t 0 w
+  pub reached-accepts : common 64 (reached t w) (word 32 (accepting (t .tree))) ≡ acceptedFrom t 0 w
   unfolding reached
   reached-accepts = leads-accepts t few 0 (omega arith) w
 
 -- a set of states accepts exactly if the keys that lead to it match
-pub reached-matches : {t : Pattern} {keys enter : List ℕ} {a : Accepting} → Automaton t keys enter a → (x : ℕ) (w : List ℕ) → x ≡ reached t w → isLine w ≡ true → hasAccepting a x ≡ matches t w
+pub reached-matches : {t : Query} {keys enter : List ℕ} {a : Accepting} → Automaton t keys enter a → (x : ℕ) (w : List ℕ) → x ≡ reached t w → isLine w ≡ true → hasAccepting a x ≡ matches t w
 reached-matches {t} d x w e l = rw (e, accepting-of d) (reached-accepts t (d .few) w ∙ states-match t w l)

@@ -11,16 +11,15 @@ use lib.ListN.{length, getD, take, drop, drop-of-length-le}
 use lib.Seq.{take-all, take-suc, drop-cons}
 use borrow.Author.Tests.{eqb-true, ne-eqb}
 use Rattle.refusal.specs.declared.Refusal.the-variants.{InvalidKey}
-use Rattle.pattern.specs.Meaning.{matches}
+use Rattle.pattern.specs.Meaning.{Query, matches}
 use Rattle.lines.specs.declared.run.RunCount.{RunCount}
 use Rattle.lines.specs.declared.run.Tally.{Tally}
 use Rattle.lines.specs.Lines.{matching, isOpen}
 use Rattle.refusal.specs.Figures.{answered}
-use Rattle.lines.specs.Answers.{runResult}
+use Rattle.lines.specs.Answers.{runOf}
 use Rattle.lines.specs.Promises.{AfterKey, CountsRun, tallyAfter}
 use Rattle.lines.proofs.LineLaws.{matching-closed, matching-open}
 use Rattle.lines.proofs.Reaching.{looked-up, reached-none, reached-more, reached-matches}
-use Rattle.pattern.specs.Form.{Pattern}
 use Rattle.runs.specs.Keys.{member, lineKey, isLine, lineEnd}
 use Rattle.runs.proofs.KeyLaws.{key-test, line-more, line-without, member-at, member-more}
 use Rattle.pattern.specs.declared.automaton.Accepting.{Accepting}
@@ -71,11 +70,11 @@ module _ {keys enter : List ℕ} {p : Accepting} {a : Tally} {k : ℕ} where
       }
 
 -- the run's lines are n, and those from the keys of `line` and from place `at` on
-abbrev pub CountedTo : Pattern → List ℕ → ℕ → List ℕ → ℕ → Type 0
+abbrev pub CountedTo : Query → List ℕ → ℕ → List ℕ → ℕ → Type 0
 CountedTo t run at line n = n + matching t (line ++ drop at run) ≡ matching t run
 
 -- the tally of the first `at` keys of a run
-pub record Tallied (t : Pattern) (run : List ℕ) (at : ℕ) (a : Tally) : Type 0 where
+pub record Tallied (t : Query) (run : List ℕ) (at : ℕ) (a : Tally) : Type 0 where
   pub line : List ℕ
   pub clean : isLine line ≡ true
   pub leads : a .set ≡ reached t line
@@ -86,7 +85,7 @@ pub record RunSoFar (keys enter : List ℕ) (p : Accepting) (run : List ℕ) (a 
   pub inside : at ≤ length run
   pub small : a .lines + cond (a .pending) 1 0 ≤ at
   pub clean : member 0 (take at run) ≡ false
-  pub tallied : (t : Pattern) → Automaton t keys enter p → Tallied t run at a
+  pub tallied : (t : Query) → Automaton t keys enter p → Tallied t run at a
 
 module _ {keys enter : List ℕ} {p : Accepting} {run : List ℕ} where
   pub run-start : {z : ℕ} → z ≡ startSet → RunSoFar keys enter p run (closedTally z 0) 0
@@ -100,7 +99,7 @@ module _ {keys enter : List ℕ} {p : Accepting} {run : List ℕ} where
 
   module _ {a : Tally} {at : ℕ} (s : RunSoFar keys enter p run a at) where
     pub run-refused : at < length run → getD run at 0 ≡ 0 → CountsRun keys enter p run (RunCount.Refused InvalidKey)
-    unfolding runResult CountsRun
+    unfolding runOf CountsRun
     run-refused h e t i = rw (member-at 0 run at h e) refl
 
     pub run-on : {b : Tally} → at < length run → getD run at 0 < 256 → (getD run at 0 ≡ 0 → ⊥) → AfterKey keys enter p a (getD run at 0) b → RunSoFar keys enter p run b (at + 1)
@@ -119,15 +118,15 @@ module _ {keys enter : List ℕ} {p : Accepting} {run : List ℕ} where
         rest : drop at run ≡ k ∷ drop (at + 1) run
         rest = drop-cons run at 0 h ∙ ap (λ (m : ℕ). k ∷ drop m run) (sym (add-one at))
 
-        closed : (t : Pattern) (w : List ℕ) → isLine w ≡ true → k ≡ lineEnd → b .lines ≡ a .lines + cond (matches t w) 1 0 → CountedTo t run at w (a .lines) → CountedTo t run (at + 1) [] (b .lines)
+        closed : (t : Query) (w : List ℕ) → isLine w ≡ true → k ≡ lineEnd → b .lines ≡ a .lines + cond (matches t w) 1 0 → CountedTo t run at w (a .lines) → CountedTo t run (at + 1) [] (b .lines)
         closed t w l e f r =
             omega
             (arith, ap (λ (v : List ℕ). matching t (w ++ v)) (rest ∙ ap (λ (x : ℕ). x ∷ drop (at + 1) run) e), matching-closed t w (drop (at + 1) run) (line-without w lineEnd refl l))
 
-        longer : (t : Pattern) (w : List ℕ) → b .lines ≡ a .lines → CountedTo t run at w (a .lines) → CountedTo t run (at + 1) (w ++ (k ∷ [])) (b .lines)
+        longer : (t : Query) (w : List ℕ) → b .lines ≡ a .lines → CountedTo t run at w (a .lines) → CountedTo t run (at + 1) (w ++ (k ∷ [])) (b .lines)
         longer t w f r = rw (append-assoc, f, ← rest) r
 
-        go : (t : Pattern) → Automaton t keys enter p → Tallied t run at a → (x : Bool) → eqb k lineEnd ≡ x → Tallied t run (at + 1) b
+        go : (t : Query) → Automaton t keys enter p → Tallied t run at a → (x : Bool) → eqb k lineEnd ≡ x → Tallied t run (at + 1) b
         go t j u true e =
             let w = u .line in
             let f : b ≡ record { set = reached t []; pending = false; lines = a .lines + cond (matches t w) 1 0 } = rw e at (g .tallies t j w (u .clean) (u .leads) (ne-eqb k 0 n)) in
@@ -150,7 +149,7 @@ module _ {keys enter : List ℕ} {p : Accepting} {run : List ℕ} where
             }
 
     pub run-done : {m : Bool} {y : ℕ} → length run ≤ at → m ≡ hasAccepting p (a .set) → y ≡ cond (a .pending && m) 1 0 → CountsRun keys enter p run (RunCount.Lines (a .lines + y))
-    unfolding runResult CountsRun
+    unfolding runOf CountsRun
     run-done {m} {y} h e g t i = rw none (ap answered total)
       where
         none : member 0 run ≡ false

@@ -15,13 +15,11 @@ use Rattle.refusal.specs.Figures.{answered}
 use Rattle.runs.specs.Keys.{member, lineKey, isLine, lineEnd}
 use Rattle.runs.proofs.Tests.{neither, or-cases, or-left, or-right}
 use Rattle.runs.proofs.KeyLaws.{key-test, line-more, line-without, member-at}
-use Rattle.pattern.specs.Form.{Pattern}
-use Rattle.pattern.specs.Meaning.{matches}
-use Rattle.pattern.specs.Reader.{accepted}
+use Rattle.pattern.specs.Meaning.{Query, matches}
 use Rattle.pattern.specs.Automata.{Automaton}
 use Rattle.pattern.specs.declared.automaton.Accepting.{Accepting}
 use Rattle.lines.specs.declared.line.LineTest.{LineTest}
-use Rattle.lines.specs.Answers.{lineResult}
+use Rattle.lines.specs.Answers.{lineOf}
 use Rattle.lines.specs.Moving.{moved, startSet, reached, hasAccepting, lookedUp}
 use Rattle.lines.specs.Promises.{TestsLine}
 use Rattle.lines.proofs.Reaching.{looked-up, reached-none, reached-more, reached-matches}
@@ -38,7 +36,7 @@ keyAt line at = getD line at 0
 pub record LineSoFar (keys enter : List ℕ) (a : Accepting) (line : List ℕ) (set at : ℕ) : Type 0 where
   pub inside : at ≤ length line
   pub clean : isLine (take at line) ≡ true
-  pub leads : (t : Pattern) → Automaton t keys enter a → set ≡ reached t (take at line)
+  pub leads : (t : Query) → Automaton t keys enter a → set ≡ reached t (take at line)
 
 module _ {keys enter : List ℕ} {a : Accepting} {line : List ℕ} where
   pub line-start : {x : ℕ} → x ≡ startSet → LineSoFar keys enter a line x 0
@@ -60,7 +58,7 @@ module _ {keys enter : List ℕ} {a : Accepting} {line : List ℕ} where
         key = let (zero-not, ten-not) = neither (eqb k 0) (eqb k 10) f in sym (key-test k b zero-not) ∙ rw ten-not refl
 
     pub line-refused : at < length line → endsLine (keyAt line at) ≡ true → TestsLine keys enter a line (LineTest.Refused InvalidKey)
-    unfolding lineResult TestsLine
+    unfolding lineOf TestsLine
     line-refused h f t d = rw (go (or-cases (eqb (getD line at 0) 0) (eqb (getD line at 0) 10) f)) refl
       where
         go : (eqb (getD line at 0) 0 ≡ true) ⊎ (eqb (getD line at 0) 10 ≡ true) → (member 0 line || member lineEnd line) ≡ true
@@ -68,8 +66,8 @@ module _ {keys enter : List ℕ} {a : Accepting} {line : List ℕ} where
         go (inr z) = or-right (member 0 line) (member lineEnd line) (member-at lineEnd line at h (eqb-true _ 10 z))
 
     -- the whole line
-    line-whole : length line ≤ at → (m : Bool) → m ≡ hasAccepting a set → (t : Pattern) → Automaton t keys enter a → lineResult (accepted t) line ≡ answered (cond m 1 0)
-    unfolding lineResult
+    line-whole : length line ≤ at → (m : Bool) → m ≡ hasAccepting a set → (t : Query) → Automaton t keys enter a → lineOf t line ≡ answered (cond m 1 0)
+    unfolding lineOf
     line-whole h m e t d =
         rw (line-without line 0 refl whole, line-without line lineEnd refl whole, found) refl
       where

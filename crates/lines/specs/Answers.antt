@@ -4,7 +4,8 @@ use mathlib.Core.Bool.{cond, _||_}
 use mathlib.Core.List.{List}
 use Rattle.refusal.specs.declared.Refusal.the-variants.{InvalidKey}
 use Rattle.refusal.specs.Figures.{Figures, answered, refusedFor}
-use Rattle.pattern.specs.Meaning.{matches}
+use Rattle.letters.specs.declared.Case.{Case}
+use Rattle.pattern.specs.Meaning.{Query, query, matches}
 use Rattle.pattern.specs.Reader.{Read, accepted, refused}
 use Rattle.lines.specs.declared.line.LineTest.{LineTest}
 use Rattle.lines.specs.declared.run.RunCount.{RunCount}
@@ -22,12 +23,19 @@ abbrev pub runFigures : RunCount → Figures ℕ
 runFigures (RunCount.Lines n) = answered n
 runFigures (RunCount.Refused r) = refusedFor r
 
--- "Plain runs and single lines are tested after the pattern": then 5 for a "byte 0 or 10 in the one-line test"
-unfoldable pub lineResult : Read → List ℕ → Figures ℕ
-lineResult (refused r) w = refusedFor r
-lineResult (accepted t) w = cond (member 0 w || member lineEnd w) (refusedFor InvalidKey) (answered (cond (matches t w) 1 0))
+-- under an accepted pattern: 5 for a "byte 0 or 10 in the one-line test", or whether the line matches
+unfoldable pub lineOf : Query → List ℕ → Figures ℕ
+lineOf t w = cond (member 0 w || member lineEnd w) (refusedFor InvalidKey) (answered (cond (matches t w) 1 0))
 
--- and for a "byte 0 in a plain run"
-unfoldable pub runResult : Read → List ℕ → Figures ℕ
-runResult (refused r) w = refusedFor r
-runResult (accepted t) w = cond (member 0 w) (refusedFor InvalidKey) (answered (matching t w))
+-- 5 for a "byte 0 in a plain run", or how many lines match
+unfoldable pub runOf : Query → List ℕ → Figures ℕ
+runOf t w = cond (member 0 w) (refusedFor InvalidKey) (answered (matching t w))
+
+-- "Plain runs and single lines are tested after the pattern". Document 02, S-1: both "may be asked for with case ignored".
+unfoldable pub lineResult : Case → Read → List ℕ → Figures ℕ
+lineResult c (refused r) w = refusedFor r
+lineResult c (accepted t) w = lineOf (query c t) w
+
+unfoldable pub runResult : Case → Read → List ℕ → Figures ℕ
+runResult c (refused r) w = refusedFor r
+runResult c (accepted t) w = runOf (query c t) w

@@ -3,8 +3,7 @@ use Prim.Native.Nat.{ℕ, _+_}
 use mathlib.Core.Bool.{Bool, true, false, cond}
 use mathlib.Core.List.{List, [], _∷_}
 use lib.Dec.{eqb}
-use Rattle.pattern.specs.Meaning.{matches}
-use Rattle.pattern.specs.Form.{Pattern}
+use Rattle.pattern.specs.Meaning.{Query, matches}
 use Rattle.runs.specs.Keys.{lineEnd}
 
 -- a key in front of the first line, or as a line of its own
@@ -28,5 +27,5 @@ countIn X [] = 0
 countIn X (l ∷ ls) = cond (X l) 1 0 + countIn X ls
 
 -- how many lines of a run match
-unfoldable pub matching : Pattern → List ℕ → ℕ
+unfoldable pub matching : Query → List ℕ → ℕ
 matching t w = countIn (matches t) (lines w)

@@ -5,16 +5,16 @@ use mathlib.Core.List.{List}
 use lib.Bits.{bitAnd, bitOr}
 use lib.ListN.{getD}
 use Rattle.stateset.specs.Set.{bit, word, anyBelow, common, imageOf}
+use Rattle.pattern.specs.Meaning.{Query}
 use Rattle.pattern.specs.declared.automaton.Accepting.{Accepting}
-use Rattle.pattern.specs.Form.{Pattern}
 use Rattle.pattern.specs.Moves.{move, leads}
 
 -- the states that key c leads to from the states of x
-unfoldable pub moved : Pattern → ℕ → ℕ → ℕ
+unfoldable pub moved : Query → ℕ → ℕ → ℕ
 moved t x c = word 32 (λ p. anyBelow 32 (λ q. bit x q && move t q c p))
 
 -- the states that the keys of w lead to from line-start
-unfoldable pub reached : Pattern → List ℕ → ℕ
+unfoldable pub reached : Query → List ℕ → ℕ
 reached t w = word 32 (leads t 0 w)
 
 -- the set of line-start alone, as a shifted word

@@ -1,5 +1,6 @@
 // The one-line test.
 use crate::moves::advance;
+use letters::Case;
 use pattern::Accepting;
 use pattern::State;
 use pattern::Verdict;
@@ -36,13 +37,14 @@ fn tested(line: &[u8], keys: &[u64; 256], enter: &[u64; 32], a: Accepting) -> Li
     LineTest::NoMatch
 }
 
-// Whether a line matches a pattern. Refused with 7, 8, 9 for the pattern, then with 5 for a byte 0 or 10 in the line.
-pub fn test_line(pattern: &[u8], line: &[u8]) -> LineTest
-    ensures { λ r. ⌜ lineFigures r ≡ lineResult (readPattern (now (pattern .entry))) (now (line .entry)) ⌝ }
+// Whether a line matches a pattern, with case ignored or not. Refused with 7, 8, 9 for the pattern, then with 5 for a byte 0 or 10 in the
+// line.
+pub fn test_line(pattern: &[u8], case: Case, line: &[u8]) -> LineTest
+    ensures { λ r. ⌜ lineFigures r ≡ lineResult case (readPattern (now (pattern .entry))) (now (line .entry)) ⌝ }
 {
     let mut keys = [0; 256];
     let mut enter = [0; 32];
-    match read_pattern(pattern, &mut keys, &mut enter) {
+    match read_pattern(pattern, case, &mut keys, &mut enter) {
         Verdict::Refused(r) => LineTest::Refused(r),
         Verdict::Accepted(a) => tested(line, &keys, &enter, a),
     }

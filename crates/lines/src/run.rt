@@ -1,5 +1,6 @@
 // The count over a plain run.
 use crate::moves::advance;
+use letters::Case;
 use pattern::Accepting;
 use pattern::State;
 use pattern::Verdict;
@@ -66,13 +67,14 @@ fn counted(run: &[u8], keys: &[u64; 256], enter: &[u64; 32], a: Accepting) -> Ru
     RunCount::Lines(t.lines + chosen(t.pending & meets(t.set, a.accepting), 1))
 }
 
-// How many lines of a run match a pattern. Refused with 7, 8, 9 for the pattern, then with 5 for a byte 0 in the run.
-pub fn count_run(pattern: &[u8], run: &[u8]) -> RunCount
-    ensures { λ r. ⌜ runFigures r ≡ runResult (readPattern (now (pattern .entry))) (now (run .entry)) ⌝ }
+// How many lines of a run match a pattern, with case ignored or not. Refused with 7, 8, 9 for the pattern, then with 5 for a byte 0 in the
+// run.
+pub fn count_run(pattern: &[u8], case: Case, run: &[u8]) -> RunCount
+    ensures { λ r. ⌜ runFigures r ≡ runResult case (readPattern (now (pattern .entry))) (now (run .entry)) ⌝ }
 {
     let mut keys = [0; 256];
     let mut enter = [0; 32];
-    match read_pattern(pattern, &mut keys, &mut enter) {
+    match read_pattern(pattern, case, &mut keys, &mut enter) {
         Verdict::Refused(r) => RunCount::Refused(r),
         Verdict::Accepted(a) => counted(run, &keys, &enter, a),
     }

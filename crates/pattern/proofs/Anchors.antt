@@ -10,6 +10,7 @@ use lib.Dec.{eqb}
 use lib.ListN.{length, drop, getD, length-drop}
 use lib.Seq.{drop-drop}
 use borrow.Author.Tests.{eq-eqb, ne-eqb, eqb-true}
+use Rattle.brackets.specs.Sets.{setOf}
 use Rattle.pattern.specs.declared.branch.BranchRead.{BranchRead}
 use Rattle.pattern.specs.declared.cursor.Cursor.{Cursor}
 use Rattle.pattern.specs.declared.cursor.Part.{Part}
@@ -27,9 +28,9 @@ use Rattle.pattern.specs.Form.{Expr, Branch, atomsIn}
 record PiecesRead (s : List ℕ) (c d : Cursor) (e : Option Expr) (rest : List ℕ) (p : Shape) (keys enter keys' enter' : List ℕ) : Type 0 where
   in-s : d .at ≤ length s
   here : rest ≡ drop (d .at) s
-  next : d ≡ record { at = length s - length rest; atoms = c .atoms + atomsIn e }
+  next : d ≡ record { at = length s - length rest; atoms = c .atoms + atomsIn e; case = c .case }
   shape : p ≡ shapeIn (c .atoms) e
-  keyed : keys' ≡ keysIn (c .atoms) e keys
+  keyed : keys' ≡ keysIn (setOf (c .case)) (c .atoms) e keys
   entered : enter' ≡ enterIn (c .atoms) e enter
 
 -- and an optional `$` stands there
@@ -40,13 +41,16 @@ module _ {s rest keys enter keys' enter' : List ℕ} {c d : Cursor} {e : Option 
       many : d .atoms ≡ c .atoms + atomsIn e
       many = ap (λ (z : Cursor). z .atoms) (v .next)
 
+      held : d .case ≡ c .case
+      held = ap (λ (z : Cursor). z .case) (v .next)
+
       on : eqb (getD s (d .at) 0) 36 ≡ true → d .at + 1 ≡ length s - length (drop 1 rest)
       on q =
           let i : d .at < length s = inside s (d .at) (nonzero (getD s (d .at) 0) 36 (omega arith) (eqb-true _ _ q)) in
           rw (v .here, length-drop, length-drop) (omega arith)
 
       go : (t : Bool) → eqb (getD s (d .at) 0) 36 ≡ t → BranchDone (length s) c keys enter (endRead t d start p) keys' enter' (endedBy t start e rest)
-      go true q = (rw (on q, many, v .shape), v .keyed, v .entered)
+      go true q = (rw (on q, many, held, v .shape), v .keyed, v .entered)
       go false q = (rw (v .next, v .shape), v .keyed, v .entered)
 
 module _ (s : List ℕ) (c : Cursor) (r : Ready s c) (keys enter : List ℕ) (start : Bool) (b : ℕ) (eb : b ≡ getD s (c .at) 0) (t : Bool) (et : t ≡ endsPieces b) where

@@ -70,7 +70,7 @@ abbrev placeAt : List ℕ → Cursor → AtomRead
 placeAt s c = placeBehind (length s) (atomAt s (c .at))
 
 abbrev keysAt : List ℕ → Cursor → ℕ → List ℕ → List ℕ
-keysAt s c set keys = keysBehind (atomAt s (c .at)) set keys
+keysAt s c set keys = keysBehind (c .case) (atomAt s (c .at)) set keys
 
 -- the shape of an atom whose state is `set`
 abbrev oneShape : ℕ → Shape
@@ -81,12 +81,12 @@ module _ (s keys after : List ℕ) (c : Cursor) {set : ℕ} (eset : set ≡ stat
   same : atomAt s (c .at) ≡ readAtom (drop (c .at) s)
   same = atom-at s (c .at) short
 
-  pub atom-read : (next : ℕ) (d : Cursor) → w ≡ AtomRead.At next → d ≡ record { at = next; atoms = c .atoms + 1 } → ReadsAtom s c keys (Part.Read d (oneShape set)) after
+  pub atom-read : (next : ℕ) (d : Cursor) → w ≡ AtomRead.At next → d ≡ record { at = next; atoms = c .atoms + 1; case = c .case } → ReadsAtom s c keys (Part.Read d (oneShape set)) after
   unfolding nothing first last
   atom-read next d e g = go (readAtom (drop (c .at) s)) (rw same at place) (rw same at table)
     where
-      go : (p : Parsed Atom) → w ≡ placeBehind (length s) p → after ≡ keysBehind p set keys → AtomDone (length s) c keys (Part.Read d (oneShape set)) after p
-      go (parsed a rest) h k = let there : next ≡ length s - length rest = cc in (rw (g, there, eset) refl, k ∙ rw eset (keys-atom (c .atoms) a keys))
+      go : (p : Parsed Atom) → w ≡ placeBehind (length s) p → after ≡ keysBehind (c .case) p set keys → AtomDone (length s) c keys (Part.Read d (oneShape set)) after p
+      go (parsed a rest) h k = let there : next ≡ length s - length rest = cc in (rw (g, there, eset) refl, k ∙ rw eset (keys-atom (c .case) (c .atoms) a keys))
       go fault h k = clash (cc)
 
   pub atom-faulty : w ≡ AtomRead.Fault → ReadsAtom s c keys Part.Fault after

@@ -12,6 +12,9 @@ use lib.ListN.{length, set, replicate, length-replicate, getD-replicate}
 use lib.Seq.{ext-getD}
 use borrow.Author.Tests.{le-leb, lt-ltb, lt-leb}
 use Rattle.refusal.specs.declared.Refusal.the-variants.{PatternSyntax, TooManyAtoms}
+use Rattle.letters.specs.declared.Case.{Case}
+use Rattle.brackets.specs.Sets.{setOf}
+use Rattle.pattern.specs.Meaning.{Query, query}
 use Rattle.pattern.specs.declared.automaton.Accepting.{Accepting}
 use Rattle.pattern.specs.declared.cursor.Cursor.{Cursor}
 use Rattle.pattern.specs.declared.branch_list.PatternRead.{PatternRead}
@@ -144,11 +147,13 @@ from-zero F n =
     long : length (mapWith (λ q x. bitOr x (F q)) 0 (replicate n 0)) ≡ n
     long = with-length (λ q x. bitOr x (F q)) 0 (replicate n 0) ∙ length-replicate n 0
 
-module _ (t : Pattern) where
-  pub keys-all : through keysIn 0 t (replicate 256 0) ≡ keyTable t
-  unfolding keyTable
-  keys-all = entries keysIn (λ b e c k. holds b e k c) (λ b e l. refl) (λ b l. refl) t 0 (replicate 256 0) ∙ from-zero (λ c. atomWord (λ k. holdsKey t k c)) 256
+pub keys-all : (t : Query) → through (keysIn (t .sets)) 0 (t .tree) (replicate 256 0) ≡ keyTable t
+unfolding keyTable
+keys-all t =
+    entries (keysIn (t .sets)) (λ b e c k. holds (t .sets) b e k c) (λ b e l. refl) (λ b l. refl) (t .tree) 0 (replicate 256 0)
+    ∙ from-zero (λ c. atomWord (λ k. holdsKey t k c)) 256
 
+module _ (t : Pattern) where
   -- a state that is found enters nothing, and one of an atom what follows it
   enters-later : (q : ℕ) → 2 ≤ q → q < 32 → atomWord (λ k. someBranch (λ c r. inPieces (λ e. isAtom q && follow c e (q - 3) k) (r .pieces)) 0 t) ≡ atomWord (enters t q)
   unfolding enters someBranch
@@ -207,18 +212,22 @@ module _ (a : Summary) {start found : ℕ} (at-start : start ≡ 2 ^ 0 % 2 ^ 64)
 pub summed-words : (a : Summary) (n : ℕ) {w v c : ℕ} → w ≡ alwaysOf a → v ≡ acceptsOf a → c ≡ 3 + n → record { always = w; ends = a .ends; accepting = v; states = c } ≡ acceptingOf a n
 summed-words a n i j k = rw (k, j, i) refl
 
--- the cursor at the start is ready where the pattern is
-pub start-ready : (s : List ℕ) (c : Cursor) → c ≡ record { at = 0; atoms = 0 } → Ready s (record { at = 0; atoms = 0 }) → Ready s c
-start-ready s c e r = rw e r
+-- the cursor at the start
+abbrev startOf : Case → Cursor
+startOf c = record { at = 0; atoms = 0; case = c }
+
+-- it is ready where the pattern is
+pub start-ready : (s : List ℕ) (case : Case) (c : Cursor) → c ≡ startOf case → Ready s (startOf case) → Ready s c
+start-ready s case c e r = rw e r
 
 -- a whole pattern that has no byte 0 or 10, read from its start
-module _ (s keys enter k e : List ℕ) (x : PatternRead) (c : Cursor) (start : c ≡ record { at = 0; atoms = 0 }) (h : ReadsBranches s c blank (replicate 256 0) (replicate 32 0) x k e) where
+module _ (s keys enter k e : List ℕ) (x : PatternRead) (case : Case) (c : Cursor) (start : c ≡ startOf case) (h : ReadsBranches s c blank (replicate 256 0) (replicate 32 0) x k e) where
   -- what it is
   abbrev result : Read
   result = counted (readBranches (length s) s)
 
   abbrev Done : Parsed Pattern → Type 0
-  Done p = PatternDone (record { at = 0; atoms = 0 }) blank (replicate 256 0) (replicate 32 0) x k e p
+  Done p = PatternDone (startOf case) blank (replicate 256 0) (replicate 32 0) x k e p
 
   read : Done (readBranches (length s) s)
   read = rw start at h (length s) (omega arith)
@@ -234,7 +243,7 @@ module _ (s keys enter k e : List ℕ) (x : PatternRead) (c : Cursor) (start : c
     pub fault-figures : refusedPattern PatternSyntax ≡ readFigures result
     fault-figures = rw faulty refl
 
-    pub fault-keys : keys ≡ keysRead result keys
+    pub fault-keys : keys ≡ keysRead case result keys
     fault-keys = rw faulty refl
 
     pub fault-enter : enter ≡ enterRead result enter
@@ -252,7 +261,7 @@ module _ (s keys enter k e : List ℕ) (x : PatternRead) (c : Cursor) (start : c
       pub many-figures : refusedPattern TooManyAtoms ≡ readFigures result
       many-figures = rw many refl
 
-      pub many-keys : keys ≡ keysRead result keys
+      pub many-keys : keys ≡ keysRead case result keys
       many-keys = rw many refl
 
       pub many-enter : enter ≡ enterRead result enter
@@ -264,7 +273,7 @@ module _ (s keys enter k e : List ℕ) (x : PatternRead) (c : Cursor) (start : c
       pub reading : result ≡ accepted tree
       pub count : n ≡ atomCount tree
       pub sum : a ≡ summaryOf 0 tree blank
-      pub keyed : k ≡ through keysIn 0 tree (replicate 256 0)
+      pub keyed : k ≡ through (keysIn (setOf case)) 0 tree (replicate 256 0)
       pub entered : e ≡ through enterIn 0 tree (replicate 32 0)
 
     module _ (few : n ≤ 29) where
@@ -280,8 +289,8 @@ module _ (s keys enter k e : List ℕ) (x : PatternRead) (c : Cursor) (start : c
       pub fine-figures : {v : Accepting} → v ≡ acceptingOf a n → answered v ≡ readFigures result
       fine-figures {v} g = rw (fine .reading) (ap (λ (w : Accepting). answered w) (g ∙ ap (λ (b : Summary). acceptingOf b n) (fine .sum) ∙ accepts-all (fine .tree) n (fine .count)))
 
-      pub fine-keys : k ≡ keysRead result keys
-      fine-keys = rw (fine .reading) (fine .keyed ∙ keys-all (fine .tree))
+      pub fine-keys : k ≡ keysRead case result keys
+      fine-keys = rw (fine .reading) (fine .keyed ∙ keys-all (query case (fine .tree)))
 
       pub fine-enter : {p q : ℕ} → p ≡ 0 → q ≡ 1 → set (set e p (a .first)) q (a .free) ≡ enterRead result enter
       fine-enter i j = rw (i, j, fine .reading) (table (fine .sum) (fine .entered) ∙ enter-all (fine .tree))

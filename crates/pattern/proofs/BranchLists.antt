@@ -10,6 +10,8 @@ use lib.Dec.{eqb}
 use lib.ListN.{length, drop, getD, length-append, length-drop}
 use lib.Seq.{drop-drop, drop-at}
 use borrow.Author.Tests.{eq-eqb, ne-eqb}
+use Rattle.letters.specs.declared.Case.{Case}
+use Rattle.brackets.specs.Sets.{setOf}
 use Rattle.pattern.specs.declared.branch.BranchRead.{BranchRead}
 use Rattle.pattern.specs.declared.branch_list.PatternRead.{PatternRead}
 use Rattle.pattern.specs.declared.cursor.Cursor.{Cursor}
@@ -58,13 +60,14 @@ pub record BranchView (s : List ℕ) (c : Cursor) (keys enter : List ℕ) (d : C
   pub rest : List ℕ
   pub reading : readBranch (drop (c .at) s) ≡ parsed tree rest
   pub next : d .atoms ≡ c .atoms + atomsIn (tree .pieces)
+  pub held : d .case ≡ c .case
   pub here : rest ≡ drop (d .at) s
   pub on : c .at < d .at
   pub ready : Ready s d
   pub starts : start ≡ tree .start
   pub shape : p ≡ shapeIn (c .atoms) (tree .pieces)
   pub ends : end ≡ tree .end
-  pub keyed : keys' ≡ keysIn (c .atoms) (tree .pieces) keys
+  pub keyed : keys' ≡ keysIn (setOf (c .case)) (c .atoms) (tree .pieces) keys
   pub entered : enter' ≡ enterIn (c .atoms) (tree .pieces) enter
 
 module _ (s : List ℕ) (c : Cursor) (r : Ready s c) (keys enter keys' enter' : List ℕ) (x : BranchRead) (h : ReadsBranch s c keys enter x keys' enter') where
@@ -92,6 +95,7 @@ module _ (s : List ℕ) (c : Cursor) (r : Ready s c) (keys enter keys' enter' : 
             rest = rest;
             reading = q;
             next = many;
+            held = cc;
             here = sym (drop-at w rest (length w) refl) ∙ ap (drop (length w)) (sym split) ∙ drop-drop (length w) (c .at) s ∙ ap (λ (i : ℕ). drop i s) (sym (ate ∙ place));
             on = omega arith;
             ready = record { inside = omega (arith, r .inside); short = r .short; few = omega (arith, r .few); clean = r .clean };
@@ -167,7 +171,7 @@ module _ (s : List ℕ) (c : Cursor) (r : Ready s c) (keys enter keys' enter' : 
               go : (z : Parsed Pattern) → PatternDone (pastByte d) sum keys' enter' y keys'' enter'' z → PatternDone c a keys enter y keys'' enter'' (next z (λ ts. done (v .tree ∷ ts)))
               go (parsed ts rest) (i, j, k) = (
                 i ∙ same-answer (ap (λ (n : ℕ). n + atomCount ts) (v .next) ∙ add-assoc (c .atoms) (atomsIn (v .tree .pieces)) (atomCount ts)) (later (λ n a. summaryOf n ts a) whole),
-                j ∙ later (λ n l. through keysIn n ts l) (v .keyed),
+                j ∙ ap (λ (f : Case). through (keysIn (setOf f)) (d .atoms) ts keys') (v .held) ∙ later (λ n l. through (keysIn (setOf (c .case))) n ts l) (v .keyed),
                 k ∙ later (λ n l. through enterIn n ts l) (v .entered),
               )
               go fault i = i

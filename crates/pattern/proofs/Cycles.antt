@@ -10,6 +10,8 @@ use lib.ListN.{length, drop, getD, length-append, length-drop}
 use lib.Seq.{drop-drop, getD-drop, drop-at}
 use borrow.Author.Tests.{ne-eqb, eqb-true}
 use Rattle.stateset.proofs.Sets.{word-lt}
+use Rattle.letters.specs.declared.Case.{Case}
+use Rattle.brackets.specs.Sets.{Sets, setOf}
 use Rattle.pattern.specs.declared.cursor.Cursor.{Cursor}
 use Rattle.pattern.specs.declared.cursor.Part.{Part}
 use Rattle.pattern.specs.declared.shape.Shape.{Shape}
@@ -74,15 +76,15 @@ bytes-of f Mode.group l rest e h q =
 
 -- what was read, and where reading goes on: behind it, inside, with no more atoms than bytes
 pub record Behind (s : List ℕ) (c d : Cursor) (e : Expr) (rest : List ℕ) : Type 0 where
-  pub next : d ≡ record { at = length s - length rest; atoms = c .atoms + atoms e }
+  pub next : d ≡ record { at = length s - length rest; atoms = c .atoms + atoms e; case = c .case }
   pub here : rest ≡ drop (d .at) s
   pub on : c .at < d .at
   pub ready : Ready s d
 
--- what an expression comes to, whose atoms have the numbers from b on: its shape, and what it makes of the tables
-pub record Made (b : ℕ) (e : Expr) (p : Shape) (keys enter keys' enter' : List ℕ) : Type 0 where
+-- what an expression comes to, whose atoms have the sets S and the numbers from b on: its shape, and what it makes of the tables
+pub record Made (S : Sets) (b : ℕ) (e : Expr) (p : Shape) (keys enter keys' enter' : List ℕ) : Type 0 where
   pub shape : p ≡ shapeOf b e
-  pub keyed : keys' ≡ keysAfter b e keys
+  pub keyed : keys' ≡ keysAfter S b e keys
   pub entered : enter' ≡ enterAfter b e enter
 
 -- an answer of a reader says what was read
@@ -91,7 +93,7 @@ pub record View (s : List ℕ) (c : Cursor) (m : Mode) (keys enter : List ℕ) (
   pub rest : List ℕ
   pub reading : readExpr f m (drop (c .at) s) ≡ parsed expr rest
   pub behind-it : Behind s c d expr rest
-  pub made : Made (c .atoms) expr p keys enter keys' enter'
+  pub made : Made (setOf (c .case)) (c .atoms) expr p keys enter keys' enter'
 
 -- the byte at the cursor behind what was read
 pub peeked : (s : List ℕ) (i : ℕ) → at 0 (drop i s) ≡ getD s i 0
@@ -108,7 +110,7 @@ past s d r b e n =
 
 module _ (s : List ℕ) (c : Cursor) (r : Ready s c) where
   -- bytes that an expression takes at least as many of as it has atoms
-  behind : (d : Cursor) (e : Expr) (w rest : List ℕ) → drop (c .at) s ≡ w ++ rest → atoms e ≤ length w → d ≡ record { at = length s - length rest; atoms = c .atoms + atoms e } → Behind s c d e rest
+  behind : (d : Cursor) (e : Expr) (w rest : List ℕ) → drop (c .at) s ≡ w ++ rest → atoms e ≤ length w → d ≡ record { at = length s - length rest; atoms = c .atoms + atoms e; case = c .case } → Behind s c d e rest
   behind d e w rest f h g =
       let some : 1 ≤ atoms e = atoms-some e in
       let sum : length s - c .at ≡ length w + length rest = sym (length-drop (c .at) s) ∙ ap length f ∙ length-append w rest in
@@ -129,7 +131,7 @@ module _ (s : List ℕ) (c : Cursor) (r : Ready s c) where
         go : (y : Parsed Expr) → readExpr f m (drop (c .at) s) ≡ y → Done (length s) c keys enter x keys' enter' y → View s c m keys enter d p keys' enter' f
         go (parsed t rest) q (i, j, k) =
             let (w, split, enough) = bytes-of f m (drop (c .at) s) rest t (line-drop (c .at) s (r .clean)) q in
-            let next : d ≡ record { at = length s - length rest; atoms = c .atoms + atoms t } = cc in
+            let next : d ≡ record { at = length s - length rest; atoms = c .atoms + atoms t; case = c .case } = cc in
             record { expr = t; rest = rest; reading = q; behind-it = behind d t w rest split enough next; made = record { shape = cc; keyed = j; entered = k } }
         go fault q i = clash (cc)
 
@@ -204,22 +206,22 @@ unfolding nothing
 shape-seq b p q = rw (first-seq b p q, last-seq b p q)
 
 -- two expressions were read, the second from base b2 on: the answer for both
-module _ (n : ℕ) (c d : Cursor) (e1 e2 : Expr) (rest : List ℕ) (b2 : ℕ) (base : b2 ≡ c .atoms + atoms e1) (next : d ≡ record { at = n - length rest; atoms = b2 + atoms e2 }) where
-  place-two : d ≡ record { at = n - length rest; atoms = c .atoms + (atoms e1 + atoms e2) }
-  place-two = next ∙ rw (base, add-assoc)
+module _ (n : ℕ) (c d : Cursor) (e1 e2 : Expr) (rest : List ℕ) (b2 : ℕ) (base : b2 ≡ c .atoms + atoms e1) (f2 : Case) (same : f2 ≡ c .case) (next : d ≡ record { at = n - length rest; atoms = b2 + atoms e2; case = f2 }) where
+  place-two : d ≡ record { at = n - length rest; atoms = c .atoms + (atoms e1 + atoms e2); case = c .case }
+  place-two = next ∙ rw (base, same, add-assoc)
 
-  module _ {p1 p2 : Shape} {keys keys' keys'' enter enter' enter'' : List ℕ} (one : Made (c .atoms) e1 p1 keys enter keys' enter') (two : Made b2 e2 p2 keys' enter' keys'' enter'') where
+  module _ {p1 p2 : Shape} {keys keys' keys'' enter enter' enter'' : List ℕ} (one : Made (setOf (c .case)) (c .atoms) e1 p1 keys enter keys' enter') (two : Made (setOf f2) b2 e2 p2 keys' enter' keys'' enter'') where
     done-alt : (q : Shape) → q ≡ altShape p1 p2 → Done n c keys enter (Part.Read d q) keys'' enter'' (parsed (alt e1 e2) rest)
     unfolding atoms
     done-alt q e =
         let whole : q ≡ shapeOf (c .atoms) (alt e1 e2) = e ∙ rw (one .shape, two .shape, base) (shape-alt (c .atoms) e1 e2) in
-        (cc (place-two, whole), two .keyed ∙ rw (base, one .keyed) (keys-alt (c .atoms) e1 e2 keys), two .entered ∙ rw (base, one .entered) (enter-alt (c .atoms) e1 e2 enter))
+        (cc (place-two, whole), two .keyed ∙ rw (base, same, one .keyed) (keys-alt (c .atoms) e1 e2 (setOf (c .case)) keys), two .entered ∙ rw (base, one .entered) (enter-alt (c .atoms) e1 e2 enter))
 
     done-seq : (q : Shape) (after : List ℕ) → q ≡ seqShape p1 p2 → after ≡ linked (p1 .last) (p2 .first) enter'' → Done n c keys enter (Part.Read d q) keys'' after (parsed (seq e1 e2) rest)
     unfolding atoms
     done-seq q after e f =
         let whole : q ≡ shapeOf (c .atoms) (seq e1 e2) = e ∙ rw (one .shape, two .shape, base) (shape-seq (c .atoms) e1 e2) in
-        (cc (place-two, whole), two .keyed ∙ rw (base, one .keyed) (keys-seq (c .atoms) e1 e2 keys), f ∙ rw (one .shape, two .shape, two .entered, base, one .entered) (enter-seq (c .atoms) e1 e2 enter))
+        (cc (place-two, whole), two .keyed ∙ rw (base, same, one .keyed) (keys-seq (c .atoms) e1 e2 (setOf (c .case)) keys), f ∙ rw (one .shape, two .shape, two .entered, base, one .entered) (enter-seq (c .atoms) e1 e2 enter))
 
 module _ (s : List ℕ) (c : Cursor) (r : Ready s c) (keys enter : List ℕ) where
   module _ {m : Mode} {d : Cursor} {p : Shape} {keys' enter' : List ℕ} {k : ℕ} (v : View s c m keys enter d p keys' enter' k) where
@@ -272,7 +274,7 @@ module _ (s : List ℕ) (c : Cursor) (r : Ready s c) (keys enter : List ℕ) whe
             both : (k : ℕ) (v : FirstBranch k) → View s c2 Mode.alts keys' enter' d2 p2 keys'' enter'' k → ReadsIn (suc k) Mode.alts s c keys enter (Part.Read d2 q) keys'' enter''
             both k v w =
                 rw (v .reading, byte v b eb, bar, skipped s c d (v .expr) (v .rest) (v .behind-it), w .reading)
-                (done-alt (length s) c d2 (v .expr) (w .expr) (w .rest) (d .atoms) (ap (λ (z : Cursor). z .atoms) (v .behind-it .next)) (w .behind-it .next) (v .made) (w .made) q g)
+                (done-alt (length s) c d2 (v .expr) (w .expr) (w .rest) (d .atoms) (ap (λ (z : Cursor). z .atoms) (v .behind-it .next)) (d .case) (ap (λ (z : Cursor). z .case) (v .behind-it .next)) (w .behind-it .next) (v .made) (w .made) q g)
 
             go : (k : ℕ) → room Mode.alts (length s - c .at) ≤ suc k → (v : FirstBranch k) → ReadsIn (suc k) Mode.alts s c keys enter (Part.Read d2 q) keys'' enter''
             go k i v =
@@ -314,7 +316,7 @@ module _ (s : List ℕ) (c : Cursor) (r : Ready s c) (keys enter : List ℕ) whe
               both : (k : ℕ) (v : FirstPiece k) → View s d Mode.branch keys' enter' d2 p2 keys'' enter'' k → ReadsIn (suc k) Mode.branch s c keys enter (Part.Read d2 q) keys'' after
               both k v w =
                   rw (v .reading, byte v b eb, ← et, more, v .behind-it .here, w .reading)
-                  (done-seq (length s) c d2 (v .expr) (w .expr) (w .rest) (d .atoms) (ap (λ (z : Cursor). z .atoms) (v .behind-it .next)) (w .behind-it .next) (v .made) (w .made) q after g l)
+                  (done-seq (length s) c d2 (v .expr) (w .expr) (w .rest) (d .atoms) (ap (λ (z : Cursor). z .atoms) (v .behind-it .next)) (d .case) (ap (λ (z : Cursor). z .case) (v .behind-it .next)) (w .behind-it .next) (v .made) (w .made) q after g l)
 
               go : (k : ℕ) → room Mode.branch (length s - c .at) ≤ suc k → (v : FirstPiece k) → ReadsIn (suc k) Mode.branch s c keys enter (Part.Read d2 q) keys'' after
               go k i v = both k v (view s d (v .behind-it .ready) Mode.branch keys' enter' y keys'' enter'' h2 d2 p2 f k (omega (arith, v .behind-it .on, v .behind-it .ready .inside)))
@@ -342,20 +344,21 @@ module _ (s : List ℕ) (c : Cursor) (r : Ready s c) (keys enter : List ℕ) whe
               let r2 = past s d (v .behind-it .ready) b eb (nonzero b 41 (omega arith) n) in
               let place : d .at + 1 ≡ length s - length (drop 1 (v .rest)) = rw (skipped s c d (v .expr) (v .rest) (v .behind-it), length-drop) (omega (arith, r2 .inside)) in
               let many : d .atoms ≡ c .atoms + atoms (v .expr) = ap (λ (z : Cursor). z .atoms) (v .behind-it .next) in
-              rw (v .reading, byte v b eb, n) (cc (place, many, v .made .shape), v .made .keyed, v .made .entered)
+              let held : d .case ≡ c .case = ap (λ (z : Cursor). z .case) (v .behind-it .next) in
+              rw (v .reading, byte v b eb, n) (cc (place, many, held, v .made .shape), v .made .keyed, v .made .entered)
 
       pub group-closed : (n : Cursor) → n ≡ pastByte d → b ≡ 41 → Reads Mode.group s c keys enter (Part.Read n p) keys' enter'
       group-closed n en h = rw en (closed h)
 
 -- what a mark behind a part makes of it and of the table of states, by the tests for `*`, `+` and `?`
 abbrev partBy : Bool → Bool → Bool → Cursor → Shape → Part
-partBy t u w d p = Part.Read (record { at = cond (t || (u || w)) (d .at + 1) (d .at); atoms = d .atoms }) (cond (t || w) (record { nothing = true; first = p .first; last = p .last }) p)
+partBy t u w d p = Part.Read (record { at = cond (t || (u || w)) (d .at + 1) (d .at); atoms = d .atoms; case = d .case }) (cond (t || w) (record { nothing = true; first = p .first; last = p .last }) p)
 
 abbrev enterBy : Bool → Bool → Shape → List ℕ → List ℕ
 enterBy t u p enter = cond (t || u) (linked (p .last) (p .first) enter) enter
 
 -- an atom or a group was read, and a mark of repetition m or none stands behind it
-module _ {s rest keys enter keys' enter' : List ℕ} {c d : Cursor} {e : Expr} {p : Shape} (v : Behind s c d e rest) (made : Made (c .atoms) e p keys enter keys' enter') where
+module _ {s rest keys enter keys' enter' : List ℕ} {c d : Cursor} {e : Expr} {p : Shape} (v : Behind s c d e rest) (made : Made (setOf (c .case)) (c .atoms) e p keys enter keys' enter') where
   done-repeat : (m : ℕ) → m ≡ getD s (d .at) 0 → (y : Part) (after : List ℕ) → y ≡ repeatPart m d p → after ≡ repeatEnter m p enter' → Done (length s) c keys enter y keys' after (readRepeat e rest)
   unfolding readRepeat atoms nothing first last follow holds
   done-repeat m em y after ey ea = rw (ey, ea, front) (go (eqb m 42) (eqb m 43) (eqb m 63) refl refl refl)
@@ -366,6 +369,9 @@ module _ {s rest keys enter keys' enter' : List ℕ} {c d : Cursor} {e : Expr} {
       many : d .atoms ≡ c .atoms + atoms e
       many = ap (λ (z : Cursor). z .atoms) (v .next)
 
+      held : d .case ≡ c .case
+      held = ap (λ (z : Cursor). z .case) (v .next)
+
       on : (n : ℕ) → 1 ≤ n → eqb m n ≡ true → d .at + 1 ≡ length s - length (drop 1 rest)
       on n l q =
           let i : d .at < length s = inside s (d .at) (λ z. nonzero m n l (eqb-true m n q) (em ∙ z)) in
@@ -375,10 +381,10 @@ module _ {s rest keys enter keys' enter' : List ℕ} {c d : Cursor} {e : Expr} {
       two f g = omega arith
 
       go : (t u w : Bool) → eqb m 42 ≡ t → eqb m 43 ≡ u → eqb m 63 ≡ w → Done (length s) c keys enter (partBy t u w d p) keys' (enterBy t u p enter') (markedBy t u w e rest)
-      go true u w i j k = (cc (on 42 (omega arith) i, many, made .shape), made .keyed, rw (made .shape, made .entered) (enter-again (c .atoms) e enter))
+      go true u w i j k = (cc (on 42 (omega arith) i, many, held, made .shape), made .keyed, rw (made .shape, made .entered) (enter-again (c .atoms) e enter))
       go false true true i j k = absurd (two (eqb-true m 43 j) (eqb-true m 63 k))
-      go false true false i j k = (cc (on 43 (omega arith) j, many, made .shape), made .keyed, rw (made .shape, made .entered) (enter-again (c .atoms) e enter))
-      go false false true i j k = (rw (on 63 (omega arith) k, many, made .shape), made .keyed, made .entered)
+      go false true false i j k = (cc (on 43 (omega arith) j, many, held, made .shape), made .keyed, rw (made .shape, made .entered) (enter-again (c .atoms) e enter))
+      go false false true i j k = (rw (on 63 (omega arith) k, many, held, made .shape), made .keyed, made .entered)
       go false false false i j k = (cc (v .next, made .shape), made .keyed, made .entered)
 
 module _ (s : List ℕ) (c : Cursor) (r : Ready s c) (keys enter : List ℕ) (b : ℕ) (eb : b ≡ getD s (c .at) 0) where
@@ -424,9 +430,9 @@ module _ (s : List ℕ) (c : Cursor) (r : Ready s c) (keys enter : List ℕ) (b 
         where
           go : (z : Parsed Atom) → readAtom (drop (c .at) s) ≡ z → AtomDone (length s) c keys x keys' z → Done (length s) c keys enter y keys' after (next (next z (λ a. done (atom a))) readRepeat)
           go (parsed a rest) q (i, j) =
-              let there : d ≡ record { at = length s - length rest; atoms = c .atoms + 1 } = cc in
+              let there : d ≡ record { at = length s - length rest; atoms = c .atoms + 1; case = c .case } = cc in
               let v = behind s c r d (atom a) (writeAtom a) rest (atom-from (drop (c .at) s) rest a (line-drop (c .at) s (r .clean)) q .0) (atom-long a) there in
-              let made : Made (c .atoms) (atom a) p keys enter keys' enter = record { shape = cc; keyed = j; entered = enter-atom (c .atoms) a enter } in
+              let made : Made (setOf (c .case)) (c .atoms) (atom a) p keys enter keys' enter = record { shape = cc; keyed = j; entered = enter-atom (c .atoms) a enter } in
               done-repeat v made m em y after ey ea
           go fault q i = clash (cc)
 
@@ -464,7 +470,7 @@ module _ (s : List ℕ) (c : Cursor) (r : Ready s c) (keys keys' : List ℕ) (x 
     where
       go : (z : Parsed Atom) → readAtom (drop (c .at) s) ≡ z → AtomDone (length s) c keys x keys' z → (Ready s d) × (p .last < 2 ^ 32)
       go (parsed a rest) q (i, j) =
-          let there : d ≡ record { at = length s - length rest; atoms = c .atoms + 1 } = cc in
+          let there : d ≡ record { at = length s - length rest; atoms = c .atoms + 1; case = c .case } = cc in
           let shape : p ≡ shapeOf (c .atoms) (atom a) = cc in
           let v = behind s c r d (atom a) (writeAtom a) rest (atom-from (drop (c .at) s) rest a (line-drop (c .at) s (r .clean)) q .0) (atom-long a) there in
           (v .ready, rw shape (word-lt 32 (λ q. atomState (last (c .atoms) (atom a)) q)))

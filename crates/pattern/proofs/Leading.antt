@@ -8,20 +8,20 @@ use lib.Dec.{eqb}
 use borrow.Author.Tests.{eqb-true, eq-eqb}
 use Rattle.stateset.specs.Set.{anyBelow}
 use Rattle.stateset.proofs.Some.{any-some, any-witness, any-ext, any-none, any-through, any-at}
+use Rattle.pattern.specs.Meaning.{Query}
 use Rattle.pattern.specs.Moves.{states, target, move, accepting, leads, acceptedFrom}
 use Rattle.pattern.proofs.AcceptedLines.{move-below}
 use Rattle.runs.proofs.Tests.{and-both, and-fst, and-snd, tests-ext}
-use Rattle.pattern.specs.Form.{Pattern}
 use Rattle.runs.specs.Keys.{lineKey}
 
-module _ (t : Pattern) where
+module _ (t : Query) where
   -- no key leads anywhere else
   pub leads-none : (q p : ℕ) → leads t q [] p ≡ eqb q p
   unfolding leads
   leads-none q p = refl
 
   -- a state is accepted from if some state that is led to accepts
-  pub accepted-is : (q : ℕ) (w : List ℕ) → acceptedFrom t q w ≡ anyBelow (states t) (λ p. leads t q w p && accepting t p)
+  pub accepted-is : (q : ℕ) (w : List ℕ) → acceptedFrom t q w ≡ anyBelow (states t) (λ p. leads t q w p && accepting (t .tree) p)
   unfolding acceptedFrom
   accepted-is q w = refl
 
@@ -38,9 +38,9 @@ module _ (t : Pattern) where
   pub accepted-append : (u v : List ℕ) (q : ℕ) → q < states t → acceptedFrom t q (u ++ v) ≡ anyBelow (states t) (λ r. leads t q u r && acceptedFrom t r v)
   unfolding acceptedFrom
   accepted-append u v q h =
-      any-ext (states t) (λ p. leads t q (u ++ v) p && accepting t p) (λ p. anyBelow (states t) (λ r. leads t q u r && leads t r v p) && accepting t p)
-      (λ p l. ap (λ (b : Bool). b && accepting t p) (leads-append u v q p h))
-      ∙ sym (any-through (states t) (leads t q u) (λ r p. leads t r v p) (accepting t))
+      any-ext (states t) (λ p. leads t q (u ++ v) p && accepting (t .tree) p) (λ p. anyBelow (states t) (λ r. leads t q u r && leads t r v p) && accepting (t .tree) p)
+      (λ p l. ap (λ (b : Bool). b && accepting (t .tree) p) (leads-append u v q p h))
+      ∙ sym (any-through (states t) (leads t q u) (λ r p. leads t r v p) (accepting (t .tree)))
 
   -- one key leads as it moves
   pub leads-one : (c q p : ℕ) → leads t q (c ∷ []) p ≡ move t q c p

@@ -2,6 +2,7 @@
 pub mod Examples
 pub mod Leaves
 pub mod Meaning
+pub mod CaseLaws
 pub mod Numbering
 pub mod Continuations
 pub mod SomeBranch

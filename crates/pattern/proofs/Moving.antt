@@ -11,6 +11,7 @@ use Rattle.stateset.specs.Set.{bit, word, anyBelow, common, imageOf}
 use Rattle.stateset.proofs.Sets.{word-lt, word-unique, word-one, word-or, word-ext, bit-word, bit-or, bit-one, bit-chosen}
 use Rattle.stateset.proofs.Common.{common-word}
 use Rattle.stateset.proofs.Some.{any-some, any-witness, any-ext, any-none, any-widen, any-or, any-through}
+use Rattle.pattern.specs.Meaning.{Query}
 use Rattle.pattern.specs.States.{endsFree, endsAnchored, emptyBranch, emptyFree, atomState, atomWord, holdsKey}
 use Rattle.pattern.specs.Moves.{into, intoEnd, jumps, target, move, accepting}
 use Rattle.pattern.specs.Automata.{keyTable, enterTable}
@@ -68,10 +69,10 @@ chosen-lt : (b : Bool) (n : ℕ) → n < 2 ^ 32 → cond b n 0 < 2 ^ 32
 chosen-lt true n h = h
 chosen-lt false n h = omega arith
 
-module _ (t : Pattern) (few : atomCount t ≤ 29) (x c : ℕ) (l : lineKey c ≡ true) where
+module _ (t : Query) (few : atomCount (t .tree) ≤ 29) (x c : ℕ) (l : lineKey c ≡ true) where
   -- the atoms that are entered
   abbrev entered : ℕ
-  entered = bitAnd (imageOf (enterTable t) x) (getD (keyTable t) c 0)
+  entered = bitAnd (imageOf (enterTable (t .tree)) x) (getD (keyTable t) c 0)
 
   -- from some state of x
   abbrev from : (ℕ → Bool) → Bool
@@ -81,10 +82,10 @@ module _ (t : Pattern) (few : atomCount t ≤ 29) (x c : ℕ) (l : lineKey c ≡
   moving = common 64 x (bitOr 1 2)
 
   abbrev always : Bool
-  always = common 64 x (alwaysWord t)
+  always = common 64 x (alwaysWord (t .tree))
 
   abbrev ending : Bool
-  ending = common 64 entered (atomWord (endsFree t))
+  ending = common 64 entered (atomWord (endsFree (t .tree)))
 
   -- the word of the states that are led to: the atoms, mid-line, and found for two reasons
   abbrev ledWord : ℕ
@@ -108,23 +109,23 @@ module _ (t : Pattern) (few : atomCount t ≤ 29) (x c : ℕ) (l : lineKey c ≡
   moving-is : moving ≡ from (λ q. eqb q 0 || eqb q 1)
   moving-is = ap (common 64 x) fixed-two ∙ common-word 32 x (λ q. eqb q 0 || eqb q 1) (omega arith)
 
-  always-is : always ≡ from (λ q. eqb q 2 || jumps t q)
-  always-is = common-word 32 x (λ q. eqb q 2 || jumps t q) (omega arith)
+  always-is : always ≡ from (λ q. eqb q 2 || jumps (t .tree) q)
+  always-is = common-word 32 x (λ q. eqb q 2 || jumps (t .tree) q) (omega arith)
 
   -- an atom that is entered is one of the pattern's
-  no-atom : (q k : ℕ) → atomCount t ≤ k → (into t q c k && endsFree t k) ≡ false
+  no-atom : (q k : ℕ) → atomCount (t .tree) ≤ k → (into t q c k && endsFree (t .tree) k) ≡ false
   no-atom q k h = go (holdsKey t k c) refl
     where
-      go : (b : Bool) → holdsKey t k c ≡ b → (into t q c k && endsFree t k) ≡ false
+      go : (b : Bool) → holdsKey t k c ≡ b → (into t q c k && endsFree (t .tree) k) ≡ false
       go true e = absurd (omega (arith, holds-below t k c e))
       go false e = rw (e, and-false) refl
 
-  ends-is : (q : ℕ) → anyBelow 32 (λ p. atomState (into t q c) p && atomState (endsFree t) p) ≡ intoEnd t q c
+  ends-is : (q : ℕ) → anyBelow 32 (λ p. atomState (into t q c) p && atomState (endsFree (t .tree)) p) ≡ intoEnd t q c
   ends-is q =
-      any-ext 32 (λ p. atomState (into t q c) p && atomState (endsFree t) p) (atomState (λ k. into t q c k && endsFree t k))
-      (λ p h. and-part (leb 3 p) (into t q c (p - 3)) (endsFree t (p - 3)))
-      ∙ any-atoms 29 (λ k. into t q c k && endsFree t k)
-      ∙ any-widen (atomCount t) 29 (λ k. into t q c k && endsFree t k) few (no-atom q)
+      any-ext 32 (λ p. atomState (into t q c) p && atomState (endsFree (t .tree)) p) (atomState (λ k. into t q c k && endsFree (t .tree) k))
+      (λ p h. and-part (leb 3 p) (into t q c (p - 3)) (endsFree (t .tree) (p - 3)))
+      ∙ any-atoms 29 (λ k. into t q c k && endsFree (t .tree) k)
+      ∙ any-widen (atomCount (t .tree)) 29 (λ k. into t q c k && endsFree (t .tree) k) few (no-atom q)
     where
       and-part : (a b c : Bool) → ((a && b) && (a && c)) ≡ (a && (b && c))
       and-part true b c = refl
@@ -132,11 +133,11 @@ module _ (t : Pattern) (few : atomCount t ≤ 29) (x c : ℕ) (l : lineKey c ≡
 
   ending-is : ending ≡ from (λ q. intoEnd t q c)
   ending-is =
-      common-word 32 entered (atomState (endsFree t)) (omega arith)
-      ∙ any-ext 32 (λ p. bit entered p && atomState (endsFree t) p) (λ p. anyBelow 32 (λ q. bit x q && atomState (into t q c) p) && atomState (endsFree t) p)
-      (λ p h. ap (λ (b : Bool). b && atomState (endsFree t) p) (entered-bit t c (key-byte c l) x p h))
-      ∙ sym (any-through 32 (bit x) (λ q p. atomState (into t q c) p) (atomState (endsFree t)))
-      ∙ from-same (λ q. anyBelow 32 (λ p. atomState (into t q c) p && atomState (endsFree t) p)) (λ q. intoEnd t q c) (λ q h. ends-is q)
+      common-word 32 entered (atomState (endsFree (t .tree))) (omega arith)
+      ∙ any-ext 32 (λ p. bit entered p && atomState (endsFree (t .tree)) p) (λ p. anyBelow 32 (λ q. bit x q && atomState (into t q c) p) && atomState (endsFree (t .tree)) p)
+      (λ p h. ap (λ (b : Bool). b && atomState (endsFree (t .tree)) p) (entered-bit t c (key-byte c l) x p h))
+      ∙ sym (any-through 32 (bit x) (λ q p. atomState (into t q c) p) (atomState (endsFree (t .tree))))
+      ∙ from-same (λ q. anyBelow 32 (λ p. atomState (into t q c) p && atomState (endsFree (t .tree)) p)) (λ q. intoEnd t q c) (λ q h. ends-is q)
 
   -- the states that are led to, by their numbers
   led : (p : ℕ) → p < 32 → ledTo p ≡ from (λ q. target t q c p)
@@ -149,9 +150,9 @@ module _ (t : Pattern) (few : atomCount t ≤ 29) (x c : ℕ) (l : lineKey c ≡
   led (suc (suc zero)) h =
       into-found (from (λ q. false)) moving always ending from-none
       ∙ ap (λ (b : Bool). b || ending) always-is
-      ∙ ap (λ (b : Bool). from (λ q. eqb q 2 || jumps t q) || b) ending-is
-      ∙ sym (from-or (λ q. eqb q 2 || jumps t q) (λ q. intoEnd t q c))
-      ∙ from-same (λ q. (eqb q 2 || jumps t q) || intoEnd t q c) (λ q. eqb q 2 || (jumps t q || intoEnd t q c)) (λ q h. or-assoc (eqb q 2) (jumps t q) (intoEnd t q c))
+      ∙ ap (λ (b : Bool). from (λ q. eqb q 2 || jumps (t .tree) q) || b) ending-is
+      ∙ sym (from-or (λ q. eqb q 2 || jumps (t .tree) q) (λ q. intoEnd t q c))
+      ∙ from-same (λ q. (eqb q 2 || jumps (t .tree) q) || intoEnd t q c) (λ q. eqb q 2 || (jumps (t .tree) q || intoEnd t q c)) (λ q h. or-assoc (eqb q 2) (jumps (t .tree) q) (intoEnd t q c))
     where
       into-found : (f m a e : Bool) → f ≡ false → ((f || (m && false)) || ((a && true) || (e && true))) ≡ (a || e)
       into-found f m a e h = rw h (simp (and-true, and-false))

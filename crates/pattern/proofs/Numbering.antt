@@ -6,7 +6,7 @@ use mathlib.Core.Logic.{_⊎_, inl, inr, ⊎-elim}
 use mathlib.Core.Bool.{Bool, true, _&&_, _||_, false≢true}
 use lib.Dec.{eqb}
 use borrow.Author.Tests.{eqb-true}
-use Rattle.brackets.specs.Sets.{setOf}
+use Rattle.brackets.specs.Sets.{Sets}
 use Rattle.pattern.specs.States.{nothing, first, last, follow, holds}
 use Rattle.runs.proofs.Tests.{or-cases, and-fst, and-snd}
 use Rattle.pattern.specs.Form.{Expr, atom, group, star, plus, opt, seq, alt, atoms}
@@ -47,17 +47,17 @@ first-within b (seq p q) k h =
 first-within b (alt p q) k h =
     of-tests (atoms p) (atoms q) (first b p k) (first (b + atoms p) q k) h (λ i. first-within b p k i) (λ i. first-within (b + atoms p) q k i)
 
-pub holds-within : (b : ℕ) (e : Expr) (k c : ℕ) → holds b e k c ≡ true → Within b (atoms e) k
+pub holds-within : (S : Sets) (b : ℕ) (e : Expr) (k c : ℕ) → holds S b e k c ≡ true → Within b (atoms e) k
 unfolding holds atoms
-holds-within b (atom a) k c h = one-within (eqb-true b k (and-fst (eqb b k) (setOf a c) h))
-holds-within b (group e) k c h = holds-within b e k c h
-holds-within b (star e) k c h = holds-within b e k c h
-holds-within b (plus e) k c h = holds-within b e k c h
-holds-within b (opt e) k c h = holds-within b e k c h
-holds-within b (seq p q) k c h =
-    of-tests (atoms p) (atoms q) (holds b p k c) (holds (b + atoms p) q k c) h (λ i. holds-within b p k c i) (λ i. holds-within (b + atoms p) q k c i)
-holds-within b (alt p q) k c h =
-    of-tests (atoms p) (atoms q) (holds b p k c) (holds (b + atoms p) q k c) h (λ i. holds-within b p k c i) (λ i. holds-within (b + atoms p) q k c i)
+holds-within S b (atom a) k c h = one-within (eqb-true b k (and-fst (eqb b k) (S a c) h))
+holds-within S b (group e) k c h = holds-within S b e k c h
+holds-within S b (star e) k c h = holds-within S b e k c h
+holds-within S b (plus e) k c h = holds-within S b e k c h
+holds-within S b (opt e) k c h = holds-within S b e k c h
+holds-within S b (seq p q) k c h =
+    of-tests (atoms p) (atoms q) (holds S b p k c) (holds S (b + atoms p) q k c) h (λ i. holds-within S b p k c i) (λ i. holds-within S (b + atoms p) q k c i)
+holds-within S b (alt p q) k c h =
+    of-tests (atoms p) (atoms q) (holds S b p k c) (holds S (b + atoms p) q k c) h (λ i. holds-within S b p k c i) (λ i. holds-within S (b + atoms p) q k c i)
 
 -- of a repeated expression
 again-within : (b : ℕ) (e : Expr) (k j : ℕ) → (follow b e k j ≡ true → Within b (atoms e) j) → (follow b e k j || (last b e k && first b e j)) ≡ true → Within b (atoms e) j

@@ -12,7 +12,7 @@ use Rattle.pattern.specs.Tables.{linked}
 use Rattle.pattern.specs.Cycle.{pastByte, repeatShape, repeatEnter, repeatAt}
 
 -- one byte on, and no atom more
-pub same-count : (c : Cursor) {d : Cursor} → d ≡ record { at = c .at + 1; atoms = c .atoms + 0 } → d ≡ pastByte c
+pub same-count : (c : Cursor) {d : Cursor} → d ≡ record { at = c .at + 1; atoms = c .atoms + 0; case = c .case } → d ≡ pastByte c
 same-count c e = e ∙ rw add-zero refl
 
 module _ (c : Cursor) (p : Shape) {b m : ℕ} (e : m ≡ b) where
@@ -22,7 +22,7 @@ module _ (c : Cursor) (p : Shape) {b m : ℕ} (e : m ≡ b) where
 
   -- what the reader of the mark answers
   abbrev Marked : Cursor → Shape → Type 0
-  Marked d q = Part.Read d q ≡ Part.Read (record { at = repeatAt b (c .at); atoms = c .atoms }) (repeatShape b p)
+  Marked d q = Part.Read d q ≡ Part.Read (record { at = repeatAt b (c .at); atoms = c .atoms; case = c .case }) (repeatShape b p)
 
   pub star-read : {d : Cursor} → m ≡ 42 → d ≡ pastByte c → Marked d optional
   star-read f g = let h : b ≡ 42 = sym e ∙ f in rw (g, h) refl

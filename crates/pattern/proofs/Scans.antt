@@ -11,6 +11,7 @@ use lib.ListN.{length, getD, take}
 use lib.Seq.{take-suc, take-all}
 use borrow.Author.Tests.{le-leb, lt-leb, eqb-true, eqb-false, ltb-true, ltb-false}
 use Rattle.refusal.specs.declared.Refusal.the-variants.{PatternLength, PatternSyntax}
+use Rattle.letters.specs.declared.Case.{Case}
 use Rattle.pattern.specs.Reader.{Read, refused, readBranches, counted, readPattern}
 use Rattle.pattern.specs.Cycle.{Ready}
 use Rattle.refusal.specs.Figures.{Figures}
@@ -53,8 +54,8 @@ module _ (s : List ℕ) where
     pub wrong-figures : refusedPattern PatternLength ≡ readFigures (readPattern s)
     wrong-figures = rw wrong refl
 
-    pub wrong-keys : (keys : List ℕ) → keys ≡ keysRead (readPattern s) keys
-    wrong-keys keys = rw wrong refl
+    pub wrong-keys : (c : Case) (keys : List ℕ) → keys ≡ keysRead c (readPattern s) keys
+    wrong-keys c keys = rw wrong refl
 
     pub wrong-enter : (enter : List ℕ) → enter ≡ enterRead (readPattern s) enter
     wrong-enter enter = rw wrong refl
@@ -75,16 +76,16 @@ module _ (s : List ℕ) where
       pub unclean-figures : refusedPattern PatternSyntax ≡ readFigures (readPattern s)
       unclean-figures = rw unclean refl
 
-      pub unclean-keys : (keys : List ℕ) → keys ≡ keysRead (readPattern s) keys
-      unclean-keys keys = rw unclean refl
+      pub unclean-keys : (c : Case) (keys : List ℕ) → keys ≡ keysRead c (readPattern s) keys
+      unclean-keys c keys = rw unclean refl
 
       pub unclean-enter : (enter : List ℕ) → enter ≡ enterRead (readPattern s) enter
       unclean-enter enter = rw unclean refl
 
     -- or as its branches say
     module _ (e : t ≡ true) where
-      pub pattern-ready : Ready s (record { at = 0; atoms = 0 })
-      pattern-ready = record { inside = omega arith; short = short; few = omega arith; clean = sym d ∙ e }
+      pub pattern-ready : (c : Case) → Ready s (record { at = 0; atoms = 0; case = c })
+      pattern-ready c = record { inside = omega arith; short = short; few = omega arith; clean = sym d ∙ e }
 
       same : counted (readBranches (length s) s) ≡ readPattern s
       unfolding readPattern
@@ -93,8 +94,8 @@ module _ (s : List ℕ) where
       pub clean-figures : {f : Figures Accepting} → f ≡ readFigures (counted (readBranches (length s) s)) → f ≡ readFigures (readPattern s)
       clean-figures g = g ∙ ap readFigures same
 
-      pub clean-keys : (keys : List ℕ) {keys' : List ℕ} → keys' ≡ keysRead (counted (readBranches (length s) s)) keys → keys' ≡ keysRead (readPattern s) keys
-      clean-keys keys g = g ∙ ap (λ (r : Read). keysRead r keys) same
+      pub clean-keys : (c : Case) (keys : List ℕ) {keys' : List ℕ} → keys' ≡ keysRead c (counted (readBranches (length s) s)) keys → keys' ≡ keysRead c (readPattern s) keys
+      clean-keys c keys g = g ∙ ap (λ (r : Read). keysRead c r keys) same
 
       pub clean-enter : (enter : List ℕ) {enter' : List ℕ} → enter' ≡ enterRead (counted (readBranches (length s) s)) enter → enter' ≡ enterRead (readPattern s) enter
       clean-enter enter g = g ∙ ap (λ (r : Read). enterRead r enter) same

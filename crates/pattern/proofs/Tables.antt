@@ -9,7 +9,8 @@ use borrow.Author.Tests.{ltb-true, ltb-false}
 use Rattle.stateset.specs.Set.{bit}
 use Rattle.stateset.proofs.Sets.{word-or, word-ext, word-none, word-high, bit-word, or-assoc}
 use Rattle.brackets.specs.Form.{Atom}
-use Rattle.brackets.specs.Sets.{setOf}
+use Rattle.letters.specs.declared.Case.{Case}
+use Rattle.brackets.specs.Sets.{Sets, setOf}
 use Rattle.pattern.specs.States.{nothing, first, last, follow, holds, atomState, atomWord}
 use Rattle.brackets.proofs.Entries.{with-same, with-with, with-none}
 use Rattle.pattern.specs.Tables.{isAtom, keysAfter, enterAfter, linked}
@@ -80,13 +81,13 @@ link-entry P F L Z s x e =
     (added-if (isAtom s && L (s - 3)) F (bitOr x (atomWord P)) ∙ both-added P (λ j. (isAtom s && L (s - 3)) && F j) Z e x)
 
 module _ (b : ℕ) (p q : Expr) where
-  pub keys-seq : (keys : List ℕ) → keysAfter (b + atoms p) q (keysAfter b p keys) ≡ keysAfter b (seq p q) keys
+  pub keys-seq : (S : Sets) (keys : List ℕ) → keysAfter S (b + atoms p) q (keysAfter S b p keys) ≡ keysAfter S b (seq p q) keys
   unfolding holds
-  keys-seq keys = with-with _ _ 0 keys ∙ with-same _ _ (λ c x. both-added (λ k. holds b p k c) (λ k. holds (b + atoms p) q k c) (λ k. holds b (seq p q) k c) (λ k. refl) x) 0 keys
+  keys-seq S keys = with-with _ _ 0 keys ∙ with-same _ _ (λ c x. both-added (λ k. holds S b p k c) (λ k. holds S (b + atoms p) q k c) (λ k. holds S b (seq p q) k c) (λ k. refl) x) 0 keys
 
-  pub keys-alt : (keys : List ℕ) → keysAfter (b + atoms p) q (keysAfter b p keys) ≡ keysAfter b (alt p q) keys
+  pub keys-alt : (S : Sets) (keys : List ℕ) → keysAfter S (b + atoms p) q (keysAfter S b p keys) ≡ keysAfter S b (alt p q) keys
   unfolding holds
-  keys-alt keys = with-with _ _ 0 keys ∙ with-same _ _ (λ c x. both-added (λ k. holds b p k c) (λ k. holds (b + atoms p) q k c) (λ k. holds b (alt p q) k c) (λ k. refl) x) 0 keys
+  keys-alt S keys = with-with _ _ 0 keys ∙ with-same _ _ (λ c x. both-added (λ k. holds S b p k c) (λ k. holds S (b + atoms p) q k c) (λ k. holds S b (alt p q) k c) (λ k. refl) x) 0 keys
 
   -- and each state what it may enter
   pub enter-alt : (enter : List ℕ) → enterAfter (b + atoms p) q (enterAfter b p enter) ≡ enterAfter b (alt p q) enter
@@ -123,9 +124,10 @@ enter-again b e enter = with-with _ _ 0 enter ∙ with-same _ _
     enter
 
 -- an atom has its keys, and no other follows it
-pub keys-atom : (b : ℕ) (a : Atom) (keys : List ℕ) → keysWith a (atomWord (eqb b)) keys ≡ keysAfter b (atom a) keys
+pub keys-atom : (case : Case) (b : ℕ) (a : Atom) (keys : List ℕ) → keysWith case a (atomWord (eqb b)) keys ≡ keysAfter (setOf case) b (atom a) keys
 unfolding holds
-keys-atom b a keys = with-same _ _ (λ c x. added-if (setOf a c) (eqb b) x ∙ ap (λ (y : ℕ). bitOr x y) (atoms-same _ _ (λ k. and-comm (setOf a c) (eqb b k)))) 0 keys
+keys-atom case b a keys =
+    with-same _ _ (λ c x. added-if (setOf case a c) (eqb b) x ∙ ap (λ (y : ℕ). bitOr x y) (atoms-same _ _ (λ k. and-comm (setOf case a c) (eqb b k)))) 0 keys
 
 pub enter-atom : (b : ℕ) (a : Atom) (enter : List ℕ) → enter ≡ enterAfter b (atom a) enter
 unfolding follow

@@ -8,17 +8,19 @@ use lib.Bits.{bitOr}
 use Rattle.stateset.specs.Set.{word}
 use Rattle.refusal.specs.declared.Refusal.{Refusal}
 use Rattle.refusal.specs.Figures.{Figures, answered, refusedWith}
+use Rattle.letters.specs.declared.Case.{Case}
 use Rattle.pattern.specs.declared.automaton.Accepting.{Accepting}
 use Rattle.pattern.specs.declared.automaton.Verdict.{Verdict}
 use Rattle.pattern.specs.declared.summary.Summary.{Summary}
 use Rattle.pattern.specs.Reader.{Read, accepted, refused, readPattern}
 use Rattle.pattern.specs.States.{endsFree, holdsKey, atomWord}
-use Rattle.pattern.specs.Moves.{states, enters, jumps, accepting}
+use Rattle.pattern.specs.Moves.{enters, jumps, accepting}
+use Rattle.pattern.specs.Meaning.{Query, query}
 use Rattle.pattern.specs.Form.{Pattern, atomCount}
 use Rattle.stateset.specs.Tabled.{tabled}
 
 -- for each key, the atoms whose set has it; for each state, the atoms that it may enter
-unfoldable pub keyTable : Pattern → List ℕ
+unfoldable pub keyTable : Query → List ℕ
 keyTable t = tabled (λ c. atomWord (λ k. holdsKey t k c)) 256 0
 
 unfoldable pub enterTable : Pattern → List ℕ
@@ -31,15 +33,15 @@ accepts t = record {
   always = word 32 (λ q. eqb q 2 || jumps t q);
   ends = atomWord (endsFree t);
   accepting = word 32 (accepting t);
-  states = states t;
+  states = 3 + atomCount t;
 }
 
--- the tables and words are those of t, which has few atoms
-pub record Automaton (t : Pattern) (keys enter : List ℕ) (a : Accepting) : Type 0 where
+-- the tables and words are those of t, which has few atoms; the sets matter for the table of keys alone
+pub record Automaton (t : Query) (keys enter : List ℕ) (a : Accepting) : Type 0 where
   pub keyed : keys ≡ keyTable t
-  pub entered : enter ≡ enterTable t
-  pub words : a ≡ accepts t
-  pub few : atomCount t ≤ 29
+  pub entered : enter ≡ enterTable (t .tree)
+  pub words : a ≡ accepts (t .tree)
+  pub few : atomCount (t .tree) ≤ 29
 
 -- "A refusal's other numbers are 0"
 abbrev pub refusedPattern : Refusal → Figures Accepting
@@ -56,20 +58,21 @@ readFigures (accepted t) = answered (accepts t)
 readFigures (refused r) = refusedPattern r
 
 -- and what it makes of the two tables; "other lent memory is unchanged"
-abbrev pub keysRead : Read → List ℕ → List ℕ
-keysRead (accepted t) keys = keyTable t
-keysRead (refused r) keys = keys
+abbrev pub keysRead : Case → Read → List ℕ → List ℕ
+keysRead c (accepted t) keys = keyTable (query c t)
+keysRead c (refused r) keys = keys
 
 abbrev pub enterRead : Read → List ℕ → List ℕ
 enterRead (accepted t) enter = enterTable t
 enterRead (refused r) enter = enter
 
--- what reading pattern p answers: the verdict on it, and the tables of keys and of entering, which may have been filled
+-- what reading pattern p answers: the verdict on it, and the tables of keys and of entering, which may have been filled. Whether case is
+-- ignored matters for the table of keys alone (`verdict-alike`).
 abbrev pub VerdictOn : List ℕ → Verdict → Type 0
 VerdictOn p v = verdictFigures v ≡ readFigures (readPattern p)
 
-abbrev pub KeysFrom : List ℕ → List ℕ → List ℕ → Type 0
-KeysFrom p keys keys' = keys' ≡ keysRead (readPattern p) keys
+abbrev pub KeysFrom : Case → List ℕ → List ℕ → List ℕ → Type 0
+KeysFrom c p keys keys' = keys' ≡ keysRead c (readPattern p) keys
 
 abbrev pub EnterFrom : List ℕ → List ℕ → List ℕ → Type 0
 EnterFrom p enter enter' = enter' ≡ enterRead (readPattern p) enter

@@ -9,6 +9,7 @@ use lib.ListN.{length, drop, getD}
 use Rattle.pattern.specs.declared.branch.BranchRead.{BranchRead}
 use Rattle.pattern.specs.declared.cursor.Cursor.{Cursor}
 use Rattle.pattern.specs.declared.shape.Shape.{Shape}
+use Rattle.brackets.specs.Sets.{Sets, setOf}
 use Rattle.brackets.specs.Brackets.{Parsed, parsed, fault}
 use Rattle.pattern.specs.Reader.{readRest, readBranch}
 use Rattle.pattern.specs.Tables.{keysAfter, enterAfter, shapeOf}
@@ -24,9 +25,9 @@ abbrev pub shapeIn : ℕ → Option Expr → Shape
 shapeIn b none = emptyShape
 shapeIn b (some e) = shapeOf b e
 
-abbrev pub keysIn : ℕ → Option Expr → List ℕ → List ℕ
-keysIn b none keys = keys
-keysIn b (some e) keys = keysAfter b e keys
+abbrev pub keysIn : Sets → ℕ → Option Expr → List ℕ → List ℕ
+keysIn S b none keys = keys
+keysIn S b (some e) keys = keysAfter S b e keys
 
 abbrev pub enterIn : ℕ → Option Expr → List ℕ → List ℕ
 enterIn b none enter = enter
@@ -43,8 +44,8 @@ EndDone s c start p r = r ≡ endRead (eqb (getD s (c .at) 0) 36) c start p
 -- what a reader of a branch at cursor c of n bytes answers, and what it makes of the tables
 abbrev pub BranchDone : ℕ → Cursor → List ℕ → List ℕ → BranchRead → List ℕ → List ℕ → Parsed Branch → Type 0
 BranchDone n c keys enter r keys' enter' (parsed b rest) =
-    (r ≡ BranchRead.Read (record { at = n - length rest; atoms = c .atoms + atomsIn (b .pieces) }) (b .start) (shapeIn (c .atoms) (b .pieces)) (b .end))
-    × (keys' ≡ keysIn (c .atoms) (b .pieces) keys)
+    (r ≡ BranchRead.Read (record { at = n - length rest; atoms = c .atoms + atomsIn (b .pieces); case = c .case }) (b .start) (shapeIn (c .atoms) (b .pieces)) (b .end))
+    × (keys' ≡ keysIn (setOf (c .case)) (c .atoms) (b .pieces) keys)
     × (enter' ≡ enterIn (c .atoms) (b .pieces) enter)
 BranchDone n c keys enter r keys' enter' fault = r ≡ BranchRead.Fault
 

@@ -9,6 +9,7 @@ use Rattle.pattern.specs.declared.cursor.Cursor.{Cursor}
 use Rattle.pattern.specs.declared.cursor.Part.{Part}
 use Rattle.pattern.specs.declared.shape.Shape.{Shape}
 use Rattle.brackets.specs.Form.{Atom}
+use Rattle.brackets.specs.Sets.{setOf}
 use Rattle.brackets.specs.Brackets.{Parsed, parsed, fault, readAtom}
 use Rattle.pattern.specs.Reader.{Mode, readExpr}
 use Rattle.pattern.specs.Tables.{keysAfter, enterAfter, linked, shapeOf}
@@ -25,14 +26,14 @@ pub record Ready (s : List ℕ) (c : Cursor) : Type 0 where
 -- what a reader at cursor c of n bytes answers, and what it makes of the tables
 abbrev pub Done : ℕ → Cursor → List ℕ → List ℕ → Part → List ℕ → List ℕ → Parsed Expr → Type 0
 Done n c keys enter r keys' enter' (parsed e rest) =
-    (r ≡ Part.Read (record { at = n - length rest; atoms = c .atoms + atoms e }) (shapeOf (c .atoms) e))
-    × (keys' ≡ keysAfter (c .atoms) e keys)
+    (r ≡ Part.Read (record { at = n - length rest; atoms = c .atoms + atoms e; case = c .case }) (shapeOf (c .atoms) e))
+    × (keys' ≡ keysAfter (setOf (c .case)) (c .atoms) e keys)
     × (enter' ≡ enterAfter (c .atoms) e enter)
 Done n c keys enter r keys' enter' fault = r ≡ Part.Fault
 
 -- the cursor behind the byte at it
 abbrev pub pastByte : Cursor → Cursor
-pastByte c = record { at = c .at + 1; atoms = c .atoms }
+pastByte c = record { at = c .at + 1; atoms = c .atoms; case = c .case }
 
 -- a bound on how deep the readers call each other, where k bytes are left
 abbrev pub room : Mode → ℕ → ℕ
@@ -52,7 +53,7 @@ Reads m s c keys enter r keys' enter' = (f : ℕ) → room m (length s - c .at) 
 -- an atom: no state may enter anything more
 abbrev pub AtomDone : ℕ → Cursor → List ℕ → Part → List ℕ → Parsed Atom → Type 0
 AtomDone n c keys r keys' (parsed a rest) =
-    (r ≡ Part.Read (record { at = n - length rest; atoms = c .atoms + 1 }) (shapeOf (c .atoms) (atom a))) × (keys' ≡ keysAfter (c .atoms) (atom a) keys)
+    (r ≡ Part.Read (record { at = n - length rest; atoms = c .atoms + 1; case = c .case }) (shapeOf (c .atoms) (atom a))) × (keys' ≡ keysAfter (setOf (c .case)) (c .atoms) (atom a) keys)
 AtomDone n c keys r keys' fault = r ≡ Part.Fault
 
 -- the answer at cursor c of the bytes s
@@ -71,4 +72,4 @@ repeatAt b at = cond (eqb b 42 || (eqb b 43 || eqb b 63)) (at + 1) at
 
 -- a part that was read up to the cursor d, with the mark b behind it, or none
 abbrev pub repeatPart : ℕ → Cursor → Shape → Part
-repeatPart b d p = Part.Read (record { at = repeatAt b (d .at); atoms = d .atoms }) (repeatShape b p)
+repeatPart b d p = Part.Read (record { at = repeatAt b (d .at); atoms = d .atoms; case = d .case }) (repeatShape b p)

@@ -92,6 +92,24 @@ unfoldable pub formedPattern : Pattern → Bool
 formedPattern [] = false
 formedPattern (b ∷ bs) = formedBranches (b ∷ bs)
 
+-- Every atom has P: `ignored-matches` asks this of "no negated bracket".
+unfoldable pub everyAtom : (Atom → Bool) → Expr → Bool
+everyAtom P (atom a) = P a
+everyAtom P (group e) = everyAtom P e
+everyAtom P (star e) = everyAtom P e
+everyAtom P (plus e) = everyAtom P e
+everyAtom P (opt e) = everyAtom P e
+everyAtom P (seq p q) = everyAtom P p && everyAtom P q
+everyAtom P (alt p q) = everyAtom P p && everyAtom P q
+
+abbrev pub everyIn : (Atom → Bool) → Option Expr → Bool
+everyIn P none = true
+everyIn P (some e) = everyAtom P e
+
+unfoldable pub everyOf : (Atom → Bool) → Pattern → Bool
+everyOf P [] = true
+everyOf P (b ∷ bs) = everyIn P (b .pieces) && everyOf P bs
+
 -- How many atoms there are.
 unfoldable pub atoms : Expr → ℕ
 atoms (atom a) = 1

@@ -6,8 +6,9 @@ use mathlib.Core.List.{[], _∷_}
 use mathlib.Core.Option.{Option, none, some}
 use lib.Dec.{leb, eqb}
 use Rattle.stateset.specs.Set.{word}
-use Rattle.brackets.specs.Sets.{setOf}
+use Rattle.brackets.specs.Sets.{Sets}
 use Rattle.pattern.specs.Form.{Expr, atom, group, star, plus, opt, seq, alt, Branch, Pattern, atoms, atomsIn}
+use Rattle.pattern.specs.Meaning.{Query}
 
 -- the expression can match nothing
 unfoldable pub nothing : Expr → Bool
@@ -50,14 +51,14 @@ follow b (seq p q) k j = follow b p k j || (follow (b + atoms p) q k j || (last 
 follow b (alt p q) k j = follow b p k j || follow (b + atoms p) q k j
 
 -- key c is in the set of atom k
-unfoldable pub holds : ℕ → Expr → ℕ → ℕ → Bool
-holds b (atom a) k c = eqb b k && setOf a c
-holds b (group e) k c = holds b e k c
-holds b (star e) k c = holds b e k c
-holds b (plus e) k c = holds b e k c
-holds b (opt e) k c = holds b e k c
-holds b (seq p q) k c = holds b p k c || holds (b + atoms p) q k c
-holds b (alt p q) k c = holds b p k c || holds (b + atoms p) q k c
+unfoldable pub holds : Sets → ℕ → Expr → ℕ → ℕ → Bool
+holds S b (atom a) k c = eqb b k && S a c
+holds S b (group e) k c = holds S b e k c
+holds S b (star e) k c = holds S b e k c
+holds S b (plus e) k c = holds S b e k c
+holds S b (opt e) k c = holds S b e k c
+holds S b (seq p q) k c = holds S b p k c || holds S (b + atoms p) q k c
+holds S b (alt p q) k c = holds S b p k c || holds S (b + atoms p) q k c
 
 -- the same of the pieces of a branch; "A branch with no pieces takes the empty part."
 abbrev pub nothingIn : Option Expr → Bool
@@ -90,8 +91,8 @@ endsAnchored t k = someBranch (λ b r. r .end && inPieces (λ e. last b e k) (r 
 abbrev pub follows : Pattern → ℕ → ℕ → Bool
 follows t k j = someBranch (λ b r. inPieces (λ e. follow b e k j) (r .pieces)) 0 t
 
-abbrev pub holdsKey : Pattern → ℕ → ℕ → Bool
-holdsKey t k c = someBranch (λ b r. inPieces (λ e. holds b e k c) (r .pieces)) 0 t
+abbrev pub holdsKey : Query → ℕ → ℕ → Bool
+holdsKey t k c = someBranch (λ b r. inPieces (λ e. holds (t .sets) b e k c) (r .pieces)) 0 (t .tree)
 
 -- "a branch can match nothing"; "and does not have both anchors"
 abbrev pub emptyBranch : Pattern → Bool

@@ -10,6 +10,7 @@ use Rattle.pattern.specs.declared.branch_list.PatternRead.{PatternRead}
 use Rattle.pattern.specs.declared.cursor.Cursor.{Cursor}
 use Rattle.pattern.specs.declared.shape.Shape.{Shape}
 use Rattle.pattern.specs.declared.summary.Summary.{Summary}
+use Rattle.brackets.specs.Sets.{setOf}
 use Rattle.brackets.specs.Brackets.{Parsed, parsed, fault}
 use Rattle.pattern.specs.Reader.{readBranches}
 use Rattle.pattern.specs.Branches.{shapeIn, keysIn, enterIn}
@@ -56,7 +57,7 @@ through f b (r ∷ rs) l = through f (b + atomsIn (r .pieces)) rs (f b (r .piece
 abbrev pub PatternDone : Cursor → Summary → List ℕ → List ℕ → PatternRead → List ℕ → List ℕ → Parsed Pattern → Type 0
 PatternDone c a keys enter r keys' enter' (parsed t rest) =
     (r ≡ PatternRead.Read (c .atoms + atomCount t) (summaryOf (c .atoms) t a))
-    × (keys' ≡ through keysIn (c .atoms) t keys)
+    × (keys' ≡ through (keysIn (setOf (c .case))) (c .atoms) t keys)
     × (enter' ≡ through enterIn (c .atoms) t enter)
 PatternDone c a keys enter r keys' enter' fault = r ≡ PatternRead.Fault
 

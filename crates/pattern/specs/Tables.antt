@@ -9,6 +9,7 @@ use Rattle.pattern.specs.declared.shape.Shape.{Shape}
 use Rattle.pattern.specs.States.{nothing, first, last, follow, holds, atomWord}
 use Rattle.pattern.specs.Form.{Expr}
 use Rattle.brackets.specs.Answers.{mapWith}
+use Rattle.brackets.specs.Sets.{Sets}
 
 -- Tables that an expression was read into, whose atoms have the numbers from b on.
 
@@ -21,8 +22,8 @@ abbrev pub followWord : ℕ → Expr → ℕ → ℕ
 followWord b e q = atomWord (λ j. isAtom q && follow b e (q - 3) j)
 
 -- for each key, the atoms that hold it
-abbrev pub keysAfter : ℕ → Expr → List ℕ → List ℕ
-keysAfter b e keys = mapWith (λ c x. bitOr x (atomWord (λ k. holds b e k c))) 0 keys
+abbrev pub keysAfter : Sets → ℕ → Expr → List ℕ → List ℕ
+keysAfter S b e keys = mapWith (λ c x. bitOr x (atomWord (λ k. holds S b e k c))) 0 keys
 
 -- for each state, what it may enter
 abbrev pub enterAfter : ℕ → Expr → List ℕ → List ℕ

@@ -30,7 +30,8 @@ impl Cursor {
         ensures { λ r. ⌜ AtomDone (length (now (s .entry))) self (now (keys .entry)) r (now (keys .exit)) (readAtom (drop (self .at) (now (s .entry)))) ⌝ }
     {
         let set = atom_set(self.atoms);
-        match read_atom(s, self.at, set, keys) {
+        let case = self.case;
+        match read_atom(s, self.at, case, set, keys) {
             AtomRead::At(next) => Part::Read(
                 self.advanced(next, 1),
                 Shape {

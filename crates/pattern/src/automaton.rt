@@ -4,6 +4,7 @@ use crate::clean::clean;
 use crate::cursor::Cursor;
 use crate::state::State;
 use crate::summary::Summary;
+use letters::Case;
 use refusal::Refusal;
 use stateset::chosen;
 use stateset::union;
@@ -51,10 +52,10 @@ fn summed(a: Summary, atoms: usize) -> Accepting
 }
 
 // A pattern of up to 128 bytes, none of which is 0 or 10.
-fn read_clean(s: &[u8], keys: &mut [u64; 256], enter: &mut [u64; 32]) -> Verdict
-    requires { ⌜ Ready (now s) (record { at = 0; atoms = 0 }) ⌝ }
+fn read_clean(s: &[u8], case: Case, keys: &mut [u64; 256], enter: &mut [u64; 32]) -> Verdict
+    requires { ⌜ Ready (now s) (record { at = 0; atoms = 0; case = case }) ⌝ }
     ensures figures { λ r. ⌜ verdictFigures r ≡ readFigures (counted (readBranches (length (now (s .entry))) (now (s .entry)))) ⌝ }
-    ensures keyed { λ _. ⌜ now (keys .exit) ≡ keysRead (counted (readBranches (length (now (s .entry))) (now (s .entry)))) (now (keys .entry)) ⌝ }
+    ensures keyed { λ _. ⌜ now (keys .exit) ≡ keysRead case (counted (readBranches (length (now (s .entry))) (now (s .entry)))) (now (keys .entry)) ⌝ }
     ensures entered { λ _. ⌜ now (enter .exit) ≡ enterRead (counted (readBranches (length (now (s .entry))) (now (s .entry)))) (now (enter .entry)) ⌝ }
 {
     let mut keyed = [0; 256];
@@ -67,7 +68,7 @@ fn read_clean(s: &[u8], keys: &mut [u64; 256], enter: &mut [u64; 32]) -> Verdict
         empty: false,
         jump: false,
     };
-    let read = Cursor::start().branches(s, none, &mut keyed, &mut entered);
+    let read = Cursor::start(case).branches(s, none, &mut keyed, &mut entered);
     let PatternRead::Read(atoms, sum) = read else {
         return Verdict::Refused(Refusal::PatternSyntax);
     };
@@ -81,11 +82,11 @@ fn read_clean(s: &[u8], keys: &mut [u64; 256], enter: &mut [u64; 32]) -> Verdict
     Verdict::Accepted(summed(sum, atoms))
 }
 
-// Reads a pattern. Refused with 7, 8 and 9 of document 01's table, in that order; the tables then stay as they were. Else they
-// have, for each key, the word of the atoms whose set has it, and for each state the word of the atoms that it may enter.
-pub fn read_pattern(s: &[u8], keys: &mut [u64; 256], enter: &mut [u64; 32]) -> Verdict
+// Reads a pattern, with case ignored or not. Refused with 7, 8 and 9 of document 01's table, in that order; the tables then stay as they
+// were. Else they have, for each key, the word of the atoms whose set has it, and for each state the word of the atoms that it may enter.
+pub fn read_pattern(s: &[u8], case: Case, keys: &mut [u64; 256], enter: &mut [u64; 32]) -> Verdict
     ensures figures { λ r. ⌜ verdictFigures r ≡ readFigures (readPattern (now (s .entry))) ⌝ }
-    ensures keyed { λ _. ⌜ now (keys .exit) ≡ keysRead (readPattern (now (s .entry))) (now (keys .entry)) ⌝ }
+    ensures keyed { λ _. ⌜ now (keys .exit) ≡ keysRead case (readPattern (now (s .entry))) (now (keys .entry)) ⌝ }
     ensures entered { λ _. ⌜ now (enter .exit) ≡ enterRead (readPattern (now (s .entry))) (now (enter .entry)) ⌝ }
 {
     let n = s.len();
@@ -93,7 +94,7 @@ pub fn read_pattern(s: &[u8], keys: &mut [u64; 256], enter: &mut [u64; 32]) -> V
         return Verdict::Refused(Refusal::PatternLength);
     }
     if clean(s) {
-        return read_clean(s, keys, enter);
+        return read_clean(s, case, keys, enter);
     }
     Verdict::Refused(Refusal::PatternSyntax)
 }

@@ -5,16 +5,18 @@ use crate::shape::either;
 use crate::shape::in_sequence;
 use crate::shape::link;
 use brackets::peek;
+use letters::Case;
 ghost use mathlib.Core.Path.{_≡_};
 ghost use Prim.Native.Nat.{_+_, _^_, _≤_, _<_};
 ghost use lib.ListN.{getD};
 ghost use Rattle.pattern.specs.Reader.{Mode, endsPieces};
 ghost use Rattle.pattern.specs.Cycle.{Reads, Ready, pastByte, repeatAt, repeatEnter, repeatShape};
 
-// A place in a pattern, and how many atoms stand before it.
+// A place in a pattern, how many atoms stand before it, and whether case is ignored.
 pub(crate) struct Cursor {
     pub at: usize,
     pub atoms: usize,
+    pub case: Case,
 }
 
 // The cursor behind an expression and the expression's shape, or a fault.
@@ -25,20 +27,26 @@ pub(crate) enum Part {
 
 impl Cursor {
     // The cursor at a pattern's start.
-    pub(crate) fn start() -> Cursor
-        ensures { λ r. ⌜ r ≡ record { at = 0; atoms = 0 } ⌝ }
+    pub(crate) fn start(case: Case) -> Cursor
+        ensures { λ r. ⌜ r ≡ record { at = 0; atoms = 0; case = case } ⌝ }
     {
-        Cursor { at: 0, atoms: 0 }
+        Cursor {
+            at: 0,
+            atoms: 0,
+            case,
+        }
     }
 
     // The cursor at a later place, with so many atoms more before it.
     pub(crate) fn advanced(self, at: usize, more: usize) -> Cursor
         requires { ⌜ (self .atoms ≤ 128) × (more ≤ 1) ⌝ }
-        ensures { λ r. ⌜ r ≡ record { at = at; atoms = self .atoms + more } ⌝ }
+        ensures { λ r. ⌜ r ≡ record { at = at; atoms = self .atoms + more; case = self .case } ⌝ }
     {
+        let case = self.case;
         Cursor {
             at,
             atoms: self.atoms + more,
+            case,
         }
     }
 
@@ -54,7 +62,7 @@ impl Cursor {
     fn repetition(self, s: &[u8], p: Shape, enter: &mut [u64; 32]) -> Part
         requires { ⌜ Ready (now s) self ⌝ }
         requires { ⌜ p .last < 2 ^ 32 ⌝ }
-        ensures read { λ r. ⌜ r ≡ Part.Read (record { at = repeatAt (getD (now (s .entry)) (self .at) 0) (self .at); atoms = self .atoms }) (repeatShape (getD (now (s .entry)) (self .at) 0) p) ⌝ }
+        ensures read { λ r. ⌜ r ≡ Part.Read (record { at = repeatAt (getD (now (s .entry)) (self .at) 0) (self .at); atoms = self .atoms; case = self .case }) (repeatShape (getD (now (s .entry)) (self .at) 0) p) ⌝ }
         ensures table { λ _. ⌜ now (enter .exit) ≡ repeatEnter (getD (now (s .entry)) (self .at) 0) p (now (enter .entry)) ⌝ }
     {
         let first = p.first;

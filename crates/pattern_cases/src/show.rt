@@ -1,4 +1,5 @@
 // What is printed of a pattern.
+use letters::Case;
 use libc::STDOUT_FILENO;
 use pattern::Accepting;
 use pattern::State;
@@ -89,7 +90,7 @@ pub(crate) fn case(n: u64, s: &[u8]) {
     let mut keys = [0; 256];
     let mut enter = [0; 32];
     number(n);
-    match read_pattern(s, &mut keys, &mut enter) {
+    match read_pattern(s, Case::Sensitive, &mut keys, &mut enter) {
         Verdict::Accepted(a) => {
             let states = a.states;
             accepting(a);

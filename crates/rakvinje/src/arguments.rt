@@ -1,7 +1,8 @@
-// What the arguments name: the verb, the pattern, the book, the macro.
+// What the arguments name: the verb, whether case is ignored, the pattern, the book, the macro.
 use crate::say;
 use command::BOOK_READ;
 use command::PATTERN_READ;
+use counter::Case;
 use files::FileRead;
 use files::read_path;
 use libc::ENAMETOOLONG;
@@ -24,11 +25,33 @@ fn same(a: &[u8], b: &[u8]) -> bool {
     true
 }
 
+// Whether an argument is this word.
+fn is_word(i: usize, word: &[u8]) -> bool {
+    let mut space = io::buffer();
+    let n = os::arg(i, &mut space);
+    same(&space[..n], word)
+}
+
 // Whether the first argument is this verb.
 pub(crate) fn is_verb(name: &[u8]) -> bool {
-    let mut space = io::buffer();
-    let n = os::arg(1, &mut space);
-    same(&space[..n], name)
+    is_word(1, name)
+}
+
+// What an argument says of case.
+pub(crate) enum CaseWord {
+    Said(Case),
+    Unknown,
+}
+
+// Whether case is ignored, by an argument.
+pub(crate) fn case_at(i: usize) -> CaseWord {
+    if is_word(i, b"sensitive") {
+        return CaseWord::Said(Case::Sensitive);
+    }
+    if is_word(i, b"ignored") {
+        return CaseWord::Said(Case::Ignored);
+    }
+    CaseWord::Unknown
 }
 
 // Puts the pattern that an argument is into the buffer, and answers how many bytes: of a longer one, the buffer's first.

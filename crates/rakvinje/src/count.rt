@@ -1,5 +1,7 @@
-// `count PATTERN BOOK [MACRO]`.
+// `count CASE PATTERN BOOK [MACRO]`.
+use crate::arguments::CaseWord;
 use crate::arguments::book_at;
+use crate::arguments::case_at;
 use crate::arguments::number_at;
 use crate::arguments::number_space;
 use crate::arguments::pattern_at;
@@ -8,7 +10,9 @@ use crate::say;
 use command::BOOK_READ;
 use command::NamedCount;
 use command::PATTERN_READ;
+use command::PatternInput;
 use counter::BookCount;
+use counter::Case;
 use output::LINE;
 use output::write_line;
 use replies::last_reply;
@@ -22,16 +26,21 @@ fn explain_count(c: BookCount) {
     }
 }
 
-// Counts the macro that the fourth argument names.
-fn count_asked(book: &[u8; BOOK_READ], n: usize, pattern: &[u8; PATTERN_READ], k: usize) {
+// Counts the macro that the fifth argument names.
+fn count_named_in(
+    book: &[u8; BOOK_READ],
+    n: usize,
+    pattern: &[u8; PATTERN_READ],
+    given: PatternInput,
+) {
     let mut space = number_space();
-    let number = number_at(4, &mut space);
+    let number = number_at(5, &mut space);
     let digits = number.digits;
     if number.failed {
         return;
     }
     let mut out = [0; LINE];
-    let reply = named_reply(book, n, pattern, k, &space[..digits], &mut out);
+    let reply = named_reply(book, n, pattern, given, &space[..digits], &mut out);
     write_line(&out, reply.length);
     let count = reply.count;
     match count {
@@ -40,21 +49,30 @@ fn count_asked(book: &[u8; BOOK_READ], n: usize, pattern: &[u8; PATTERN_READ], k
     }
 }
 
-pub(crate) fn count() {
+// Counts with this choice of case.
+fn count_by(case: Case) {
     let mut pattern = [0; PATTERN_READ];
-    let k = pattern_at(2, &mut pattern);
+    let bytes = pattern_at(3, &mut pattern);
+    let given = PatternInput { bytes, case };
     let mut book = [0; BOOK_READ];
-    let read = book_at(3, &mut book);
+    let read = book_at(4, &mut book);
     if read.failed {
         return;
     }
-    if os::arg_count() == 5 {
-        count_asked(&book, read.bytes, &pattern, k);
+    if os::arg_count() == 6 {
+        count_named_in(&book, read.bytes, &pattern, given);
         return;
     }
     let mut out = [0; LINE];
-    let reply = last_reply(&book, read.bytes, &pattern, k, &mut out);
+    let reply = last_reply(&book, read.bytes, &pattern, given, &mut out);
     write_line(&out, reply.length);
     let count = reply.count;
     explain_count(count);
+}
+
+pub(crate) fn count() {
+    match case_at(2) {
+        CaseWord::Said(case) => count_by(case),
+        CaseWord::Unknown => say::usage(),
+    }
 }

@@ -1,5 +1,5 @@
-// The command for people: `rakvinje count PATTERN BOOK [MACRO]`, `rakvinje check BOOK`, `rakvinje reach BOOK [MACRO]`. Standard output has the
-// answer; standard error says what a refusal means, or why there is no answer.
+// The command for people: `rakvinje count CASE PATTERN BOOK [MACRO]`, `rakvinje check BOOK`, `rakvinje reach BOOK [MACRO]`, where CASE is
+// `sensitive` or `ignored`. Standard output has the answer; standard error says what a refusal means, or why there is no answer.
 mod arguments;
 mod check;
 mod count;
@@ -11,7 +11,7 @@ use arguments::is_verb;
 
 fn main() {
     let n = os::arg_count();
-    if is_verb(b"count") & ((n == 4) | (n == 5)) {
+    if is_verb(b"count") & ((n == 5) | (n == 6)) {
         count::count();
         return;
     }

@@ -11,6 +11,6 @@ pub(crate) fn no_number() {
 
 pub(crate) fn usage() {
     text(
-        b"usage: rakvinje count PATTERN BOOK [MACRO] | rakvinje check BOOK | rakvinje reach BOOK [MACRO]\n",
+        b"usage: rakvinje count sensitive|ignored PATTERN BOOK [MACRO] | rakvinje check BOOK | rakvinje reach BOOK [MACRO]\n",
     );
 }

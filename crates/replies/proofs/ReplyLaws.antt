@@ -4,6 +4,7 @@ use mathlib.Core.Path.{_≡_, refl}
 use mathlib.Core.List.{List}
 use mathlib.Core.Option.{Option, none, some}
 use Rattle.counter.specs.declared.counting.BookCount.{BookCount}
+use Rattle.command.specs.declared.buffer.PatternInput.{PatternInput}
 use Rattle.command.specs.declared.counts.NamedCount.{NamedCount}
 use Rattle.command.specs.Input.{Told, toldBy}
 use Rattle.command.specs.Named.{toldNamed, namedAnswer}
@@ -23,18 +24,18 @@ pub program-replies : (input : List ℕ) (n : ℕ) (c : BookCount) {before after
 unfolding ProgramReplies
 program-replies input n c a l w read = rw (← program-answers input n c a w read) l
 
-pub last-replies : (book : List ℕ) (n : ℕ) (pattern : List ℕ) (k : ℕ) (c : BookCount) {before after : List ℕ} {length : ℕ} → LastAnswers book n pattern k c → Line (countLine (toldBy c)) before after length → LastReplies book n pattern k before after (record { length = length; count = c })
+pub last-replies : (book : List ℕ) (n : ℕ) (pattern : List ℕ) (a : PatternInput) (c : BookCount) {before after : List ℕ} {length : ℕ} → LastAnswers book n pattern a c → Line (countLine (toldBy c)) before after length → LastReplies book n pattern a before after (record { length = length; count = c })
 unfolding LastReplies
-last-replies book n pattern k c a l b p e f = rw (← last-answers book n pattern k c a b p e f) (record { line = l; count = refl })
+last-replies book n pattern a c h l b p e f = rw (← last-answers book n pattern a c h b p e f) (record { line = l; count = refl })
 
-module _ (book : List ℕ) (n : ℕ) (pattern : List ℕ) (k : ℕ) (text : List ℕ) {q : NamedCount} (a : NamedAnswers book n pattern k text q) where
-  pub named-replies : {c : BookCount} {before after : List ℕ} {length : ℕ} → q ≡ NamedCount.Count c → Line (countLine (toldBy c)) before after length → NamedReplies book n pattern k text before after (record { length = length; count = NamedCount.Count c })
+module _ (book : List ℕ) (n : ℕ) (pattern : List ℕ) (a : PatternInput) (text : List ℕ) {q : NamedCount} (h : NamedAnswers book n pattern a text q) where
+  pub named-replies : {c : BookCount} {before after : List ℕ} {length : ℕ} → q ≡ NamedCount.Count c → Line (countLine (toldBy c)) before after length → NamedReplies book n pattern a text before after (record { length = length; count = NamedCount.Count c })
   unfolding NamedReplies
-  named-replies {c} g l b p e f = rw (← named-answers book n pattern k text q a b p e f, g) (record { line = l; count = refl })
+  named-replies {c} g l b p e f = rw (← named-answers book n pattern a text q h b p e f, g) (record { line = l; count = refl })
 
-  pub named-nothing : (out : List ℕ) → q ≡ NamedCount.NoNumber → NamedReplies book n pattern k text out out (record { length = 0; count = q })
+  pub named-nothing : (out : List ℕ) → q ≡ NamedCount.NoNumber → NamedReplies book n pattern a text out out (record { length = 0; count = q })
   unfolding NamedReplies
-  named-nothing out g b p e f = rw (← named-answers book n pattern k text q a b p e f, g) (record { line = record { same = refl; long = refl }; count = refl })
+  named-nothing out g b p e f = rw (← named-answers book n pattern a text q h b p e f, g) (record { line = record { same = refl; long = refl }; count = refl })
 
 pub survey-replies : (book : List ℕ) (n : ℕ) (s : Surveyed) {before after : List ℕ} {length : ℕ} → Surveys book n s → Line (surveyLine (surveyFigures s)) before after length → SurveyReplies book n before after (record { length = length; found = s })
 unfolding SurveyReplies

@@ -4,6 +4,7 @@ use mathlib.Core.Path.{_≡_}
 use mathlib.Core.List.{List}
 use mathlib.Core.Option.{Option, none, some}
 use Rattle.reach.specs.Answer.{reachedFigures}
+use Rattle.command.specs.declared.buffer.PatternInput.{PatternInput}
 use Rattle.command.specs.Buffers.{ReadFrom}
 use Rattle.command.specs.Input.{Told, toldBy, programAnswer, lastAnswer}
 use Rattle.command.specs.Named.{toldNamed, namedAnswer}
@@ -31,9 +32,10 @@ pub record CountPrinted (t : Told) (before after : List ℕ) (r : CountReply) : 
   pub line : Line (countLine t) before after (r .length)
   pub count : toldBy (r .count) ≡ t
 
--- the count of the last macro, of a book of which n bytes were read and a pattern of which k were
-unfoldable pub LastReplies : List ℕ → ℕ → List ℕ → ℕ → List ℕ → List ℕ → CountReply → Type 0
-LastReplies book n pattern k before after r = (b p : List ℕ) → ReadFrom book n b → ReadFrom pattern k p → CountPrinted (lastAnswer b p) before after r
+-- the count of the last macro, of a book of which n bytes were read and a pattern as it is asked for
+unfoldable pub LastReplies : List ℕ → ℕ → List ℕ → PatternInput → List ℕ → List ℕ → CountReply → Type 0
+LastReplies book n pattern a before after r =
+    (b p : List ℕ) → ReadFrom book n b → ReadFrom pattern (a .bytes) p → CountPrinted (lastAnswer (a .case) b p) before after r
 
 -- the line of what is told, if anything is
 abbrev pub LineIf : Option Told → List ℕ → List ℕ → ℕ → Type 0
@@ -45,8 +47,9 @@ pub record NamedPrinted (t : Option Told) (before after : List ℕ) (r : NamedRe
   pub count : toldNamed (r .count) ≡ t
 
 -- the same of the macro that a text names
-unfoldable pub NamedReplies : List ℕ → ℕ → List ℕ → ℕ → List ℕ → List ℕ → List ℕ → NamedReply → Type 0
-NamedReplies book n pattern k text before after r = (b p : List ℕ) → ReadFrom book n b → ReadFrom pattern k p → NamedPrinted (namedAnswer b p text) before after r
+unfoldable pub NamedReplies : List ℕ → ℕ → List ℕ → PatternInput → List ℕ → List ℕ → List ℕ → NamedReply → Type 0
+NamedReplies book n pattern a text before after r =
+    (b p : List ℕ) → ReadFrom book n b → ReadFrom pattern (a .bytes) p → NamedPrinted (namedAnswer (a .case) b p text) before after r
 
 -- what a book holds
 pub record SurveyPrinted (b before after : List ℕ) (r : SurveyReply) : Type 0 where

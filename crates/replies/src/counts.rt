@@ -2,6 +2,7 @@
 use command::BOOK_READ;
 use command::NamedCount;
 use command::PATTERN_READ;
+use command::PatternInput;
 use command::READ;
 use command::answer;
 use command::count_last;
@@ -35,12 +36,12 @@ pub fn last_reply(
     book: &[u8; BOOK_READ],
     n: usize,
     pattern: &[u8; PATTERN_READ],
-    k: usize,
+    given: PatternInput,
     out: &mut [u8; LINE],
 ) -> CountReply
-    ensures { λ r. ⌜ LastReplies (now (book .entry)) n (now (pattern .entry)) k (now (out .entry)) (now (out .exit)) r ⌝ }
+    ensures { λ r. ⌜ LastReplies (now (book .entry)) n (now (pattern .entry)) given (now (out .entry)) (now (out .exit)) r ⌝ }
 {
-    let count = count_last(book, n, pattern, k);
+    let count = count_last(book, n, pattern, given);
     let length = count_line(count, out);
     CountReply { length, count }
 }
@@ -50,13 +51,13 @@ pub fn named_reply(
     book: &[u8; BOOK_READ],
     n: usize,
     pattern: &[u8; PATTERN_READ],
-    k: usize,
+    given: PatternInput,
     text: &[u8],
     out: &mut [u8; LINE],
 ) -> NamedReply
-    ensures { λ r. ⌜ NamedReplies (now (book .entry)) n (now (pattern .entry)) k (now (text .entry)) (now (out .entry)) (now (out .exit)) r ⌝ }
+    ensures { λ r. ⌜ NamedReplies (now (book .entry)) n (now (pattern .entry)) given (now (text .entry)) (now (out .entry)) (now (out .exit)) r ⌝ }
 {
-    let count = count_named(book, n, pattern, k, text);
+    let count = count_named(book, n, pattern, given, text);
     match count {
         NamedCount::Count(c) => {
             let length = count_line(c, out);

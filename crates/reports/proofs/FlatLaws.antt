@@ -7,8 +7,7 @@ use mathlib.Core.List.{List, [], _∷_}
 use lib.Dec.{leb, eqb}
 use lib.ListN.{getD}
 use Rattle.stateset.specs.Set.{bit, word, common}
-use Rattle.pattern.specs.Form.{Pattern}
-use Rattle.pattern.specs.Meaning.{matches}
+use Rattle.pattern.specs.Meaning.{Query, matches}
 use Rattle.pattern.specs.Moves.{states, leads, acceptedFrom}
 use Rattle.lines.specs.Lines.{countIn}
 use Rattle.lines.specs.Parts.{firstPart, laterParts, partsBefore, lastPart}
@@ -51,11 +50,11 @@ ended-flat s H T n = go (leb n most)
     go false = refl
 
 -- the report of a run
-abbrev pub runFields : Pattern → List ℕ → List (List ℕ) → Report
+abbrev pub runFields : Query → List ℕ → List (List ℕ) → Report
 runFields t w [] = withoutEnd (states t) (λ q p. leads t q w p)
 runFields t w (l ∷ ls) = withEnd (states t) (λ q. acceptedFrom t q (firstPart w)) (countIn (matches t) (partsBefore l ls)) (leads t 0 (lastPart l ls))
 
-pub report-fields : (t : Pattern) (w : List ℕ) → report t w ≡ runFields t w (laterParts w)
+pub report-fields : (t : Query) (w : List ℕ) → report t w ≡ runFields t w (laterParts w)
 unfolding report spanCount
 report-fields t w = rw (span-by t w, closed-by t w) (go (laterParts w))
   where

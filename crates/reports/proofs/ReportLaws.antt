@@ -6,7 +6,8 @@ use mathlib.Core.Bool.{Bool, true, false, not, cond}
 use mathlib.Core.List.{List, [], _∷_, _++_, append-nil}
 use lib.Dec.{eqb}
 use Rattle.runs.specs.Keys.{isKey, isRun}
-use Rattle.pattern.specs.Form.{Pattern, atomCount}
+use Rattle.pattern.specs.Meaning.{Query}
+use Rattle.pattern.specs.Form.{atomCount}
 use Rattle.pattern.specs.Moves.{states}
 use Rattle.pattern.specs.Automata.{Automaton}
 use Rattle.pattern.specs.declared.automaton.Accepting.{Accepting}
@@ -29,7 +30,7 @@ use Rattle.reports.specs.Reports.{spanCount, flagOf, shownOf, flat, repo
 use Rattle.reports.proofs.TotalLaws.{few-lines, total-sum, line-told}
 
 -- the empty run
-pub empty-count : (t : Pattern) → atomCount t ≤ 29 → emptyCount (states t) ≡ spanCount t []
+pub empty-count : (t : Query) → atomCount (t .tree) ≤ 29 → emptyCount (states t) ≡ spanCount t []
 unfolding spanCount
 empty-count t few = rw (empty-span t few, closed-empty t) refl
 
@@ -39,14 +40,14 @@ with-line x b n m e =
     ap (λ (c : Total). record { span = x; closed = c }) (ap (bothTotals (totalOf n)) (line-told b) ∙ total-sum n (cond b 1 0) ∙ ap totalOf (sym e))
 
 -- What is kept of u and of v, joined, is what is kept of u followed by v.
-pub join-counts : (t : Pattern) → atomCount t ≤ 29 → (u v : List ℕ) → isRun u ≡ true → isRun v ≡ true → joinedCounts (spanCount t u) (spanCount t v) ≡ spanCount t (u ++ v)
+pub join-counts : (t : Query) → atomCount (t .tree) ≤ 29 → (u v : List ℕ) → isRun u ≡ true → isRun v ≡ true → joinedCounts (spanCount t u) (spanCount t v) ≡ spanCount t (u ++ v)
 unfolding joinedCounts spanCount
 join-counts t few u v g h =
     let n = closedLines t u + closedLines t v in
     rw (join-spans t few u v g h, total-sum (closedLines t u) (closedLines t v))
     (with-line (span t (u ++ v)) (closesBetween t u v) n (closedLines t (u ++ v)) (closed-append t u v))
 
-module _ {t : Pattern} {keys enter : List ℕ} {p : Accepting} (d : Automaton t keys enter p) where
+module _ {t : Query} {keys enter : List ℕ} {p : Accepting} (d : Automaton t keys enter p) where
   -- With key k more it is what is kept of w followed by k.
   pub extend-count : (w : List ℕ) (k : ℕ) → isRun w ≡ true → isKey k ≡ true → extendedCount keys enter p (spanCount t w) k ≡ spanCount t (w ++ (k ∷ []))
   unfolding extendedCount spanCount
@@ -64,12 +65,12 @@ module _ {t : Pattern} {keys enter : List ℕ} {p : Accepting} (d : Automaton t 
       ∙ ap totalOf (sym (matching-ends t (d .few) p (accepting-of d) w h))
 
 -- it shows the pairs of its run
-pub count-pairs : (t : Pattern) → atomCount t ≤ 29 → (w : List ℕ) → pairsIn (spanCount t w .span) ≡ pairs t w
+pub count-pairs : (t : Query) → atomCount (t .tree) ≤ 29 → (w : List ℕ) → pairsIn (spanCount t w .span) ≡ pairs t w
 unfolding spanCount
 count-pairs t few w = pairs-of t few w
 
 -- and the pattern's states
-pub count-size : (t : Pattern) (w : List ℕ) → spanCount t w .span .s ≡ states t
+pub count-size : (t : Query) (w : List ℕ) → spanCount t w .span .s ≡ states t
 unfolding spanCount
 count-size t w = span-size t w
 
@@ -105,21 +106,21 @@ in-flat a none = both (ended (a .span .ended) (a .closed)) (closed (a .span .end
     both e f = rw (e, f) refl
 
 -- the report of a run is what is kept of it, flat
-pub report-is : (t : Pattern) (w : List ℕ) → reportOf (spanCount t w) ≡ report t w
+pub report-is : (t : Query) (w : List ℕ) → reportOf (spanCount t w) ≡ report t w
 unfolding report
 report-is t w = refl
 
 -- and holds it
-pub in-report : (t : Pattern) (w : List ℕ) → inReport (report t w) ≡ spanCount t w
+pub in-report : (t : Query) (w : List ℕ) → inReport (report t w) ≡ spanCount t w
 unfolding report spanCount
 in-report t w = in-flat (spanCount t w) (λ e. rw (closed-none t w e) refl)
 
 -- the number of states of a report
-pub report-size : (t : Pattern) (w : List ℕ) → report t w .s ≡ states t
+pub report-size : (t : Query) (w : List ℕ) → report t w .s ≡ states t
 unfolding report reportOf
 report-size t w = count-size t w
 
-module _ (t : Pattern) (few : atomCount t ≤ 29) where
+module _ (t : Query) (few : atomCount (t .tree) ≤ 29) where
   -- Joining the reports of u and of v gives the report of u followed by v.
   pub join-reports : (u v : List ℕ) → isRun u ≡ true → isRun v ≡ true → joinedReports (report t u) (report t v) ≡ report t (u ++ v)
   unfolding joinedReports report

@@ -6,7 +6,8 @@ use mathlib.Core.List.{List, [], _∷_, _++_, append-assoc}
 use borrow.Author.Tests.{le-leb}
 use lib.ListN.{length, getD, take, drop, replicate, length-append, length-take, length-drop}
 use lib.Seq.{take-at, getD-at, getD-append-add}
-use Rattle.pattern.specs.Form.{Pattern, atomCount}
+use Rattle.pattern.specs.Meaning.{Query}
+use Rattle.pattern.specs.Form.{atomCount}
 use Rattle.pattern.specs.Moves.{states}
 use Rattle.spans.specs.Spans.{span}
 use Rattle.spans.proofs.SpanLaws.{span-rows, span-padded}
@@ -41,7 +42,7 @@ module _ (s : ℕ) (rows : List ℕ) (f h c e : ℕ) (small : s ≤ 32) (long : 
       same : {x : List ℕ} {a b d i : ℕ} → x ≡ rows → a ≡ f → b ≡ h → d ≡ c → i ≡ e → _≡_ {A = Report} (record { s = s; rows = x; flag = a; heads = b; closed = d; tail = i }) made
       same g j k l m = rw (g, j, k, l, m) refl
 
-module _ (t : Pattern) (few : atomCount t ≤ 29) (w : List ℕ) where
+module _ (t : Query) (few : atomCount (t .tree) ≤ 29) (w : List ℕ) where
   -- its fields, and how many states there are
   whole : report t w ≡ record { s = states t; rows = report t w .rows; flag = report t w .flag; heads = report t w .heads; closed = report t w .closed; tail = report t w .tail }
   whole = ap (λ (n : ℕ). record { s = n; rows = report t w .rows; flag = report t w .flag; heads = report t w .heads; closed = report t w .closed; tail = report t w .tail }) (report-size t w)

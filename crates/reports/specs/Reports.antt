@@ -3,7 +3,7 @@ use Prim.Native.Nat.{ℕ}
 use mathlib.Core.Bool.{Bool, true, false, not, cond, _&&_}
 use mathlib.Core.List.{List}
 use lib.Dec.{leb, eqb}
-use Rattle.pattern.specs.Form.{Pattern}
+use Rattle.pattern.specs.Meaning.{Query}
 use Rattle.pattern.specs.declared.automaton.Accepting.{Accepting}
 use Rattle.spans.specs.declared.span.JoinedSpan.{JoinedSpan}
 use Rattle.spans.specs.Spans.{noRows, span, closedLines}
@@ -14,7 +14,7 @@ use Rattle.reports.specs.declared.total.Total.{Total}
 use Rattle.reports.specs.Totals.{totalOf, bothTotals, lineIf}
 
 -- a run's span, and how many closed lines it has
-unfoldable pub spanCount : Pattern → List ℕ → SpanCount
+unfoldable pub spanCount : Query → List ℕ → SpanCount
 spanCount t w = record { span = span t w; closed = totalOf (closedLines t w) }
 
 -- "a flag, 0 without LF, 1 with one, 2 with one and closed lines beyond 2^64 − 1"
@@ -37,7 +37,7 @@ unfoldable pub reportOf : SpanCount → Report
 reportOf a = flat (flagOf (a .span .ended) (a .closed)) (shownOf (a .span .ended) (a .closed)) a
 
 -- the report of a run
-unfoldable pub report : Pattern → List ℕ → Report
+unfoldable pub report : Query → List ℕ → Report
 report t w = reportOf (spanCount t w)
 
 -- Operations on any numbers. Closed lines that a caller says of a run without a line end are added up like any others.

@@ -11,8 +11,8 @@ use Rattle.runs.specs.Keys.{isLine, isRun}
 use Rattle.stateset.specs.Set.{bit, word, common}
 use Rattle.stateset.proofs.Sets.{bit-word, bit-one}
 use Rattle.stateset.proofs.Some.{any-ext, any-at}
-use Rattle.pattern.specs.Form.{Pattern, atomCount}
-use Rattle.pattern.specs.Meaning.{matches}
+use Rattle.pattern.specs.Form.{atomCount}
+use Rattle.pattern.specs.Meaning.{Query, matches}
 use Rattle.pattern.specs.Moves.{states, accepting, leads, acceptedFrom}
 use Rattle.pattern.specs.declared.automaton.Accepting.{Accepting}
 use Rattle.pattern.proofs.AcceptedLines.{states-match}
@@ -33,7 +33,7 @@ common-start s x h =
     any-ext s (λ p. bit x p && bit 1 p) (λ p. eqb 0 p && bit x p) (λ p l. ap (λ (b : Bool). bit x p && b) (bit-one 0 p) ∙ and-comm (bit x p) (eqb 0 p))
     ∙ any-at s 0 (bit x) h
 
-module _ (t : Pattern) (few : atomCount t ≤ 29) (p : Accepting) (tables : p .accepting ≡ word 32 (accepting t)) where
+module _ (t : Query) (few : atomCount (t .tree) ≤ 29) (p : Accepting) (tables : p .accepting ≡ word 32 (accepting (t .tree))) where
   -- the states that a line leads to have left line-start exactly if it has a key
   starts : (l : List ℕ) → common (states t) (word (states t) (leads t 0 l)) 1 ≡ not (isOpen l)
   starts l = common-start (states t) (word (states t) (leads t 0 l)) (omega arith) ∙ bit-word (states t) (leads t 0 l) 0 (omega arith) ∙ go l
@@ -45,8 +45,8 @@ module _ (t : Pattern) (few : atomCount t ≤ 29) (p : Accepting) (tables : p .a
   -- and accept exactly if it matches
   accepts : (l : List ℕ) → isLine l ≡ true → common (states t) (word (states t) (leads t 0 l)) (p .accepting) ≡ matches t l
   accepts l h =
-      any-ext (states t) (λ r. bit (word (states t) (leads t 0 l)) r && bit (p .accepting) r) (λ r. leads t 0 l r && accepting t r)
-      (λ r g. let low : r < 32 = omega arith in rw (tables, bit-word (states t) (leads t 0 l) r g, bit-word 32 (accepting t) r low) refl)
+      any-ext (states t) (λ r. bit (word (states t) (leads t 0 l)) r && bit (p .accepting) r) (λ r. leads t 0 l r && accepting (t .tree) r)
+      (λ r g. let low : r < 32 = omega arith in rw (tables, bit-word (states t) (leads t 0 l) r g, bit-word 32 (accepting (t .tree)) r low) refl)
       ∙ sym (accepted-is t 0 l)
       ∙ states-match t l h
 

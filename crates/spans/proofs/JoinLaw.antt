@@ -10,8 +10,8 @@ use Rattle.runs.proofs.KeyLaws.{line-append}
 use Rattle.stateset.specs.Set.{bit, word, anyBelow, common}
 use Rattle.stateset.proofs.Sets.{bit-word}
 use Rattle.stateset.proofs.Some.{any-ext}
-use Rattle.pattern.specs.Form.{Pattern, atomCount}
-use Rattle.pattern.specs.Meaning.{matches}
+use Rattle.pattern.specs.Form.{atomCount}
+use Rattle.pattern.specs.Meaning.{Query, matches}
 use Rattle.pattern.specs.Moves.{states, leads, acceptedFrom}
 use Rattle.pattern.proofs.AcceptedLines.{states-match}
 use Rattle.pattern.proofs.Leading.{leads-append, accepted-append}
@@ -25,11 +25,11 @@ use Rattle.spans.proofs.RowLaws.{states-all, row-of, rows-same}
 use Rattle.spans.proofs.SpanLaws.{ends-same}
 
 -- the rows of a run without a line end: where it leads from each state
-abbrev pub runRows : Pattern → List ℕ → List ℕ
+abbrev pub runRows : Query → List ℕ → List ℕ
 runRows t w = rowsOf (states t) (λ q p. leads t q w p)
 
 -- the states from which a line is accepted
-abbrev pub headsOf : Pattern → List ℕ → ℕ
+abbrev pub headsOf : Query → List ℕ → ℕ
 headsOf t l = word (states t) (λ q. acceptedFrom t q l)
 
 -- a span, and whether a line is closed
@@ -39,7 +39,7 @@ spanAnd b x = record { span = x; closes = b }
 both-same : {b c : Bool} {x y : Span} → b ≡ c → x ≡ y → spanAnd b x ≡ spanAnd c y
 both-same e f = rw (e, f) refl
 
-module _ (t : Pattern) (few : atomCount t ≤ 29) where
+module _ (t : Query) (few : atomCount (t .tree) ≤ 29) where
   -- the states in word x are those of X
   abbrev IsSet : ℕ → (ℕ → Bool) → Type 0
   IsSet x X = (r : ℕ) → r < states t → bit x r ≡ X r
@@ -126,7 +126,7 @@ module _ (t : Pattern) (few : atomCount t ≤ 29) where
     join-spans = join-with (laterParts u) (laterParts v) refl refl
 
 -- The closed lines of u followed by v are those of both, and the line between.
-pub closed-append : (t : Pattern) (u v : List ℕ) → closedLines t (u ++ v) ≡ closedLines t u + closedLines t v + cond (closesBetween t u v) 1 0
+pub closed-append : (t : Query) (u v : List ℕ) → closedLines t (u ++ v) ≡ closedLines t u + closedLines t v + cond (closesBetween t u v) 1 0
 unfolding closedLines closesBetween
 closed-append t u v = go (laterParts u) (laterParts v) refl refl
   where

@@ -13,8 +13,8 @@ use Rattle.runs.proofs.KeyLaws.{key-of-line}
 use Rattle.stateset.specs.Set.{bit, word, common}
 use Rattle.stateset.proofs.Sets.{bit-word, bits-ext, word-ext, word-high, word-one}
 use Rattle.stateset.proofs.Some.{any-ext, any-at}
-use Rattle.pattern.specs.Form.{Pattern, atomCount}
-use Rattle.pattern.specs.Meaning.{matches}
+use Rattle.pattern.specs.Form.{atomCount}
+use Rattle.pattern.specs.Meaning.{Query, matches}
 use Rattle.pattern.specs.Moves.{states, accepting, leads, acceptedFrom}
 use Rattle.pattern.specs.Automata.{Automaton}
 use Rattle.pattern.specs.declared.automaton.Accepting.{Accepting}
@@ -32,7 +32,7 @@ use Rattle.spans.proofs.SpanLaws.{span-size, ends-same}
 use Rattle.spans.proofs.JoinLaw.{spanAnd, runRows, headsOf, join-spans, closed-append}
 
 -- Words of a run.
-module _ (t : Pattern) (few : atomCount t ≤ 29) (q : ℕ) (inside : q < states t) where
+module _ (t : Query) (few : atomCount (t .tree) ≤ 29) (q : ℕ) (inside : q < states t) where
   -- a word has no more states than the pattern
   row-wide : (w : List ℕ) → word (states t) (leads t q w) ≡ word 32 (leads t q w)
   row-wide w = bits-ext (word (states t) (leads t q w)) (word 32 (leads t q w)) (λ p. go p (ltb p (states t)) refl)
@@ -61,15 +61,15 @@ module _ (t : Pattern) (few : atomCount t ≤ 29) (q : ℕ) (inside : q < states
       (bit-word (states t) (leads t q (w ++ (k ∷ []))) r h)
 
 -- line-start alone
-start-word : (t : Pattern) → 1 ≡ word (states t) (leads t 0 [])
+start-word : (t : Query) → 1 ≡ word (states t) (leads t 0 [])
 start-word t = word-one (states t) 0 (omega arith) ∙ word-ext (states t) (λ p. eqb 0 p) (leads t 0 []) (λ p h. sym (leads-none t 0 p))
 
 -- the accepting states accept the empty line
-accepted-none : (t : Pattern) (q : ℕ) → q < states t → acceptedFrom t q [] ≡ accepting t q
+accepted-none : (t : Query) (q : ℕ) → q < states t → acceptedFrom t q [] ≡ accepting (t .tree) q
 accepted-none t q h =
     accepted-is t q []
-    ∙ any-ext (states t) (λ p. leads t q [] p && accepting t p) (λ p. eqb q p && accepting t p) (λ p l. rw (leads-none t q p))
-    ∙ any-at (states t) q (accepting t) h
+    ∙ any-ext (states t) (λ p. leads t q [] p && accepting (t .tree) p) (λ p. eqb q p && accepting (t .tree) p) (λ p l. rw (leads-none t q p))
+    ∙ any-at (states t) q (accepting (t .tree)) h
 
 -- joining goes by the states below s of the right span's heads
 heads-same : (a : Span) (s h i z : ℕ) → ((x : ℕ) → common (stateCount (a .s)) x h ≡ common (stateCount (a .s)) x i) → (rows : List ℕ)
@@ -85,7 +85,7 @@ heads-same a s h i z e rows = go (a .ended)
     go false = rw (word-ext (stateCount (a .s)) (λ q. common (stateCount (a .s)) (getD (a .rows) q 0) h) (λ q. common (stateCount (a .s)) (getD (a .rows) q 0) i) (λ q l. e (getD (a .rows) q 0))) refl
 
 -- a key that is no line end closes none
-none-closed : (t : Pattern) (w : List ℕ) (k : ℕ) → eqb lineEnd k ≡ false → closesBetween t w (k ∷ []) ≡ false
+none-closed : (t : Query) (w : List ℕ) (k : ℕ) → eqb lineEnd k ≡ false → closesBetween t w (k ∷ []) ≡ false
 unfolding closesBetween
 none-closed t w k e = rw (key-part k e) (go (laterParts w))
   where
@@ -94,7 +94,7 @@ none-closed t w k e = rw (key-part k e) (go (laterParts w))
     go (l ∷ ls) = refl
 
 -- one key has no line between line ends
-closed-one : (t : Pattern) (k : ℕ) → closedLines t (k ∷ []) ≡ 0
+closed-one : (t : Query) (k : ℕ) → closedLines t (k ∷ []) ≡ 0
 unfolding closedLines
 closed-one t k = go (eqb lineEnd k) refl
   where
@@ -103,11 +103,11 @@ closed-one t k = go (eqb lineEnd k) refl
     go false e = rw (key-part k e) refl
 
 -- the span of a line end alone
-end-span : (t : Pattern) → span t (lineEnd ∷ []) ≡ record { s = states t; rows = noRows; ended = true; heads = headsOf t []; tail = 1 }
+end-span : (t : Query) → span t (lineEnd ∷ []) ≡ record { s = states t; rows = noRows; ended = true; heads = headsOf t []; tail = 1 }
 unfolding span
 end-span t = rw (end-part, end-first, last-one [], ← start-word t) refl
 
-module _ {t : Pattern} {keys enter : List ℕ} {p : Accepting} (d : Automaton t keys enter p) where
+module _ {t : Query} {keys enter : List ℕ} {p : Accepting} (d : Automaton t keys enter p) where
   span-count : (w : List ℕ) → stateCount (span t w .s) ≡ states t
   span-count w = ap stateCount (span-size t w) ∙ states-all (states t) (omega (arith, d .few))
 
@@ -123,7 +123,7 @@ module _ {t : Pattern} {keys enter : List ℕ} {p : Accepting} (d : Automaton t 
           any-ext (states t) (λ r. bit x r && bit (p .accepting) r) (λ r. bit x r && bit (headsOf t []) r)
           (λ r l.
           let low : r < 32 = omega (arith, d .few) in
-          rw (accepting-of d, bit-word 32 (accepting t) r low, bit-word (states t) (λ q. acceptedFrom t q []) r l, accepted-none t r l) refl)
+          rw (accepting-of d, bit-word 32 (accepting (t .tree)) r low, bit-word (states t) (λ q. acceptedFrom t q []) r l, accepted-none t r l) refl)
 
   -- another key
   module _ (k : ℕ) (key : lineKey k ≡ true) (other : eqb lineEnd k ≡ false) (w : List ℕ) where
@@ -164,7 +164,7 @@ module _ {t : Pattern} {keys enter : List ℕ} {p : Accepting} (d : Automaton t 
           rw (none-closed t w k other) (ap (spanAnd false) (moved-span k (key-of-line k key other) other w))
 
 -- One key closes a line, or none.
-pub closed-more : (t : Pattern) (w : List ℕ) (k : ℕ) → closedLines t (w ++ (k ∷ [])) ≡ closedLines t w + cond (closesBetween t w (k ∷ [])) 1 0
+pub closed-more : (t : Query) (w : List ℕ) (k : ℕ) → closedLines t (w ++ (k ∷ [])) ≡ closedLines t w + cond (closesBetween t w (k ∷ [])) 1 0
 closed-more t w k =
     let x : ℕ = cond (closesBetween t w (k ∷ [])) 1 0 in
     closed-append t w (k ∷ [])

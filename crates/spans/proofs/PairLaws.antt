@@ -10,7 +10,8 @@ use Rattle.runs.specs.Counts.{countBelow}
 use Rattle.runs.proofs.CountLaws.{count-ext, count-le, sum-ext, sum-le}
 use Rattle.stateset.specs.Set.{bit, word}
 use Rattle.stateset.proofs.Sets.{bit-word}
-use Rattle.pattern.specs.Form.{Pattern, atomCount}
+use Rattle.pattern.specs.Meaning.{Query}
+use Rattle.pattern.specs.Form.{atomCount}
 use Rattle.pattern.specs.Moves.{states, leads}
 use Rattle.lines.specs.Parts.{laterParts, lastPart}
 use Rattle.spans.specs.declared.span.Span.{Span}
@@ -24,7 +25,7 @@ members : (s : ℕ) (X : ℕ → Bool) → countBelow s (bit (word s X)) ≡ cou
 members s X = count-ext s (bit (word s X)) X (bit-word s X)
 
 -- of a run under a pattern
-pub pairs-of : (t : Pattern) → atomCount t ≤ 29 → (w : List ℕ) → pairsIn (span t w) ≡ pairs t w
+pub pairs-of : (t : Query) → atomCount (t .tree) ≤ 29 → (w : List ℕ) → pairsIn (span t w) ≡ pairs t w
 unfolding span pairs pairsIn
 pairs-of t few w = go (laterParts w)
   where
@@ -55,7 +56,7 @@ pairs-le a =
     omega (arith, square (stateCount (a .s)) (a .ended) a, mul-le-mul few few)
 
 -- a run has no more pairs than the square of the number of states
-pub pairs-square : (t : Pattern) (w : List ℕ) → pairs t w ≤ states t * states t
+pub pairs-square : (t : Query) (w : List ℕ) → pairs t w ≤ states t * states t
 unfolding pairs
 pairs-square t w = go (laterParts w)
   where

@@ -13,7 +13,8 @@ use Rattle.runs.proofs.Tests.{torn}
 use Rattle.stateset.specs.Set.{word}
 use Rattle.stateset.proofs.Sets.{word-ext}
 use Rattle.stateset.proofs.Tabled.{tabled-length, tabled-at}
-use Rattle.pattern.specs.Form.{Pattern, atomCount}
+use Rattle.pattern.specs.Meaning.{Query}
+use Rattle.pattern.specs.Form.{atomCount}
 use Rattle.pattern.specs.Moves.{states, leads}
 use Rattle.pattern.specs.declared.automaton.Accepting.{Accepting}
 use Rattle.pattern.proofs.Leading.{leads-none}
@@ -25,7 +26,7 @@ use Rattle.spans.specs.Joining.{stateCount, emptySpan, joinedWith, joine
 use Rattle.spans.proofs.RowLaws.{states-all, states-few, rows-same}
 
 -- the span of a run has the pattern's states
-pub span-size : (t : Pattern) (w : List ℕ) → span t w .s ≡ states t
+pub span-size : (t : Query) (w : List ℕ) → span t w .s ≡ states t
 unfolding span
 span-size t w = go (laterParts w)
   where
@@ -38,19 +39,19 @@ pub ends-same : (s : ℕ) (H I T U : ℕ → Bool) → ((q : ℕ) → q < s → 
 ends-same s H I T U f g = rw (word-ext s H I f, word-ext s T U g) refl
 
 -- the empty run
-pub empty-span : (t : Pattern) → atomCount t ≤ 29 → emptySpan (states t) ≡ span t []
+pub empty-span : (t : Query) → atomCount (t .tree) ≤ 29 → emptySpan (states t) ≡ span t []
 unfolding span
 empty-span t few =
     rw (later-none, states-all (states t) (omega arith))
     (ap (λ (rows : List ℕ). record { s = states t; rows = rows; ended = false; heads = 0; tail = 0 })
     (rows-same (states t) (λ q p. eqb q p) (λ q p. leads t q [] p) (λ q p h l. sym (leads-none t q p))))
 
-pub closed-empty : (t : Pattern) → closedLines t [] ≡ 0
+pub closed-empty : (t : Query) → closedLines t [] ≡ 0
 unfolding closedLines
 closed-empty t = rw later-none refl
 
 -- a run without a line end has no closed line
-pub closed-none : (t : Pattern) (w : List ℕ) → span t w .ended ≡ false → closedLines t w ≡ 0
+pub closed-none : (t : Query) (w : List ℕ) → span t w .ended ≡ false → closedLines t w ≡ 0
 unfolding span closedLines
 closed-none t w = go (laterParts w)
   where
@@ -84,7 +85,7 @@ zeros-padded : (s : ℕ) → s ≤ 32 → take s noRows ++ replicate (32 - s) 0 
 zeros-padded s h = padded-list noRows s h (λ i g k. zeros-at 32 i)
 
 -- the rows of a run's span: 32, and zeros from the number of states on
-pub span-rows : (t : Pattern) (w : List ℕ) → length (span t w .rows) ≡ 32
+pub span-rows : (t : Query) (w : List ℕ) → length (span t w .rows) ≡ 32
 unfolding span
 span-rows t w = go (laterParts w)
   where
@@ -92,7 +93,7 @@ span-rows t w = go (laterParts w)
     go [] = rows-long (states t) (λ q p. leads t q w p)
     go (l ∷ ls) = refl
 
-pub span-padded : (t : Pattern) → atomCount t ≤ 29 → (w : List ℕ) → take (states t) (span t w .rows) ++ replicate (32 - states t) 0 ≡ span t w .rows
+pub span-padded : (t : Query) → atomCount (t .tree) ≤ 29 → (w : List ℕ) → take (states t) (span t w .rows) ++ replicate (32 - states t) 0 ≡ span t w .rows
 unfolding span
 span-padded t few w = go (laterParts w)
   where
@@ -101,7 +102,7 @@ span-padded t few w = go (laterParts w)
     go (l ∷ ls) = zeros-padded (states t) (omega arith)
 
 -- A run's span and closed lines, by the parts behind its line ends.
-module _ (t : Pattern) (w : List ℕ) where
+module _ (t : Query) (w : List ℕ) where
   pub span-by : span t w ≡ spanWith t w (laterParts w)
   unfolding span
   span-by = refl

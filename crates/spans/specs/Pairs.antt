@@ -5,7 +5,7 @@ use mathlib.Core.List.{List, [], _∷_}
 use lib.ListN.{getD}
 use Rattle.runs.specs.Counts.{countBelow, sumBelow}
 use Rattle.stateset.specs.Set.{bit}
-use Rattle.pattern.specs.Form.{Pattern}
+use Rattle.pattern.specs.Meaning.{Query}
 use Rattle.pattern.specs.Moves.{states, leads}
 use Rattle.lines.specs.Parts.{laterParts, lastPart}
 use Rattle.spans.specs.declared.span.Span.{Span}
@@ -13,11 +13,11 @@ use Rattle.spans.specs.Joining.{stateCount}
 
 -- "the pairs of states (q, p) such that the items before it in that macro lead from q to p", where w is the run of those items:
 -- "Before any LF in them q is every state; after one, q is line-start alone, moving since the last LF."
-abbrev pub pairsWith : Pattern → List ℕ → List (List ℕ) → ℕ
+abbrev pub pairsWith : Query → List ℕ → List (List ℕ) → ℕ
 pairsWith t w [] = sumBelow (states t) (λ q. countBelow (states t) (leads t q w))
 pairsWith t w (l ∷ ls) = countBelow (states t) (leads t 0 (lastPart l ls))
 
-unfoldable pub pairs : Pattern → List ℕ → ℕ
+unfoldable pub pairs : Query → List ℕ → ℕ
 pairs t w = pairsWith t w (laterParts w)
 
 -- the pairs of states that a span shows (`pairs-of`)

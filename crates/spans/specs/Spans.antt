@@ -6,8 +6,7 @@ use lib.Dec.{ltb}
 use lib.ListN.{replicate}
 use Rattle.stateset.specs.Set.{word}
 use Rattle.stateset.specs.Tabled.{tabled}
-use Rattle.pattern.specs.Form.{Pattern}
-use Rattle.pattern.specs.Meaning.{matches}
+use Rattle.pattern.specs.Meaning.{Query, matches}
 use Rattle.pattern.specs.Moves.{states, leads, acceptedFrom}
 use Rattle.lines.specs.Lines.{countIn}
 use Rattle.lines.specs.Parts.{firstPart, laterParts, partsBefore, lastPart}
@@ -31,27 +30,27 @@ endedSpan s H T = record { s = s; rows = noRows; ended = true; heads = word s H;
 
 -- "s rows (states reached from each state)"; "heads, the states from which the first line is accepted"; "tail, the states reached
 -- from line-start since the last LF"
-abbrev pub spanWith : Pattern → List ℕ → List (List ℕ) → Span
+abbrev pub spanWith : Query → List ℕ → List (List ℕ) → Span
 spanWith t w [] = openSpan (states t) (λ q p. leads t q w p)
 spanWith t w (l ∷ ls) = endedSpan (states t) (λ q. acceptedFrom t q (firstPart w)) (leads t 0 (lastPart l ls))
 
-unfoldable pub span : Pattern → List ℕ → Span
+unfoldable pub span : Query → List ℕ → Span
 span t w = spanWith t w (laterParts w)
 
 -- "the matching lines strictly between first and last LF"
-abbrev pub closedWith : Pattern → List (List ℕ) → ℕ
+abbrev pub closedWith : Query → List (List ℕ) → ℕ
 closedWith t [] = 0
 closedWith t (l ∷ ls) = countIn (matches t) (partsBefore l ls)
 
-unfoldable pub closedLines : Pattern → List ℕ → ℕ
+unfoldable pub closedLines : Query → List ℕ → ℕ
 closedLines t w = closedWith t (laterParts w)
 
 -- Where one run follows another, the keys behind the left one's last line end and those before the right one's first are one line.
 -- Whether there are both line ends, and that line matches:
-abbrev pub closesWith : Pattern → List (List ℕ) → List ℕ → List (List ℕ) → Bool
+abbrev pub closesWith : Query → List (List ℕ) → List ℕ → List (List ℕ) → Bool
 closesWith t [] v ms = false
 closesWith t (l ∷ ls) v [] = false
 closesWith t (l ∷ ls) v (m ∷ ms) = matches t (lastPart l ls ++ firstPart v)
 
-unfoldable pub closesBetween : Pattern → List ℕ → List ℕ → Bool
+unfoldable pub closesBetween : Query → List ℕ → List ℕ → Bool
 closesBetween t u v = closesWith t (laterParts u) v (laterParts v)

@@ -14,8 +14,8 @@ peek-requires c κs = search needs
 store-dot-requires : tie.Need-store-dot-requires
 store-dot-requires c κs = search needs
 
-add-t11 : tie.Need-add-t11
-add-t11 c = search needs
+add-t12 : tie.Need-add-t12
+add-t12 c = search needs
 
 returns-2 : tie.Need-returns-2
 returns-2 c = (search dot-place, search dot-table)
@@ -44,8 +44,8 @@ returns-4 c = (search (fault-place, atom-unescaped), search (fault-table, atom-u
 store-key-requires : tie.Need-store-key-requires
 store-key-requires c κs = search needs
 
-add-t14 : tie.Need-add-t14
-add-t14 c = search needs
+add-t15 : tie.Need-add-t15
+add-t15 c = search needs
 
 returns-5 : tie.Need-returns-5
 returns-5 c = (search escaped-place, search escaped-table)
@@ -59,8 +59,8 @@ returns-6 c = (search (fault-place, atom-mark), search (fault-table, atom-mark))
 store-key-requires-2 : tie.Need-store-key-requires-2
 store-key-requires-2 c κs = search needs
 
-add-t7 : tie.Need-add-t7
-add-t7 c = search needs
+add-t8 : tie.Need-add-t8
+add-t8 c = search needs
 
 returns-7 : tie.Need-returns-7
 returns-7 c = (search plain-place, search plain-table)
@@ -72,7 +72,7 @@ read-atom-spec =
     returns
     peek-requires
     store-dot-requires
-    add-t11
+    add-t12
     returns-2
     add-read-bracket
     read-bracket-requires
@@ -82,10 +82,10 @@ read-atom-spec =
     is-mark-requires
     returns-4
     store-key-requires
-    add-t14
+    add-t15
     returns-5
     is-mark-requires-2
     returns-6
     store-key-requires-2
-    add-t7
+    add-t8
     returns-7)

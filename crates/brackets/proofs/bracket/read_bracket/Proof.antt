@@ -29,8 +29,8 @@ read-text-requires c κs = search needs
 enum-known-end : tie.Need-enum-known-end
 enum-known-end c = search needs
 
-add-t16 : tie.Need-add-t16
-add-t16 c = search copy-fits
+add-t17 : tie.Need-add-t17
+add-t17 c = search copy-fits
 
 enum-told : tie.Need-enum-told
 enum-told c = search needs
@@ -53,7 +53,7 @@ read-bracket-spec =
     slice-aggregate-read-text
     read-text-requires
     enum-known-end
-    add-t16
+    add-t17
     enum-told
     returns-3
     returns-4)

@@ -10,10 +10,10 @@ use Rattle.brackets.proofs.set.store.Statement.{statement}
 use Rattle.brackets.proofs.set.store.Tie as tie
 
 abbrev Inv-loop : tie.InvT-loop
-Inv-loop set negated states keys₀ k₀ keys k = keys ≡ partly (withKey set negated states) k keys₀
+Inv-loop set case negated states keys₀ k₀ keys k = keys ≡ partly (withKey case set negated states) k keys₀
 
 abbrev μ-loop : tie.MeasureT-loop
-μ-loop set negated states keys₀ k₀ keys k = 256 - k
+μ-loop set case negated states keys₀ k₀ keys k = 256 - k
 
 loop-holds : tie.Need-loop-holds Inv-loop μ-loop
 loop-holds c = search keys-first

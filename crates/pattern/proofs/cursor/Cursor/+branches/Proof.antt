@@ -50,4 +50,10 @@ pub +branches-spec : {M : Type 1} → statement M
     (λ c. search (laws.branches-other))
     (λ c κs. (search (laws.branches-at), search (laws.branches-atoms)))
     (λ c κs. (search (laws.branches-falls), search (laws.branches-ready)))
-    (λ c. search (laws.branches-more))
+    (λ c.
+    let past = c .before .before .before in
+    let peeked = past .before .before .before in
+    let read = peeked .before .before in
+    let branch = read .before .before .before in
+    let start = branch .before .before .before .before in
+    laws.branches-more _ _ (start .pre .1) _ _ _ _ _ (branch .pattern-branch .ensures) _ _ _ _ _ (read .before .read .given .1) _ (peeked .before .with-branch .ensures) _ (peeked .peek .ensures) (past .before .if2 .left) _ (past .past .ensures) _ _ _ (c .branches .ensures))
