@@ -47,7 +47,7 @@ fn last_of(book: &[u8], pattern: &[u8], case: Case) -> BookCount
     last_in(book, pattern, case, &mut work)
 }
 
-// The count of the macro that a text names, in every book of which these n bytes were read, under every pattern of which those asked for
+// The count of the macro that a text names, in every book of which these n bytes were read, under every pattern of which the given bytes
 // were.
 pub fn count_named(
     book: &[u8; BOOK_READ],
