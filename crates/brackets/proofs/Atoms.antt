@@ -15,7 +15,7 @@ use Rattle.brackets.specs.declared.atom.AtomRead.{AtomRead}
 use Rattle.brackets.specs.declared.atom.AtomRead.the-variants.{At}
 use Rattle.brackets.specs.Form.{Atom, marks, dot, plain, escaped}
 use Rattle.brackets.specs.Sets.{setOf, named}
-use Rattle.brackets.specs.Brackets.{parsed, fault, at, bracketWithin, readAtomBy, readAtom, atomAt}
+use Rattle.brackets.specs.Brackets.{parsed, fault, at, bracketWithin, readAtom, atomAt}
 use Rattle.brackets.specs.Answers.{placeBehind, keysWith, keysBehind}
 use Rattle.brackets.proofs.Bytes.{first-at}
 use Rattle.brackets.proofs.Answers.{same-place, same-table, behind-place}
@@ -24,7 +24,7 @@ use Rattle.runs.proofs.Tests.{torn}
 
 -- a text of at most 128 bytes is read as the paper says
 pub atom-at : (s : List ℕ) (p : ℕ) → length s ≤ 128 → atomAt s p ≡ readAtom (drop p s)
-unfolding atomAt readAtom readAtomBy bracketWithin
+unfolding atomAt readAtom bracketWithin
 atom-at s p h = rw (le-leb (length s) 128 h)
 
 -- a search through a list: what is left has the byte exactly if the whole has it
@@ -40,7 +40,7 @@ module _ (l : List ℕ) (b i : ℕ) (t : Bool) (inv : member b (drop i l) ≡ t)
 
 module _ (s : List ℕ) (p : ℕ) where
   pub atom-end : length s ≤ p → atomAt s p ≡ fault
-  unfolding atomAt readAtomBy
+  unfolding atomAt
   atom-end h = rw (drop-of-length-le s h)
 
   -- an atom a that takes k bytes
@@ -57,7 +57,7 @@ module _ (s : List ℕ) (p : ℕ) where
 
     module _ (h : b ≡ 46) where
       atom-dot : atomAt s p ≡ parsed dot (drop (p + 1) s)
-      unfolding atomAt readAtomBy
+      unfolding atomAt
       atom-dot = rw (front, h, drop-drop)
 
       pub dot-place : p < length s → At (p + 1) ≡ placeBehind (length s) (atomAt s p)
@@ -69,7 +69,7 @@ module _ (s : List ℕ) (p : ℕ) where
     module _ (no-dot : b ≡ 46 → ⊥) where
       module _ (h : b ≡ 91) where
         atom-bracket : atomAt s p ≡ bracketWithin (length s) (drop (p + 1) s)
-        unfolding atomAt readAtomBy
+        unfolding atomAt
         atom-bracket = rw (front, h, drop-drop)
 
         pub bracket-place : (r : AtomRead) → r ≡ placeBehind (length s) (bracketWithin (length s) (drop (p + 1) s)) → r ≡ placeBehind (length s) (atomAt s p)
@@ -82,12 +82,12 @@ module _ (s : List ℕ) (p : ℕ) where
         -- after `\`
         module _ (h : b ≡ 92) (x : ℕ) (f : x ≡ getD s (p + 1) 0) (m : Bool) (g : m ≡ member x marks) where
           pub atom-unescaped : not m ≡ true → atomAt s p ≡ fault
-          unfolding atomAt readAtomBy
+          unfolding atomAt
           atom-unescaped k = rw (front, h, getD-drop, ← f, ← g, not-true m k)
 
           module _ (k : not m ≡ false) where
             atom-escaped : atomAt s p ≡ parsed (escaped x) (drop (p + 2) s)
-            unfolding atomAt readAtomBy
+            unfolding atomAt
             atom-escaped = rw (front, h, getD-drop, ← f, ← g, not-false m k, drop-drop)
 
             -- a mark is no 0, so it stands inside
@@ -105,12 +105,12 @@ module _ (s : List ℕ) (p : ℕ) where
 
         module _ (no-escape : b ≡ 92 → ⊥) (m : Bool) (g : m ≡ member b marks) where
           pub atom-mark : eqb b 0 || m ≡ true → atomAt s p ≡ fault
-          unfolding atomAt readAtomBy
+          unfolding atomAt
           atom-mark k = rw (front, ← g, ne-eqb _ _ no-dot, ne-eqb _ _ no-bracket, ne-eqb _ _ no-escape, k)
 
           module _ (k : eqb b 0 || m ≡ false) where
             atom-plain : atomAt s p ≡ parsed (plain b) (drop (p + 1) s)
-            unfolding atomAt readAtomBy
+            unfolding atomAt
             atom-plain = rw (front, ← g, ne-eqb _ _ no-dot, ne-eqb _ _ no-bracket, ne-eqb _ _ no-escape, k, drop-drop)
 
             pub plain-place : p < length s → At (p + 1) ≡ placeBehind (length s) (atomAt s p)

@@ -11,7 +11,7 @@ use Rattle.runs.specs.Keys.{member, lineKey, isLine}
 use Rattle.runs.proofs.Tests.{and-parts}
 use Rattle.runs.proofs.KeyLaws.{other-than, line-cons, line-member, key-is}
 use Rattle.brackets.specs.Form.{Atom, plain, dot, escaped, bracket, marks, writeAtom, formedAtom}
-use Rattle.brackets.specs.Brackets.{parsed, at, readAtomBy, readAtom}
+use Rattle.brackets.specs.Brackets.{parsed, at, readAtom}
 use Rattle.brackets.proofs.BracketsBack.{bracket-back, bracket-clean}
 
 -- a plain byte is no mark
@@ -69,7 +69,7 @@ plain-dot b h = (plain-apart b 46 h refl, plain-apart b 91 h refl, plain-apart b
 
 -- an atom of the form is read again
 pub atom-back : (a : Atom) (rest : List ℕ) → formedAtom a ≡ true → readAtom (writeAtom a ++ rest) ≡ parsed a rest
-unfolding readAtom readAtomBy writeAtom formedAtom
+unfolding readAtom writeAtom formedAtom
 atom-back (plain b) rest h =
     let (dot-not, open-not, slash-not) = plain-dot b h in
     rw (not-true (member b marks) (and-parts (lineKey b) (not (member b marks)) h .1), dot-not, open-not, slash-not, plain-there b h)

@@ -12,7 +12,7 @@ use Rattle.runs.specs.Keys.{member, isLine}
 use Rattle.runs.proofs.Tests.{clash, neither}
 use Rattle.runs.proofs.KeyLaws.{line-drop, line-first}
 use Rattle.brackets.specs.Form.{Atom, plain, dot, escaped, marks, writeAtom, formedAtom}
-use Rattle.brackets.specs.Brackets.{Parsed, parsed, fault, at, readBracket, readAtomBy, readAtom}
+use Rattle.brackets.specs.Brackets.{Parsed, parsed, fault, at, readBracket, readAtom}
 use Rattle.brackets.proofs.Parses.{same-parsed, one-parsed, test-parsed, untest-parsed, front}
 use Rattle.brackets.proofs.BracketsFrom.{bracket-from}
 
@@ -51,7 +51,7 @@ module _ (l rest : List ℕ) (a : Atom) (h : isLine l ≡ true) where
       (front l 91 (omega arith) b ∙ there, formed)
 
   pub atom-from : readAtom l ≡ parsed a rest → Atom-from l a rest
-  unfolding readAtom readAtomBy
+  unfolding readAtom
   atom-from p = ⊎-elim (λ (d, q). dot-from d q) (λ (d, q). no-dot q) (one-parsed (eqb (at 0 l) 46) _ _ a rest p)
     where
       escapedOrPlain : Parsed Atom

@@ -91,7 +91,7 @@ readBracket l =
     (next (readElements (length l) true l) (λ es. done (bracket false es)))
 
 -- "Atoms: a plain byte (any but the twelve marks ..); `.` ..; `\` before one of ..; a bracket", which another parser reads
-unfoldable pub readAtomBy : Parser Atom → Parser Atom
+abbrev pub readAtomBy : Parser Atom → Parser Atom
 readAtomBy bracketBy l =
     cond (eqb (at 0 l) 46) (parsed dot (drop 1 l))
     (cond (eqb (at 0 l) 91) (bracketBy (drop 1 l))

@@ -20,7 +20,7 @@ use Rattle.pattern.specs.States.{nothing, first, last, follow, someBranch}
 use Rattle.pattern.specs.States as positions
 use Rattle.pattern.specs.Moves.{enters, target, move, leads}
 use Rattle.pattern.specs.Reader.{Read, accepted, refused, readRepeat, readExpr, readBranch, readBranches, readPattern}
-use Rattle.brackets.specs.Brackets.{sameBytes, findClass, readElement, readElements, readBracket, readAtom, readAtomBy}
+use Rattle.brackets.specs.Brackets.{sameBytes, findClass, readElement, readElements, readBracket, readAtom}
 use Rattle.lines.specs.Lines.{lines, countIn, matching}
 use Rattle.counter.specs.Front.{spaceStep}
 use Rattle.counter.specs.Counting.{Outcome, itemSteps, steps, countResult}
@@ -133,10 +133,10 @@ allHold (r ∷ rs) = holds r && allHold rs
 
 -- every row is as the papers say
 pub paper-runs : allHold table ≡ true
-unfolding table allHold answerTo classNames atoms atomCount sameBytes findClass readElement readElements readBracket readAtomBy readAtom readRepeat readExpr readBranch readBranches readPattern classRanges inRanges inElement inElements named setOf folded otherCase repeated takes matchesFrom someMatches matches lines countIn matching readItem readItems readMacro readMacros readHeader readAll readBook expand expandTo expansion lineOf runOf lineResult runResult spaceStep countResult firstPart laterParts lastPart sumBelow pairs itemSteps steps anyBelow countBelow nothing first last follow someBranch positions.holds enters target move leads patternEnd lastResult programResult programAnswer xor
+unfolding table allHold answerTo classNames atoms atomCount sameBytes findClass readElement readElements readBracket readAtom readRepeat readExpr readBranch readBranches readPattern classRanges inRanges inElement inElements named setOf folded otherCase repeated takes matchesFrom someMatches matches lines countIn matching readItem readItems readMacro readMacros readHeader readAll readBook expand expandTo expansion lineOf runOf lineResult runResult spaceStep countResult firstPart laterParts lastPart sumBelow pairs itemSteps steps anyBelow countBelow nothing first last follow someBranch positions.holds enters target move leads patternEnd lastResult programResult programAnswer xor
 paper-runs = refl
 
 -- the program's example, whole
 pub example-told : programAnswer example ≡ record { refusal = 0; lines = 2; steps = 17 }
-unfolding classNames atoms atomCount sameBytes findClass readElement readElements readBracket readAtomBy readAtom readRepeat readExpr readBranch readBranches readPattern classRanges inRanges inElement inElements named setOf folded otherCase repeated takes matchesFrom someMatches matches lines countIn matching readItem readItems readMacro readMacros readHeader readAll readBook expand expandTo expansion lineOf runOf lineResult runResult spaceStep countResult firstPart laterParts lastPart sumBelow pairs itemSteps steps anyBelow countBelow nothing first last follow someBranch positions.holds enters target move leads patternEnd lastResult programResult programAnswer xor
+unfolding classNames atoms atomCount sameBytes findClass readElement readElements readBracket readAtom readRepeat readExpr readBranch readBranches readPattern classRanges inRanges inElement inElements named setOf folded otherCase repeated takes matchesFrom someMatches matches lines countIn matching readItem readItems readMacro readMacros readHeader readAll readBook expand expandTo expansion lineOf runOf lineResult runResult spaceStep countResult firstPart laterParts lastPart sumBelow pairs itemSteps steps anyBelow countBelow nothing first last follow someBranch positions.holds enters target move leads patternEnd lastResult programResult programAnswer xor
 example-told = refl

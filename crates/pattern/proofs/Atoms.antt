@@ -18,7 +18,7 @@ use Rattle.brackets.specs.Answers.{placeBehind, keysBehind}
 use Rattle.pattern.specs.declared.cursor.Cursor.{Cursor}
 use Rattle.pattern.specs.declared.cursor.Part.{Part}
 use Rattle.pattern.specs.declared.shape.Shape.{Shape}
-use Rattle.pattern.specs.Cycle.{AtomDone, ReadsAtom}
+use Rattle.pattern.specs.Cycle.{AtomDone, Ready, ReadsAtom}
 use Rattle.pattern.specs.States.{nothing, first, last, atomState, atomWord}
 use Rattle.pattern.proofs.Tables.{keys-atom}
 use Rattle.runs.proofs.Tests.{clash}
@@ -77,9 +77,9 @@ abbrev oneShape : ℕ → Shape
 oneShape set = record { nothing = false; first = set; last = set }
 
 -- what the reader of an atom answers at a cursor, where `set` is the atom's state
-module _ (s keys after : List ℕ) (c : Cursor) {set : ℕ} (eset : set ≡ stateAt c) (short : length s ≤ 128) {w : AtomRead} (place : w ≡ placeAt s c) (table : after ≡ keysAt s c set keys) where
+module _ (s keys after : List ℕ) (c : Cursor) {set : ℕ} (eset : set ≡ stateAt c) (ready : Ready s c) {w : AtomRead} (place : w ≡ placeAt s c) (table : after ≡ keysAt s c set keys) where
   same : atomAt s (c .at) ≡ readAtom (drop (c .at) s)
-  same = atom-at s (c .at) short
+  same = atom-at s (c .at) (ready .short)
 
   pub atom-read : (next : ℕ) (d : Cursor) → w ≡ AtomRead.At next → d ≡ record { at = next; atoms = c .atoms + 1; case = c .case } → ReadsAtom s c keys (Part.Read d (oneShape set)) after
   unfolding nothing first last

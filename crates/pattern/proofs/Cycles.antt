@@ -438,9 +438,6 @@ module _ (s : List ℕ) (c : Cursor) (r : Ready s c) (keys enter : List ℕ) (b 
 
 -- a cursor that is ready, and one behind a parenthesis
 module _ (s : List ℕ) (c : Cursor) (r : Ready s c) where
-  pub ready-short : length s ≤ 128
-  ready-short = r .short
-
   pub ready-at : c .at ≤ 128
   ready-at = omega (arith, r .inside, r .short)
 

@@ -5,7 +5,7 @@ use mathlib.Core.List.{List, [], _∷_}
 use Rattle.refusal.specs.Number.{number}
 use Rattle.brackets.specs.Form.{classNames}
 use Rattle.pattern.specs.Reader.{Read, accepted, refused, readRepeat, readExpr, readBranch, readBranches, readPattern}
-use Rattle.brackets.specs.Brackets.{sameBytes, findClass, readElement, readElements, readBracket, readAtomBy, readAtom}
+use Rattle.brackets.specs.Brackets.{sameBytes, findClass, readElement, readElements, readBracket, readAtom}
 use Rattle.pattern.specs.Form.{atoms, atomCount}
 
 -- 0 if accepted, else the refusal's number
@@ -54,7 +54,7 @@ bad-patterns =
     ∷ []
 
 bad-refused : verdicts bad-patterns ≡ 8 ∷ 8 ∷ 8 ∷ 8 ∷ 8 ∷ 8 ∷ 8 ∷ 8 ∷ 8 ∷ 8 ∷ 8 ∷ 8 ∷ 8 ∷ 8 ∷ 8 ∷ 8 ∷ 8 ∷ 8 ∷ 8 ∷ 8 ∷ 8 ∷ 8 ∷ 8 ∷ 8 ∷ 8 ∷ 8 ∷ 8 ∷ 8 ∷ 8 ∷ 8 ∷ 8 ∷ []
-unfolding bad-patterns verdict verdicts classNames atoms atomCount sameBytes findClass readElement readElements readBracket readAtomBy readAtom readRepeat readExpr readBranch readBranches readPattern
+unfolding bad-patterns verdict verdicts classNames atoms atomCount sameBytes findClass readElement readElements readBracket readAtom readRepeat readExpr readBranch readBranches readPattern
 bad-refused = refl
 
 -- accepted
@@ -89,5 +89,5 @@ good-patterns =
     ∷ []
 
 good-accepted : verdicts good-patterns ≡ 0 ∷ 0 ∷ 0 ∷ 0 ∷ 0 ∷ 0 ∷ 0 ∷ 0 ∷ 0 ∷ 0 ∷ 0 ∷ 0 ∷ 0 ∷ 0 ∷ 0 ∷ 0 ∷ 0 ∷ 0 ∷ 0 ∷ 0 ∷ 0 ∷ 0 ∷ 0 ∷ 0 ∷ 0 ∷ 0 ∷ []
-unfolding good-patterns verdict verdicts classNames atoms atomCount sameBytes findClass readElement readElements readBracket readAtomBy readAtom readRepeat readExpr readBranch readBranches readPattern
+unfolding good-patterns verdict verdicts classNames atoms atomCount sameBytes findClass readElement readElements readBracket readAtom readRepeat readExpr readBranch readBranches readPattern
 good-accepted = refl

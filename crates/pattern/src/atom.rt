@@ -6,12 +6,11 @@ use crate::state::State;
 use brackets::AtomRead;
 use brackets::read_atom;
 ghost use mathlib.Core.Path.{_≡_};
-ghost use Prim.Native.Nat.{_≤_};
 ghost use lib.Dec.{eqb};
 ghost use lib.ListN.{drop, length};
 ghost use Rattle.brackets.specs.Brackets.{readAtom};
 ghost use Rattle.pattern.specs.States.{atomWord};
-ghost use Rattle.pattern.specs.Cycle.{AtomDone};
+ghost use Rattle.pattern.specs.Cycle.{AtomDone, Ready};
 
 // The set of atom k's state; atoms past 29 are counted and not stored.
 fn atom_set(k: usize) -> u64
@@ -26,7 +25,7 @@ fn atom_set(k: usize) -> u64
 impl Cursor {
     // The atom at the cursor. Its keys go into the table.
     pub(crate) fn atom(self, s: &[u8], keys: &mut [u64; 256]) -> Part
-        requires { ⌜ (length (now s) ≤ 128) × (self .atoms ≤ 128) ⌝ }
+        requires { ⌜ Ready (now s) self ⌝ }
         ensures { λ r. ⌜ AtomDone (length (now (s .entry))) self (now (keys .entry)) r (now (keys .exit)) (readAtom (drop (self .at) (now (s .entry)))) ⌝ }
     {
         let set = atom_set(self.atoms);

@@ -182,7 +182,7 @@ pub +alternatives+branch+group+piece-spec : {M : Type 1} → statement M
     (λ c. search (laws.piece-fault))
     (λ c κs. (search (laws.group-ready), search (laws.group-small)))
     (λ c. search (laws.piece-group))
-    (λ c κs. (search (laws.ready-short), search (laws.ready-atoms)))
+    (λ c κs. search needs)
     (λ c. search needs)
     (λ c. search needs)
     (λ c. search (laws.piece-atom-fault))

@@ -1,6 +1,7 @@
 -- `Cursor::atom`: what the reader of an atom answers, with its number.
 use borrow.Author.Needs.{needs}
 use Rattle.pattern.proofs.Atoms.{atom-read, atom-faulty}
+use Rattle.pattern.proofs.Cycles.{ready-atoms}
 use Rattle.pattern.proofs.cursor.Cursor.atom.Statement.{statement}
 use Rattle.pattern.proofs.cursor.Cursor.atom.Tie as tie
 
@@ -14,7 +15,7 @@ enum-known-next : tie.Need-enum-known-next
 enum-known-next c = search needs
 
 advanced-requires : tie.Need-advanced-requires
-advanced-requires c κs = search needs
+advanced-requires c κs = (search (ready-atoms), search needs)
 
 enum-told : tie.Need-enum-told
 enum-told c = search needs
