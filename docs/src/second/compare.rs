@@ -1,12 +1,14 @@
 //! Compares the programs under test with this one; the first difference ends everything.
 
 use crate::tally::Tally;
-use crate::{compare_cases, compare_check, compare_count, compare_cuecount, compare_reach, compare_usage};
+use crate::{compare_cases, compare_check, compare_count, compare_cuecount};
+use crate::{compare_patterns, compare_reach, compare_usage};
 use std::process::exit;
 
-/// Paths of the three programs, the seed, and how many seeded cases go through the first.
-pub fn compare(programs: [&str; 3], seed: u64, count: u64) {
-    match compare_all(programs, seed, count) {
+/// Paths of the three programs, the seed, how many seeded cases go through the first, and patterns that are
+/// asked of it besides.
+pub fn compare(programs: [&str; 3], seed: u64, count: u64, patterns: &[Vec<u8>]) {
+    match compare_all(programs, seed, count, patterns) {
         Ok(passed) => println!("{passed} passed, 0 failed"),
         Err(difference) => {
             println!("difference\n{difference}");
@@ -15,13 +17,21 @@ pub fn compare(programs: [&str; 3], seed: u64, count: u64) {
     }
 }
 
-fn compare_all([cases, cuecount, command]: [&str; 3], seed: u64, count: u64) -> Result<usize, String> {
+fn compare_all(
+    [cases, cuecount, command]: [&str; 3],
+    seed: u64,
+    count: u64,
+    patterns: &[Vec<u8>],
+) -> Result<usize, String> {
     let mut passed = 0;
     let mut done = |group: &str, tally: Tally| {
         tally.print(group);
         passed += tally.total;
     };
     done("streams of cases", compare_cases::compare(cases, seed, count)?);
+    if !patterns.is_empty() {
+        done("patterns of the file", compare_patterns::compare(cases, seed, patterns)?);
+    }
     done("runs of cuecount", compare_cuecount::compare(cuecount, seed)?);
     done("runs of count", compare_count::compare(command, seed)?);
     done("runs of check", compare_check::compare(command, seed)?);

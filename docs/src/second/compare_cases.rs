@@ -1,27 +1,15 @@
 //! Streams of cases through the program that answers them.
 
 use crate::answer::answer;
-use crate::case::Case;
-use crate::child;
-use crate::describe::describe;
+use crate::batch::{difference, Batch};
 use crate::fixed;
 use crate::make;
 use crate::make_large::large_cases;
+use crate::make_share::with_share;
 use crate::tally::Tally;
 
-/// So long is a stream at most.
-const MOST_BYTES: usize = 327_680;
-
-/// Cases waiting to be sent, with this program's answers.
-struct Batch<'a> {
-    program: &'a str,
-    stream: Vec<u8>,
-    cases: Vec<(Case, String)>,
-    tally: Tally,
-}
-
 pub fn compare(program: &str, seed: u64, count: u64) -> Result<Tally, String> {
-    let mut batch = Batch { program, stream: Vec::new(), cases: Vec::new(), tally: Tally::default() };
+    let mut batch = Batch::new(program);
     for fixed in fixed::all() {
         let own = answer(&fixed.case);
         if !fixed.agrees(&own) {
@@ -30,71 +18,8 @@ pub fn compare(program: &str, seed: u64, count: u64) -> Result<Tally, String> {
         batch.add(fixed.case, own)?;
     }
     batch.send()?;
-    for case in large_cases(seed).into_iter().chain(make::cases(seed, count)) {
-        let own = answer(&case);
-        batch.add(case, own)?;
+    for case in large_cases(seed).into_iter().chain(make::cases(seed, with_share(count))) {
+        batch.ask(case)?;
     }
-    batch.send()?;
-    Ok(batch.tally)
-}
-
-fn difference(case: &Case, own: &str, other: &str) -> String {
-    format!("{}\nsecond: {own}\nother: {other}", describe(case))
-}
-
-impl Batch<'_> {
-    fn add(&mut self, case: Case, own: String) -> Result<(), String> {
-        let bytes = case.bytes();
-        if self.stream.len() + bytes.len() > MOST_BYTES {
-            self.send()?;
-        }
-        self.stream.extend_from_slice(&bytes);
-        self.cases.push((case, own));
-        Ok(())
-    }
-
-    fn send(&mut self) -> Result<(), String> {
-        let stream = std::mem::take(&mut self.stream);
-        let cases = std::mem::take(&mut self.cases);
-        if cases.is_empty() {
-            return Ok(());
-        }
-        let failed = |message| self.blame(&cases, message);
-        let outcome = child::run(self.program, &[], vec![stream]).map_err(failed)?;
-        let text = String::from_utf8_lossy(&outcome.output).into_owned();
-        let lines: Vec<&str> = text.split_terminator('\n').collect();
-        for (number, (case, own)) in cases.iter().enumerate() {
-            match lines.get(number) {
-                Some(line) if line == own => {}
-                Some(line) => return Err(difference(case, own, line)),
-                None => return Err(self.blame(&cases[number..], String::from("(no answer line)"))),
-            }
-        }
-        if lines.len() > cases.len() || !outcome.status.success() {
-            let extra = lines.len() - cases.len();
-            let status = outcome.status;
-            return Err(self.blame(&cases, format!("({extra} lines too many; {status})")));
-        }
-        for (case, own) in &cases {
-            self.tally.add(&char::from(case.kind()).to_string(), own);
-        }
-        Ok(())
-    }
-
-    /// A stream failed as a whole: asks the cases one by one, to show the first that fails alone.
-    fn blame(&self, cases: &[(Case, String)], message: String) -> String {
-        for (case, own) in cases {
-            let alone = child::run(self.program, &[], vec![case.bytes()]);
-            let other = match alone {
-                Err(message) => message,
-                Ok(outcome) if outcome.status.success() => outcome.only_line(),
-                Ok(outcome) => format!("{} ({})", outcome.only_line(), outcome.status),
-            };
-            if &other != own {
-                return difference(case, own, &other);
-            }
-        }
-        let (case, own) = &cases[0];
-        difference(case, own, &format!("{message}, only in a stream of many cases"))
-    }
+    batch.finish()
 }

@@ -4,11 +4,15 @@
 use crate::case::Case;
 use crate::fixed_again::again;
 use crate::fixed_books::counts;
+use crate::fixed_ends::ends;
+use crate::fixed_fronts::fronts;
 use crate::fixed_letters::letters;
 use crate::fixed_letters_books::letters_in_books;
 use crate::fixed_lines::{BRACKETS, EXPRESSIONS, PAPER};
 use crate::fixed_parts::parts;
+use crate::fixed_rows::rows;
 use crate::fixed_runs::runs;
+use crate::fixed_whole::wholes;
 use crate::letters::Letters;
 use crate::question::Question;
 
@@ -40,11 +44,13 @@ impl Fixed {
     }
 }
 
-/// Document 01's cases, the same with case ignored, and those made for the choice of case.
+/// Document 01's cases, the same with case ignored, those made for the choice of case, and those about where
+/// brackets begin and end.
 pub fn all() -> Vec<Fixed> {
     let mut fixed = of_document_01();
     fixed.extend(again(&of_document_01()));
     fixed.extend(for_the_choice());
+    fixed.extend(of_brackets());
     fixed
 }
 
@@ -52,6 +58,7 @@ pub fn all() -> Vec<Fixed> {
 pub fn once() -> Vec<Fixed> {
     let mut fixed = of_document_01();
     fixed.extend(for_the_choice());
+    fixed.extend(of_brackets());
     fixed
 }
 
@@ -69,5 +76,13 @@ fn of_document_01() -> Vec<Fixed> {
 fn for_the_choice() -> Vec<Fixed> {
     let mut fixed = letters();
     fixed.extend(letters_in_books());
+    fixed
+}
+
+pub fn of_brackets() -> Vec<Fixed> {
+    let mut fixed = rows();
+    fixed.extend(fronts());
+    fixed.extend(ends());
+    fixed.extend(wholes());
     fixed
 }

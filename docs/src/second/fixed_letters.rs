@@ -1,7 +1,7 @@
 //! Fixed lines and sets for the choice of case (document 02, S-1), each stated for both choices.
 
 use crate::fixed::Fixed;
-use crate::fixed_runs::every_key;
+use crate::fixed_sets::{exactly, names, turned, Named, Ranges};
 use crate::letters::{Letters, BOTH};
 use crate::parser::MARKS;
 
@@ -143,11 +143,7 @@ const REFUSED: &[Row] = &[
     ("AaAaAaAaAaAaAaAaAaAaAaAaAaAaAa(", "aaaaaaaaaaaaaaaaaaaaaaaaaaaaaa", BAD, BAD),
 ];
 
-/// From a key to a key, both included.
-type Ranges = &'static [(u8, u8)];
-
-/// An atom, the keys it has by document 01, and those that come to it with case ignored.
-const SETS: &[(&[u8], Ranges, Ranges)] = &[
+const SETS: &[Named] = &[
     (b"k", &[(107, 107)], &[(75, 75)]),
     (b"K", &[(75, 75)], &[(107, 107)]),
     (b"A", &[(65, 65)], &[(97, 97)]),
@@ -212,8 +208,8 @@ pub fn letters() -> Vec<Fixed> {
         fixed.push(Fixed::line(Letters::Apart, pattern.as_bytes(), line.as_bytes(), apart));
         fixed.push(Fixed::line(Letters::Alike, pattern.as_bytes(), line.as_bytes(), alike));
     }
-    for &(atom, apart, more) in SETS {
-        fixed.extend(one_set(atom, apart, more));
+    for named in SETS {
+        fixed.extend(one_set(named));
     }
     fixed.extend(marks());
     fixed.extend(far_keys());
@@ -221,30 +217,16 @@ pub fn letters() -> Vec<Fixed> {
 }
 
 /// The atom under both choices, and if it is a bracket, the same with `^`.
-fn one_set(atom: &[u8], apart: Ranges, more: Ranges) -> Vec<Fixed> {
+fn one_set(named: &Named) -> Vec<Fixed> {
+    let atom = named.0;
     let mut fixed = Vec::new();
     for letters in BOTH {
-        let alike = letters == Letters::Alike;
-        let named = |key: u8| holds(apart, key) || alike && holds(more, key);
-        fixed.extend(exactly(letters, atom, named));
+        fixed.extend(exactly(letters, atom, b"", |key| names(named, letters, key)));
         if atom[0] == b'[' {
-            let turned = [b"[^", &atom[1..]].concat();
-            fixed.extend(exactly(letters, &turned, |key| !named(key)));
+            fixed.extend(exactly(letters, &turned(atom), b"", |key| !names(named, letters, key)));
         }
     }
     fixed
-}
-
-fn holds(ranges: Ranges, key: u8) -> bool {
-    ranges.iter().any(|&(low, high)| low <= key && key <= high)
-}
-
-/// An atom has so many keys of all, and as many of those that it should have: so it has these and no others.
-fn exactly(letters: Letters, atom: &[u8], wanted: impl Fn(u8) -> bool) -> [Fixed; 2] {
-    let all = every_key();
-    let those: Vec<u8> = all.chunks(2).filter(|line| wanted(line[0])).flatten().copied().collect();
-    let stated = format!("lines {}", those.len() / 2);
-    [Fixed::run(letters, atom, &all, &stated), Fixed::run(letters, atom, &those, &stated)]
 }
 
 /// An escaped mark stands for itself alone.
@@ -252,7 +234,7 @@ fn marks() -> Vec<Fixed> {
     let mut fixed = Vec::new();
     for letters in BOTH {
         for &mark in MARKS {
-            fixed.extend(exactly(letters, &[b'\\', mark], |key| key == mark));
+            fixed.extend(exactly(letters, &[b'\\', mark], b"", |key| key == mark));
         }
     }
     fixed

@@ -60,7 +60,7 @@ fn run_of(pattern: &[u8], run: &[u8], stated: &str) -> Fixed {
 }
 
 /// One line for each key but LF.
-pub fn every_key() -> Vec<u8> {
+fn every_key() -> Vec<u8> {
     (1..=255u8).filter(|&key| key != 10).flat_map(|key| [key, 10]).collect()
 }
 

@@ -1,8 +1,9 @@
-//! A second program for document 01 and S-1 of document 02, written apart from the first, to test it with.
-//! It works everything out by the definitions and prefers plainness to speed.
+//! A second program for document 01, and S-1 and S-2 of document 02, written apart from the first, to test
+//! it with. It works everything out by the definitions and prefers plainness to speed.
 
 mod answer;
 mod asked;
+mod batch;
 mod book;
 mod book_file;
 mod bracket;
@@ -16,6 +17,7 @@ mod compare_cases;
 mod compare_check;
 mod compare_count;
 mod compare_cuecount;
+mod compare_patterns;
 mod compare_reach;
 mod compare_usage;
 mod count;
@@ -27,11 +29,16 @@ mod expected;
 mod fixed;
 mod fixed_again;
 mod fixed_books;
+mod fixed_ends;
+mod fixed_fronts;
 mod fixed_letters;
 mod fixed_letters_books;
 mod fixed_lines;
 mod fixed_parts;
+mod fixed_rows;
 mod fixed_runs;
+mod fixed_sets;
+mod fixed_whole;
 mod form;
 mod hash;
 mod letters;
@@ -40,6 +47,7 @@ mod make_book;
 mod make_bracket;
 mod make_damage;
 mod make_deep;
+mod make_ends;
 mod make_large;
 mod make_letters;
 mod make_line;
@@ -47,6 +55,8 @@ mod make_long;
 mod make_pattern;
 mod make_question;
 mod make_report;
+mod make_rows;
+mod make_share;
 mod make_tree;
 mod meaning;
 mod operations;
@@ -55,9 +65,12 @@ mod question;
 mod refusal;
 mod report;
 mod rng;
+mod scan;
 mod selftest;
+mod selftest_brackets;
 mod selftest_command;
 mod selftest_letters;
+mod selftest_patterns;
 mod states;
 mod summary;
 mod tally;
@@ -69,7 +82,7 @@ use std::process::exit;
 
 const USAGE: &str = "second answer < cases > answers
 second make SEED COUNT > cases
-second compare CASES CUECOUNT RAKVINJE SEED N
+second compare CASES CUECOUNT RAKVINJE SEED N [PATTERNS]
 second selftest";
 
 fn main() {
@@ -79,7 +92,10 @@ fn main() {
         ["answer"] => answer_stream(),
         ["make", seed, count] => make_stream(seed, count),
         ["compare", cases, cuecount, command, seed, cases_wanted] => {
-            compare_programs([cases, cuecount, command], seed, cases_wanted)
+            compare_programs([cases, cuecount, command], seed, cases_wanted, None)
+        }
+        ["compare", cases, cuecount, command, seed, cases_wanted, patterns] => {
+            compare_programs([cases, cuecount, command], seed, cases_wanted, Some(patterns))
         }
         ["selftest"] => test_itself(),
         _ => Err(String::from(USAGE)),
@@ -115,8 +131,15 @@ fn make_stream(seed: &str, count: &str) -> Result<(), String> {
     io::stdout().write_all(&stream).map_err(|error| error.to_string())
 }
 
-fn compare_programs(programs: [&str; 3], seed: &str, count: &str) -> Result<(), String> {
-    compare::compare(programs, number(seed)?, number(count)?);
+/// A file of patterns that is named must have some.
+fn compare_programs(
+    programs: [&str; 3],
+    seed: &str,
+    count: &str,
+    patterns: Option<&str>,
+) -> Result<(), String> {
+    let patterns = patterns.map_or(Ok(Vec::new()), compare_patterns::read)?;
+    compare::compare(programs, number(seed)?, number(count)?, &patterns);
     Ok(())
 }
 

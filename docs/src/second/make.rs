@@ -9,18 +9,25 @@ use crate::make_letters::mix_book;
 use crate::make_line;
 use crate::make_question::question;
 use crate::make_report::pair;
+use crate::make_share;
 use crate::question::Question;
 use crate::rng::Rng;
 
 pub fn cases(seed: u64, count: u64) -> impl Iterator<Item = Case> {
-    (0..count).map(move |number| case(&mut Rng::for_case(seed, number)))
+    (0..count).map(move |number| match make_share::place(number) {
+        (true, _) => make_share::case(&mut Rng::for_case(seed ^ 0xB2AC, number)),
+        (false, place) => case(&mut Rng::for_case(seed, place)),
+    })
 }
 
 fn case(rng: &mut Rng) -> Case {
     match rng.below(100) {
         0..=29 => line_case(rng),
         30..=44 => run_case(rng),
-        45..=71 => count_case(rng),
+        45..=71 => {
+            let question = question(rng, 75);
+            count_case(rng, question)
+        }
         72..=78 => Case::Sound { book: some_book(rng) },
         79..=84 => body_case(rng),
         85..=90 => reach_case(rng),
@@ -49,8 +56,7 @@ fn run_case(rng: &mut Rng) -> Case {
     Case::Run { question, run }
 }
 
-fn count_case(rng: &mut Rng) -> Case {
-    let question = question(rng, 75);
+pub fn count_case(rng: &mut Rng, question: Question) -> Case {
     let macros = macros_for(rng, &question);
     let number = number_near(rng, macros.len());
     let words = words_near(rng, number, &question);

@@ -23,8 +23,10 @@ use crate::parser::{self, MOST_ATOMS};
 use crate::question::Question;
 use crate::report::join;
 use crate::rng::Rng;
+use crate::selftest_brackets;
 use crate::selftest_command;
 use crate::selftest_letters;
+use crate::selftest_patterns;
 use crate::states::{States, LINE_START};
 use crate::written;
 use std::collections::BTreeSet;
@@ -57,6 +59,8 @@ pub fn selftest() -> bool {
     stated(&mut checks);
     streams(&mut checks);
     selftest_command::all(&mut checks);
+    selftest_brackets::all(&mut checks);
+    selftest_patterns::all(&mut checks);
     for number in 0..2000 {
         let mut rng = Rng::for_case(0x5E1F, number);
         let letters = BOTH[number as usize % 2];

@@ -69,7 +69,7 @@ fn negated(atom: &Atom) -> bool {
     atom.text.starts_with(b"[^")
 }
 
-fn atoms(pattern: &Pattern) -> Vec<&Atom> {
+pub fn atoms(pattern: &Pattern) -> Vec<&Atom> {
     pattern.branches.iter().flat_map(|branch| atoms_of(&branch.pieces)).collect()
 }
 
