@@ -136,7 +136,7 @@ done
 cp "$room/second" target/second
 beside selftest target/second selftest
 single "the second program answers the fixed cases alike" second_agrees
-counted "$(stated 'comparisons with the second program')" target/second compare target/bin/cases target/bin/cuecount ./rakvinje 1 6000
+counted "$(stated 'comparisons with the second program')" target/second compare target/bin/cases target/bin/cuecount ./rakvinje 1 6000 crates/pattern_cases/stdin
 single "the second program passes its own test" gather selftest
 counted_beside "$(stated 'runs of the command')" command
 finish

@@ -1,7 +1,7 @@
 -- Answers of the reader: the place and the table that belong to what was parsed.
 use Prim.Native.Nat.{ℕ, _≤_, _-_}
 use native.Mathlib.Omega.{arith}
-use mathlib.Core.Path.{_≡_, ap}
+use mathlib.Core.Path.{_≡_}
 use mathlib.Core.List.{List}
 use lib.ListN.{length, drop, length-drop}
 use Rattle.letters.specs.declared.Case.{Case}
@@ -9,7 +9,7 @@ use Rattle.brackets.specs.declared.atom.AtomRead.{AtomRead}
 use Rattle.brackets.specs.declared.atom.AtomRead.the-variants.{At, Fault}
 use Rattle.brackets.specs.Form.{Atom}
 use Rattle.brackets.specs.Brackets.{Parsed, parsed, fault}
-use Rattle.brackets.specs.Answers.{placeBehind, keysBehind}
+use Rattle.brackets.specs.Answers.{cursorAt, placeBehind, keysBehind}
 
 module _ (o : Parsed Atom) where
   -- a fault leaves the table
@@ -28,8 +28,8 @@ module _ (o : Parsed Atom) where
     same-table case states before after f = rw e f
 
 -- what was read ends before place q
-pub behind-place : (a : Atom) (s : List ℕ) (q : ℕ) → q ≤ length s → At q ≡ placeBehind (length s) (parsed a (drop q s))
-behind-place a s q h = ap At place
+pub behind-place : (a : Atom) (s : List ℕ) (q : ℕ) → q ≤ length s → At (cursorAt q) ≡ placeBehind (length s) (parsed a (drop q s))
+behind-place a s q h = rw (← place)
   where
     place : q ≡ length s - length (drop q s)
     place = rw length-drop (omega arith)

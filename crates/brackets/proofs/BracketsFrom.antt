@@ -10,14 +10,12 @@ use lib.Dec.{leb, eqb}
 use lib.ListN.{length, take, drop, take-append-drop}
 use borrow.Author.Tests.{lt-ltb, eqb-true, leb-true, not-true}
 use Rattle.brackets.specs.Form.{Element, byte, range, class, Atom, bracket, className, writeElement, writeElements, writeAtom, opening, endsOpen, formedElement, formedElements, plainStart, formedAtom}
-use Rattle.brackets.specs.Brackets.{Parsed, parsed, fault, at, sameBytes, findClass, startsRange, classFound, readClass, readRange, readByte, readElement, readElements, readBracket}
+use Rattle.brackets.specs.Brackets.{Parsed, parsed, fault, at, sameBytes, findClass, startsRange, classFound, readClass, readRange, readByte, readElement, readElements, bracketOf, readBracket}
 use Rattle.brackets.proofs.Parses.{same-parsed, one-parsed, test-parsed, untest-parsed, made-parsed, more-parsed, front}
 use Rattle.runs.specs.Keys.{member, isLine}
 use Rattle.runs.proofs.Tests.{clash, torn, and-parts}
 use Rattle.runs.proofs.KeyLaws.{line-after, line-drop, key-is, line-first}
 use Rattle.brackets.proofs.Classes.{found-class}
-use Rattle.brackets.proofs.Bracketed.{bracketFrom, bracket-by-start}
-use Rattle.brackets.specs.Promises.{elementsFrom}
 
 -- Classes.
 
@@ -234,10 +232,10 @@ plain-start l rest (e ∷ es) t h =
 
 -- a bracket that was read is what the bytes begin with, and of the form
 pub bracket-from : (l rest : List ℕ) (a : Atom) → isLine l ≡ true → readBracket l ≡ parsed a rest → (91 ∷ l ≡ writeAtom a ++ rest) × (formedAtom a ≡ true)
-unfolding bracketFrom elementsFrom writeAtom formedAtom
-bracket-from l rest a h p = go (eqb (at 0 l) 94) refl (rw (bracket-by-start l) at p)
+unfolding readBracket writeAtom formedAtom
+bracket-from l rest a h p = go (eqb (at 0 l) 94) refl p
   where
-    go : (t : Bool) → eqb (at 0 l) 94 ≡ t → bracketFrom t l ≡ parsed a rest → (91 ∷ l ≡ writeAtom a ++ rest) × (formedAtom a ≡ true)
+    go : (t : Bool) → eqb (at 0 l) 94 ≡ t → cond t (bracketOf (length l) true (drop 1 l)) (bracketOf (length l) false l) ≡ parsed a rest → (91 ∷ l ≡ writeAtom a ++ rest) × (formedAtom a ≡ true)
     go true t q =
         let (es, same, elements) = made-parsed (readElements (length l) true (drop 1 l)) (λ es. bracket true es) a rest q in
         let begins : l ≡ 94 ∷ drop 1 l = front l 94 (omega arith) t in

@@ -1,5 +1,5 @@
 -- The table of the twelve classes, and the tests that all of them pass: each is one computation over the table.
-use Prim.Native.Nat.{ℕ, zero, suc, _+_, _<_}
+use Prim.Native.Nat.{ℕ, zero, suc, _+_, _<_, _≤_}
 use native.Mathlib.Omega.{arith}
 use native.Mathlib.Nat.{not-suc-le-zero, add-zero, zero-add}
 use mathlib.Core.Path.{_≡_, refl, sym, ap, _∙_}
@@ -42,6 +42,9 @@ names-short : each 12 0 (λ c. leb (length (className c)) 6) ≡ each 12 0 (λ c
 unfolding each classNames
 names-short = refl
 
+pub name-short : (c : ℕ) → c < 12 → length (className c) ≤ 6
+name-short c h = leb-true _ _ (each-same 12 c (λ c. leb (length (className c)) 6) (λ c. true) names-short h)
+
 ranges-few : each 12 0 (λ c. leb (length (rangesOf c)) 4) ≡ each 12 0 (λ c. true)
 unfolding each classRanges
 ranges-few = refl
@@ -52,7 +55,7 @@ unfolding classRow
 row-of c d h =
     rw (each-at 12 c classRow d h) (record {
       same = refl;
-      short = leb-true _ _ (each-same 12 c (λ c. leb (length (className c)) 6) (λ c. true) names-short h);
+      short = name-short c h;
       few = leb-true _ _ (each-same 12 c (λ c. leb (length (rangesOf c)) 4) (λ c. true) ranges-few h);
     })
 

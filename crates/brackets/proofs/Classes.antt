@@ -13,8 +13,10 @@ use lib.Seq.{drop-cons}
 use borrow.Author.Tests.{ltb-true, ltb-false, eq-eqb, ne-eqb}
 use Rattle.brackets.specs.declared.class.Class.{Class}
 use Rattle.brackets.specs.declared.class.ClassRead.the-variants.{Found, Unknown}
+use Rattle.brackets.specs.declared.cursor.AtomCursor.{AtomCursor}
 use Rattle.brackets.specs.Form.{className}
 use Rattle.brackets.specs.Brackets.{sameBytes, isClass, findClass}
+use Rattle.brackets.specs.Answers.{cursorAt}
 use Rattle.brackets.specs.Promises.{padded, classRow, RowOf, classShown}
 use Rattle.brackets.proofs.ClassTables.{name-clean}
 use Rattle.runs.proofs.Tests.{clash}
@@ -45,7 +47,7 @@ begins-cons b t s p z = go (ltb p (length s)) refl
         let g : length s ≤ p = ltb-false p (length s) h in
         rw (drop-of-length-le s g, List·getD-eq-default s 0 g, ne-eqb 0 b (λ e. z (sym e)))
 
-pub row-size : (c : ℕ) (row : Class) → RowOf c row → row .length ≡ length (className c)
+row-size : (c : ℕ) (row : Class) → RowOf c row → row .length ≡ length (className c)
 unfolding classRow
 row-size c row is = rw (is .same)
 
@@ -104,19 +106,21 @@ module _ (s : List ℕ) (at c : ℕ) where
           marks : begins (nameFrom c j) (drop (at + j) s) ≡ eqb (getD s (at + j) 0) 58 && eqb (getD s (at + j + 1) 0) 93
           marks = rw (none-left, begins-cons 58 (93 ∷ []) s (at + j) (omega arith), begins-cons 93 [] s (at + j + 1) (omega arith), and-true)
 
--- the search
-module _ (l : List ℕ) (c : ℕ) (inv : findClass (12 - c) c l ≡ findClass 12 0 l) where
-  pub find-end : 12 ≤ c → Unknown ≡ classShown (findClass 12 0 l)
+-- the search, at place p
+module _ (p : ℕ) (l : List ℕ) (c : ℕ) (inv : findClass (12 - c) c l ≡ findClass 12 0 l) where
+  pub find-end : 12 ≤ c → Unknown ≡ classShown p (findClass 12 0 l)
   unfolding findClass
-  find-end h = let g : 12 - c ≡ 0 = omega arith in ap classShown (rw g at inv)
+  find-end h = let g : 12 - c ≡ 0 = omega arith in ap (classShown p) (rw g at inv)
 
   module _ (low : c < 12) (r : Bool) (e : r ≡ isClass c l) where
     less : 12 - c ≡ suc (12 - (c + 1))
     less = omega arith
 
-    pub find-found : r ≡ true → Found c ≡ classShown (findClass 12 0 l)
+    pub find-found : r ≡ true → (row : Class) → RowOf c row → (d : AtomCursor) → d ≡ cursorAt (p + (row .length + 2)) → Found c d ≡ classShown p (findClass 12 0 l)
     unfolding findClass
-    find-found h = ap classShown (rw (less, sym e ∙ h) at inv)
+    find-found h row is d k =
+        let same : findClass 12 0 l ≡ some c = sym (rw (less, sym e ∙ h) at inv) in
+        rw (same, ← row-size c row is) (ap (Found c) k)
 
     pub find-on : r ≡ false → findClass (12 - (c + 1)) (c + 1) l ≡ findClass 12 0 l
     unfolding findClass

@@ -7,11 +7,11 @@ pub mod Bracketed
 pub mod Bytes
 pub mod ClassTables
 pub mod Classes
-pub mod Copies
 pub mod Elements
 pub mod Entries
 pub mod Parses
 pub mod Ranges
+pub mod SameBracket
 pub mod SetLaws
 pub mod Shorter
 pub mod Stored

@@ -1,5 +1,5 @@
--- What is left behind a bracket is no longer than what it was read from.
-use Prim.Native.Nat.{ℕ, zero, suc, _≤_}
+-- What is left behind an element is shorter than what it was read from, and behind a bracket no longer.
+use Prim.Native.Nat.{ℕ, zero, suc, _-_, _<_, _≤_}
 use native.Mathlib.Omega.{arith}
 use mathlib.Core.Path.{_≡_, refl}
 use mathlib.Core.Bool.{Bool, true, false, not, _&&_, cond}
@@ -30,14 +30,21 @@ module _ {A : Type 0} {n : ℕ} where
   more l refused = refused
 
 -- some bytes fewer
-dropped : (k : ℕ) (l : List ℕ) → length (drop k l) ≤ length l
+pub dropped : (k : ℕ) (l : List ℕ) → length (drop k l) ≤ length l
 dropped k l = rw length-drop (omega arith)
+
+-- an element has a byte or more
+pub element-fewer : (first : Bool) (l : List ℕ) (e : Element) (rest : List ℕ) → readElement first l ≡ parsed e rest → length rest ≤ length l - 1
+element-fewer first l e rest h =
+    let t = element-taken l first e rest h in
+    let some : 0 < length (writeElement e) = t .some-bytes in
+    rw (t .left, length-drop) (omega arith)
 
 element-shorter : (first : Bool) (l : List ℕ) → Shorter (length l) (readElement first l)
 element-shorter first l = go (readElement first l) refl
   where
     go : (r : Parsed Element) → readElement first l ≡ r → Shorter (length l) r
-    go (parsed e rest) h = read {rest = rest} (rw (element-taken l first e rest h .left) (dropped (length (writeElement e)) l))
+    go (parsed e rest) h = let left : length rest ≤ length l - 1 = element-fewer first l e rest h in read {rest = rest} (omega arith)
     go fault h = refused
 
 elements-shorter : (f : ℕ) (first : Bool) (l : List ℕ) → Shorter (length l) (readElements f first l)

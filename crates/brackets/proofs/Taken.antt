@@ -1,18 +1,20 @@
 -- What the reading of an element takes from the bytes, and what its answer shows.
-use Prim.Native.Nat.{ℕ, _+_, _-_, _<_}
+use Prim.Native.Nat.{ℕ, zero, suc, _+_, _-_, _<_}
 use native.Mathlib.Omega.{arith}
 use mathlib.Core.Path.{_≡_, refl, sym, ap, _∙_}
-use mathlib.Core.Bool.{Bool, true, false, not, _&&_, _||_, cond}
+use mathlib.Core.Bool.{Bool, true, false, not, _&&_, _||_, cond, and-false}
 use mathlib.Core.List.{List, [], _∷_}
 use mathlib.Core.Option.{Option, none, some}
 use lib.Dec.{leb, eqb}
 use lib.ListN.{length, drop, length-append}
 use lib.Seq.{drop-drop}
+use Rattle.brackets.specs.declared.cursor.AtomCursor.{AtomCursor}
 use Rattle.brackets.specs.declared.element.ElementRead.{ElementRead}
 use Rattle.brackets.specs.declared.element.ElementRead.the-variants.{Found, Fault}
 use Rattle.brackets.specs.declared.element.Element as declared
 use Rattle.brackets.specs.Form.{Element, byte, range, class, className, writeElement}
-use Rattle.brackets.specs.Brackets.{Parsed, parsed, fault, at, findClass, classFound, startsRange, readElement}
+use Rattle.brackets.specs.Brackets.{Parsed, parsed, fault, at, findClass, classFound, startsRange, readElement, readElements}
+use Rattle.brackets.specs.Answers.{cursorAt}
 use Rattle.brackets.specs.Promises.{shownElement, elementOf, elementShown, Known}
 use Rattle.brackets.proofs.Parses.{same-parsed}
 use Rattle.brackets.proofs.Classes.{found-class}
@@ -76,11 +78,11 @@ shown-back (range a b) = refl
 shown-back (class c) = refl
 
 -- the answer that an element was found, and that none was
-pub record Shown (first : Bool) (s : List ℕ) (p : ℕ) (d : declared.Element) (n : ℕ) : Type 0 where
+pub record Shown (first : Bool) (s : List ℕ) (p : ℕ) (d : declared.Element) (next : AtomCursor) : Type 0 where
   pub rest : List ℕ
   pub parse : readElement first (drop p s) ≡ parsed (elementOf d) rest
-  pub same : rest ≡ drop n s
-  pub further : p < n
+  pub same : rest ≡ drop (next .at) s
+  pub further : p < next .at
   pub known : Known (elementOf d)
 
 module _ (first : Bool) (s : List ℕ) (p : ℕ) (r : ElementRead) (e : r ≡ elementShown p (readElement first (drop p s))) where
@@ -91,26 +93,32 @@ module _ (first : Bool) (s : List ℕ) (p : ℕ) (r : ElementRead) (e : r ≡ el
       go (parsed x rest) f = clash (cc)
       go fault f = refl
 
-  module _ (d : declared.Element) (n : ℕ) (h : r ≡ Found d n) where
-    pub shown-found : Shown first s p d n
+  module _ (d : declared.Element) (next : AtomCursor) (h : r ≡ Found d next) where
+    pub shown-found : Shown first s p d next
     shown-found = go (readElement first (drop p s)) refl (sym e ∙ h)
       where
-        go : (a : Parsed Element) → readElement first (drop p s) ≡ a → elementShown p a ≡ Found d n → Shown first s p d n
+        go : (a : Parsed Element) → readElement first (drop p s) ≡ a → elementShown p a ≡ Found d next → Shown first s p d next
         go fault g f = clash (cc)
         go (parsed x rest) g f =
             let t = element-taken (drop p s) first x rest g in
-            let q : shownElement x ≡ d = cc in
-            let m : p + length (writeElement x) ≡ n = cc in
-            let b : x ≡ elementOf d = sym (shown-back x) ∙ ap elementOf q in
+            let same : shownElement x ≡ d = cc in
+            let behind : cursorAt (p + length (writeElement x)) ≡ next = cc in
+            let m : p + length (writeElement x) ≡ next .at = ap (λ (c : AtomCursor). c .at) behind in
+            let b : x ≡ elementOf d = sym (shown-back x) ∙ ap elementOf same in
             record { rest = rest; parse = g ∙ rw b; same = t .left ∙ rw (drop-drop, m); further = let h : 0 < length (writeElement x) = t .some-bytes in omega arith; known = rw b at (t .known) }
 
     pub found-known : Known (elementOf d)
     found-known = shown-found .known
 
-    pub found-less : p < length s → length s - n < length s - p
-    found-less h = let g : p < n = shown-found .further in omega arith
+    pub found-less : p < length s → length s - next .at < length s - p
+    found-less h = let g : p < next .at = shown-found .further in omega arith
 
 -- nothing can be read where nothing is
-pub none-read : (first : Bool) → readElement first [] ≡ fault
+none-read : (first : Bool) → readElement first [] ≡ fault
 unfolding readElement
 none-read first = refl
+
+pub elements-empty : (f : ℕ) (first : Bool) → readElements f first [] ≡ fault
+unfolding readElements
+elements-empty zero first = refl
+elements-empty (suc f) first = rw (and-false, none-read first)

@@ -6,13 +6,18 @@ use lib.Bits.{bitOr}
 use lib.ListN.{length}
 use Rattle.letters.specs.declared.Case.{Case}
 use Rattle.brackets.specs.declared.atom.AtomRead.{AtomRead}
+use Rattle.brackets.specs.declared.cursor.AtomCursor.{AtomCursor}
 use Rattle.brackets.specs.Form.{Atom}
 use Rattle.brackets.specs.Brackets.{Parsed, parsed, fault}
 use Rattle.brackets.specs.Sets.{setOf}
 
--- the place behind what was read from n bytes
+-- the cursor at a place
+abbrev pub cursorAt : ℕ → AtomCursor
+cursorAt p = record { at = p }
+
+-- the cursor behind what was read, in a text of n bytes
 abbrev pub placeBehind : {A : Type 0} → ℕ → Parsed A → AtomRead
-placeBehind n (parsed a rest) = AtomRead.At (n - length rest)
+placeBehind n (parsed a rest) = AtomRead.At (cursorAt (n - length rest))
 placeBehind n fault = AtomRead.Fault
 
 -- each entry of a list changed by its place, counted from i

@@ -77,34 +77,29 @@ readElement first l =
     (cond (eqb (at 0 l) 91 && member (at 1 l) (46 ∷ 61 ∷ [])) fault
     (cond (startsRange (drop 1 l)) (readRange first l) (readByte first l)))
 
--- elements up to the `]` that closes the bracket; "A `]` as first element is itself." f bounds how many there are
+-- elements up to the `]` that closes the bracket; "A `]` as first element is itself." f bounds how many they are, the `]` counted too
 unfoldable pub readElements : ℕ → Bool → Parser (List Element)
 readElements zero first l = fault
 readElements (suc f) first l =
     cond (not first && eqb (at 0 l) 93) (parsed [] (drop 1 l))
     (next (readElement first l) (λ e m. next (readElements f false m) (λ es. done (e ∷ es))))
 
--- after `[`
-unfoldable pub readBracket : Parser Atom
-readBracket l =
-    cond (eqb (at 0 l) 94) (next (readElements (length l) true (drop 1 l)) (λ es. done (bracket true es)))
-    (next (readElements (length l) true l) (λ es. done (bracket false es)))
+-- a bracket by its elements, negated or not
+abbrev pub bracketOf : ℕ → Bool → Parser Atom
+bracketOf f negated l = next (readElements f true l) (λ es. done (bracket negated es))
 
--- "Atoms: a plain byte (any but the twelve marks ..); `.` ..; `\` before one of ..; a bracket", which another parser reads
-abbrev pub readAtomBy : Parser Atom → Parser Atom
-readAtomBy bracketBy l =
+-- after `[`, with such a bound: "optional `^` for all keys but these, elements, `]`"
+abbrev pub boundedBracket : ℕ → Parser Atom
+boundedBracket f l = cond (eqb (at 0 l) 94) (bracketOf f true (drop 1 l)) (bracketOf f false l)
+
+-- after `[`; an element has a byte or more, so the bytes are bound enough, and any longer bound reads the same (`bracket-bound`)
+unfoldable pub readBracket : Parser Atom
+readBracket l = boundedBracket (length l) l
+
+-- "Atoms: a plain byte (any but the twelve marks ..); `.` ..; `\` before one of ..; a bracket"
+unfoldable pub readAtom : Parser Atom
+readAtom l =
     cond (eqb (at 0 l) 46) (parsed dot (drop 1 l))
-    (cond (eqb (at 0 l) 91) (bracketBy (drop 1 l))
+    (cond (eqb (at 0 l) 91) (readBracket (drop 1 l))
     (cond (eqb (at 0 l) 92) (cond (member (at 1 l) marks) (parsed (escaped (at 1 l)) (drop 2 l)) fault)
     (cond (eqb (at 0 l) 0 || member (at 0 l) marks) fault (parsed (plain (at 0 l)) (drop 1 l)))))
-
-unfoldable pub readAtom : Parser Atom
-readAtom l = readAtomBy readBracket l
-
--- "In the first release a bracket is copied to a buffer of 128 bytes": in a text of n bytes, over 128, it is a fault
-unfoldable pub bracketWithin : ℕ → Parser Atom
-bracketWithin n l = cond (leb n 128) (readBracket l) fault
-
--- the atom at a place of a text
-unfoldable pub atomAt : List ℕ → ℕ → Parsed Atom
-atomAt s p = readAtomBy (bracketWithin (length s)) (drop p s)

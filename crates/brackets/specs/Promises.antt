@@ -14,7 +14,7 @@ use Rattle.brackets.specs.declared.element.ElementRead.{ElementRead}
 use Rattle.brackets.specs.Form.{Element, byte, range, class, className, writeElement}
 use Rattle.brackets.specs.Brackets.{Parsed, parsed, fault, readElements}
 use Rattle.brackets.specs.Sets.{Range, classRanges, inElement, inElements}
-use Rattle.brackets.specs.Answers.{mapWith}
+use Rattle.brackets.specs.Answers.{cursorAt, mapWith}
 use Rattle.letters.specs.declared.Case.{Case}
 use Rattle.letters.specs.Letters.{folded}
 use Rattle.runs.specs.Keys.{lineKey}
@@ -57,10 +57,10 @@ pub record RowOf (c : ℕ) (row : Class) : Type 0 where
   pub short : row .length ≤ 6
   pub few : row .count ≤ 4
 
--- the answer of the search for a class
-abbrev pub classShown : Option ℕ → ClassRead
-classShown (some c) = ClassRead.Found c
-classShown none = ClassRead.Unknown
+-- the answer of the search for a class, whose name is read at a place
+abbrev pub classShown : ℕ → Option ℕ → ClassRead
+classShown at (some c) = ClassRead.Found c (cursorAt (at + (length (className c) + 2)))
+classShown at none = ClassRead.Unknown
 
 -- an element as the code has it
 abbrev pub shownElement : Element → declared.Element
@@ -76,7 +76,7 @@ elementOf (declared.Element.Class c) = class c
 
 -- the answer of the reading of an element at a place
 abbrev pub elementShown : ℕ → Parsed Element → ElementRead
-elementShown at (parsed e rest) = ElementRead.Found (shownElement e) (at + length (writeElement e))
+elementShown at (parsed e rest) = ElementRead.Found (shownElement e) (cursorAt (at + length (writeElement e)))
 elementShown at fault = ElementRead.Fault
 
 -- a class is one of the twelve
@@ -91,5 +91,5 @@ elementsFrom start l = readElements (length l) true (drop start l)
 
 -- the reading of a bracket's elements from n bytes: the set before and after, and the answer
 unfoldable pub ElementsDone : ℕ → Parsed (List Element) → List Bool → List Bool → AtomRead → Type 0
-ElementsDone n (parsed es rest) before after r = (r ≡ AtomRead.At (n - length rest)) × (after ≡ mapWith (withElements es) 0 before)
+ElementsDone n (parsed es rest) before after r = (r ≡ AtomRead.At (cursorAt (n - length rest))) × (after ≡ mapWith (withElements es) 0 before)
 ElementsDone n fault before after r = r ≡ AtomRead.Fault

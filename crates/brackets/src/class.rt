@@ -1,4 +1,5 @@
 // The twelve classes of a bracket, and the search for one (document 01, "Patterns").
+use crate::cursor::AtomCursor;
 use crate::look::peek;
 ghost use mathlib.Core.Path.{_≡_};
 ghost use Prim.Native.Nat.{_+_, _<_, _≤_};
@@ -10,7 +11,7 @@ ghost use Rattle.brackets.specs.Promises.{RowOf, classShown};
 // 0 fills the arrays.
 pub(crate) struct Class {
     name: [u8; 6],
-    pub(crate) length: usize,
+    length: usize,
     pub(crate) first: [u8; 4],
     pub(crate) last: [u8; 4],
     pub(crate) count: usize,
@@ -104,9 +105,9 @@ const CLASSES: [Class; 12] = [
     },
 ];
 
-// A class's place in the table.
+// A class's place in the table and the cursor behind its `:]`.
 pub(crate) enum ClassRead {
-    Found(u8),
+    Found(u8, AtomCursor),
     Unknown,
 }
 
@@ -118,34 +119,37 @@ pub(crate) fn class_at(c: u8) -> Class
     CLASSES[c as usize]
 }
 
-// Whether a class's name and `:]` stand at a place.
-fn is_class(s: &[u8], at: usize, c: u8) -> bool
-    requires { ⌜ (at ≤ length (now s) + 2) × (c < 12) ⌝ }
-    ensures { λ r. ⌜ r ≡ isClass c (drop at (now (s .entry))) ⌝ }
-{
-    let class = class_at(c);
-    let n = class.length;
-    let mut j = 0;
-    while j < n {
-        if peek(s, at + j) != class.name[j] {
-            return false;
+impl AtomCursor {
+    // Whether a class's name and `:]` stand at the cursor.
+    fn is_class(self, s: &[u8], c: u8) -> bool
+        requires { ⌜ (self .at ≤ length (now s) + 2) × (c < 12) ⌝ }
+        ensures { λ r. ⌜ r ≡ isClass c (drop (self .at) (now (s .entry))) ⌝ }
+    {
+        let class = class_at(c);
+        let n = class.length;
+        let mut j = 0;
+        while j < n {
+            if peek(s, self.at + j) != class.name[j] {
+                return false;
+            }
+            j += 1;
         }
-        j += 1;
+        (peek(s, self.at + n) == b':') & (peek(s, self.at + n + 1) == b']')
     }
-    (peek(s, at + n) == b':') & (peek(s, at + n + 1) == b']')
-}
 
-// The class whose name and `:]` stand at a place.
-pub(crate) fn find_class(s: &[u8], at: usize) -> ClassRead
-    requires { ⌜ at ≤ length (now s) + 2 ⌝ }
-    ensures { λ r. ⌜ r ≡ classShown (findClass 12 0 (drop at (now (s .entry)))) ⌝ }
-{
-    let mut c = 0;
-    while c < 12 {
-        if is_class(s, at, c) {
-            return ClassRead::Found(c);
+    // The class whose name and `:]` stand at the cursor, and the cursor behind these.
+    pub(crate) fn find_class(self, s: &[u8]) -> ClassRead
+        requires { ⌜ self .at ≤ length (now s) + 2 ⌝ }
+        ensures { λ r. ⌜ r ≡ classShown (self .at) (findClass 12 0 (drop (self .at) (now (s .entry)))) ⌝ }
+    {
+        let mut c = 0;
+        while c < 12 {
+            if self.is_class(s, c) {
+                let class = class_at(c);
+                return ClassRead::Found(c, self.past(class.length + 2));
+            }
+            c += 1;
         }
-        c += 1;
+        ClassRead::Unknown
     }
-    ClassRead::Unknown
 }

@@ -1,7 +1,6 @@
 // One element of a bracket (document 01, "Patterns"): "one byte, a range by byte value .., or a class".
 use crate::class::ClassRead;
-use crate::class::class_at;
-use crate::class::find_class;
+use crate::cursor::AtomCursor;
 use crate::look::peek;
 ghost use mathlib.Core.Path.{_≡_};
 ghost use mathlib.Core.Bool.{_&&_};
@@ -20,9 +19,9 @@ pub(crate) enum Element {
     Class(u8),
 }
 
-// An element and the place behind it.
+// An element and the cursor behind it.
 pub(crate) enum ElementRead {
-    Found(Element, usize),
+    Found(Element, AtomCursor),
     Fault,
 }
 
@@ -33,73 +32,73 @@ fn opens(b: u8, c: u8) -> bool
     (b == b'[') & ((c == b'.') | ((c == b'=') | (c == b':')))
 }
 
-// "An element followed by `-` and then not by `]` starts a range"; `at` is the place behind the element.
-fn starts_range(s: &[u8], at: usize) -> bool
-    requires { ⌜ at ≤ length (now s) + 10 ⌝ }
-    ensures { λ r. ⌜ r ≡ startsRange (drop at (now (s .entry))) ⌝ }
-{
-    (peek(s, at) == b'-') & (peek(s, at + 1) != b']')
-}
+impl AtomCursor {
+    // "An element followed by `-` and then not by `]` starts a range". The cursor stands behind the element, which has at most ten bytes.
+    fn starts_range(self, s: &[u8]) -> bool
+        requires { ⌜ self .at ≤ length (now s) + 10 ⌝ }
+        ensures { λ r. ⌜ r ≡ startsRange (drop (self .at) (now (s .entry))) ⌝ }
+    {
+        (peek(s, self.at) == b'-') & (peek(s, self.at + 1) != b']')
+    }
 
-// A class, whose `[:` stands at a place. Refused are "a `[:` that begins none of the twelve classes and a class at
-// either end of a range".
-fn read_class(s: &[u8], at: usize) -> ElementRead
-    requires { ⌜ at ≤ length (now s) ⌝ }
-    ensures { λ r. ⌜ r ≡ elementShown at (readClass (drop (at + 2) (now (s .entry)))) ⌝ }
-{
-    match find_class(s, at + 2) {
-        ClassRead::Found(c) => {
-            let class = class_at(c);
-            let next = at + class.length + 4;
-            if starts_range(s, next) {
-                return ElementRead::Fault;
+    // A class, whose `[:` stands at the cursor. Refused are "a `[:` that begins none of the twelve classes and a class at
+    // either end of a range".
+    fn class(self, s: &[u8]) -> ElementRead
+        requires { ⌜ self .at ≤ length (now s) ⌝ }
+        ensures { λ r. ⌜ r ≡ elementShown (self .at) (readClass (drop (self .at + 2) (now (s .entry)))) ⌝ }
+    {
+        match self.past(2).find_class(s) {
+            ClassRead::Found(c, next) => {
+                if next.starts_range(s) {
+                    return ElementRead::Fault;
+                }
+                ElementRead::Found(Element::Class(c), next)
             }
-            ElementRead::Found(Element::Class(c), next)
+            ClassRead::Unknown => ElementRead::Fault,
         }
-        ClassRead::Unknown => ElementRead::Fault,
     }
-}
 
-// A range, "first not above last". A `-` may "start a range as the first element".
-fn read_range(s: &[u8], at: usize, first: bool) -> ElementRead
-    requires { ⌜ at ≤ length (now s) ⌝ }
-    ensures { λ r. ⌜ r ≡ elementShown at (readRange first (drop at (now (s .entry)))) ⌝ }
-{
-    let a = peek(s, at);
-    let b = peek(s, at + 2);
-    if (first | (a != b'-')) & ((a <= b) & !opens(b, peek(s, at + 3))) {
-        return ElementRead::Found(Element::Range(a, b), at + 3);
+    // A range, "first not above last". A `-` may "start a range as the first element".
+    fn range(self, s: &[u8], first: bool) -> ElementRead
+        requires { ⌜ self .at ≤ length (now s) ⌝ }
+        ensures { λ r. ⌜ r ≡ elementShown (self .at) (readRange first (drop (self .at) (now (s .entry)))) ⌝ }
+    {
+        let a = peek(s, self.at);
+        let b = peek(s, self.at + 2);
+        if (first | (a != b'-')) & ((a <= b) & !opens(b, peek(s, self.at + 3))) {
+            return ElementRead::Found(Element::Range(a, b), self.past(3));
+        }
+        ElementRead::Fault
     }
-    ElementRead::Fault
-}
 
-// One byte. "A `-` that begins an element must be first or last".
-fn read_byte(s: &[u8], at: usize, first: bool) -> ElementRead
-    requires { ⌜ at ≤ length (now s) ⌝ }
-    ensures { λ r. ⌜ r ≡ elementShown at (readByte first (drop at (now (s .entry)))) ⌝ }
-{
-    let a = peek(s, at);
-    if (a != 0) & (first | ((a != b'-') | (peek(s, at + 1) == b']'))) {
-        return ElementRead::Found(Element::Byte(a), at + 1);
+    // One byte. "A `-` that begins an element must be first or last".
+    fn byte(self, s: &[u8], first: bool) -> ElementRead
+        requires { ⌜ self .at ≤ length (now s) ⌝ }
+        ensures { λ r. ⌜ r ≡ elementShown (self .at) (readByte first (drop (self .at) (now (s .entry)))) ⌝ }
+    {
+        let a = peek(s, self.at);
+        if (a != 0) & (first | ((a != b'-') | (peek(s, self.at + 1) == b']'))) {
+            return ElementRead::Found(Element::Byte(a), self.past(1));
+        }
+        ElementRead::Fault
     }
-    ElementRead::Fault
-}
 
-// The element at a place, the bracket's first or a later one. In it "a `[.` and a `[=` are refused".
-pub(crate) fn read_element(s: &[u8], at: usize, first: bool) -> ElementRead
-    requires { ⌜ at < length (now s) ⌝ }
-    ensures { λ r. ⌜ r ≡ elementShown at (readElement first (drop at (now (s .entry)))) ⌝ }
-{
-    let a = peek(s, at);
-    let b = peek(s, at + 1);
-    if (a == b'[') & (b == b':') {
-        return read_class(s, at);
+    // The element at the cursor, the bracket's first or a later one. In it "a `[.` and a `[=` are refused".
+    pub(crate) fn element(self, s: &[u8], first: bool) -> ElementRead
+        requires { ⌜ self .at < length (now s) ⌝ }
+        ensures { λ r. ⌜ r ≡ elementShown (self .at) (readElement first (drop (self .at) (now (s .entry)))) ⌝ }
+    {
+        let a = peek(s, self.at);
+        let b = peek(s, self.at + 1);
+        if (a == b'[') & (b == b':') {
+            return self.class(s);
+        }
+        if (a == b'[') & ((b == b'.') | (b == b'=')) {
+            return ElementRead::Fault;
+        }
+        if self.past(1).starts_range(s) {
+            return self.range(s, first);
+        }
+        self.byte(s, first)
     }
-    if (a == b'[') & ((b == b'.') | (b == b'=')) {
-        return ElementRead::Fault;
-    }
-    if starts_range(s, at + 1) {
-        return read_range(s, at, first);
-    }
-    read_byte(s, at, first)
 }

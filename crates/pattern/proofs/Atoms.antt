@@ -11,18 +11,18 @@ use lib.ListN.{length, drop, getD, List·getD-eq-default}
 use lib.Pow.{pow-lt}
 use borrow.Author.Tests.{eq-eqb, ne-eqb, eqb-true, eqb-false, leb-true, leb-false}
 use Rattle.stateset.proofs.Sets.{word-one, word-ext, word-none}
+use Rattle.brackets.specs.declared.cursor.AtomCursor.{AtomCursor}
 use Rattle.brackets.specs.declared.atom.AtomRead.{AtomRead}
 use Rattle.brackets.specs.Form.{Atom}
-use Rattle.brackets.specs.Brackets.{Parsed, parsed, fault, readAtom, atomAt}
-use Rattle.brackets.specs.Answers.{placeBehind, keysBehind}
+use Rattle.brackets.specs.Brackets.{Parsed, parsed, fault, readAtom}
+use Rattle.brackets.specs.Answers.{cursorAt, placeBehind, keysBehind}
 use Rattle.pattern.specs.declared.cursor.Cursor.{Cursor}
 use Rattle.pattern.specs.declared.cursor.Part.{Part}
 use Rattle.pattern.specs.declared.shape.Shape.{Shape}
-use Rattle.pattern.specs.Cycle.{AtomDone, Ready, ReadsAtom}
+use Rattle.pattern.specs.Cycle.{AtomDone, ReadsAtom}
 use Rattle.pattern.specs.States.{nothing, first, last, atomState, atomWord}
 use Rattle.pattern.proofs.Tables.{keys-atom}
 use Rattle.runs.proofs.Tests.{clash}
-use Rattle.brackets.proofs.Atoms.{atom-at}
 
 -- the state of atom k as a set: one that is stored
 atom-low : (k : ℕ) → k < 29 → 2 ^ (k + 3) % 2 ^ 64 ≡ atomWord (eqb k)
@@ -67,30 +67,27 @@ stateAt c = atomWord (eqb (c .atoms))
 
 -- what the reader of brackets answers for the atom at a cursor: the place behind it, and the table of keys
 abbrev placeAt : List ℕ → Cursor → AtomRead
-placeAt s c = placeBehind (length s) (atomAt s (c .at))
+placeAt s c = placeBehind (length s) (readAtom (drop (c .at) s))
 
 abbrev keysAt : List ℕ → Cursor → ℕ → List ℕ → List ℕ
-keysAt s c set keys = keysBehind (c .case) (atomAt s (c .at)) set keys
+keysAt s c set keys = keysBehind (c .case) (readAtom (drop (c .at) s)) set keys
 
 -- the shape of an atom whose state is `set`
 abbrev oneShape : ℕ → Shape
 oneShape set = record { nothing = false; first = set; last = set }
 
 -- what the reader of an atom answers at a cursor, where `set` is the atom's state
-module _ (s keys after : List ℕ) (c : Cursor) {set : ℕ} (eset : set ≡ stateAt c) (ready : Ready s c) {w : AtomRead} (place : w ≡ placeAt s c) (table : after ≡ keysAt s c set keys) where
-  same : atomAt s (c .at) ≡ readAtom (drop (c .at) s)
-  same = atom-at s (c .at) (ready .short)
-
-  pub atom-read : (next : ℕ) (d : Cursor) → w ≡ AtomRead.At next → d ≡ record { at = next; atoms = c .atoms + 1; case = c .case } → ReadsAtom s c keys (Part.Read d (oneShape set)) after
+module _ (s keys after : List ℕ) (c : Cursor) {set : ℕ} (eset : set ≡ stateAt c) {w : AtomRead} (place : w ≡ placeAt s c) (table : after ≡ keysAt s c set keys) where
+  pub atom-read : (next : AtomCursor) (d : Cursor) → w ≡ AtomRead.At next → d ≡ record { at = next .at; atoms = c .atoms + 1; case = c .case } → ReadsAtom s c keys (Part.Read d (oneShape set)) after
   unfolding nothing first last
-  atom-read next d e g = go (readAtom (drop (c .at) s)) (rw same at place) (rw same at table)
+  atom-read next d e g = go (readAtom (drop (c .at) s)) place table
     where
       go : (p : Parsed Atom) → w ≡ placeBehind (length s) p → after ≡ keysBehind (c .case) p set keys → AtomDone (length s) c keys (Part.Read d (oneShape set)) after p
-      go (parsed a rest) h k = let there : next ≡ length s - length rest = cc in (rw (g, there, eset) refl, k ∙ rw eset (keys-atom (c .case) (c .atoms) a keys))
+      go (parsed a rest) h k = let there : next ≡ cursorAt (length s - length rest) = cc in (rw (g, there, eset) refl, k ∙ rw eset (keys-atom (c .case) (c .atoms) a keys))
       go fault h k = clash (cc)
 
   pub atom-faulty : w ≡ AtomRead.Fault → ReadsAtom s c keys Part.Fault after
-  atom-faulty e = go (readAtom (drop (c .at) s)) (rw same at place)
+  atom-faulty e = go (readAtom (drop (c .at) s)) place
     where
       go : (p : Parsed Atom) → w ≡ placeBehind (length s) p → AtomDone (length s) c keys Part.Fault after p
       go (parsed a rest) h = clash (cc)

@@ -3,8 +3,8 @@ use crate::cursor::Cursor;
 use crate::cursor::Part;
 use crate::shape::Shape;
 use crate::state::State;
+use brackets::AtomCursor;
 use brackets::AtomRead;
-use brackets::read_atom;
 ghost use mathlib.Core.Path.{_≡_};
 ghost use lib.Dec.{eqb};
 ghost use lib.ListN.{drop, length};
@@ -30,9 +30,10 @@ impl Cursor {
     {
         let set = atom_set(self.atoms);
         let case = self.case;
-        match read_atom(s, self.at, case, set, keys) {
+        let here = AtomCursor { at: self.at };
+        match here.atom(s, case, set, keys) {
             AtomRead::At(next) => Part::Read(
-                self.advanced(next, 1),
+                self.advanced(next.at, 1),
                 Shape {
                     nothing: false,
                     first: set,

@@ -8,8 +8,8 @@ use Rattle.pattern.proofs.cursor.Cursor.atom.Tie as tie
 atom-set-requires : tie.Need-atom-set-requires
 atom-set-requires c κs = search needs
 
-read-atom-requires : tie.Need-read-atom-requires
-read-atom-requires c κs = search needs
+atom-requires : tie.Need-atom-requires
+atom-requires c κs = search needs
 
 enum-known-next : tie.Need-enum-known-next
 enum-known-next c = search needs
@@ -27,4 +27,4 @@ returns-2 : tie.Need-returns-2
 returns-2 c = search (atom-faulty)
 
 pub atom-spec : {M : Type 1} → statement M
-atom-spec = tie.close (tie.spec atom-set-requires read-atom-requires enum-known-next advanced-requires enum-told returns returns-2)
+atom-spec = tie.close (tie.spec atom-set-requires atom-requires enum-known-next advanced-requires enum-told returns returns-2)

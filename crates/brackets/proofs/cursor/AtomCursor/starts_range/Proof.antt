@@ -1,8 +1,8 @@
--- `starts_range`: both bytes.
+-- `AtomCursor::starts_range`: both bytes.
 use borrow.Author.Needs.{needs}
 use Rattle.brackets.proofs.Elements.{range-starts}
-use Rattle.brackets.proofs.element.starts_range.Statement.{statement}
-use Rattle.brackets.proofs.element.starts_range.Tie as tie
+use Rattle.brackets.proofs.cursor.AtomCursor.starts_range.Statement.{statement}
+use Rattle.brackets.proofs.cursor.AtomCursor.starts_range.Tie as tie
 
 peek-requires : tie.Need-peek-requires
 peek-requires c κs = search needs

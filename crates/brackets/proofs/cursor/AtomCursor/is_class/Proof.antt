@@ -1,18 +1,18 @@
--- `is_class`. Invariant: the bytes from j on decide as the whole name does.
+-- `AtomCursor::is_class`. Invariant: the bytes from j on decide as the whole name does.
 use Prim.Native.Nat.{_+_, _-_, _≤_}
 use mathlib.Core.Path.{_≡_}
 use lib.ListN.{drop}
 use borrow.Author.Needs.{needs}
 use Rattle.brackets.specs.Brackets.{isClass}
 use Rattle.brackets.proofs.Classes.{begins, nameFrom, name-first, name-other, name-on, name-end}
-use Rattle.brackets.proofs.class.is_class.Statement.{statement}
-use Rattle.brackets.proofs.class.is_class.Tie as tie
+use Rattle.brackets.proofs.cursor.AtomCursor.is_class.Statement.{statement}
+use Rattle.brackets.proofs.cursor.AtomCursor.is_class.Tie as tie
 
 abbrev Inv-loop : tie.InvT-loop
-Inv-loop s at c class n j₀ j = (j ≤ n) × (begins (nameFrom c j) (drop (at + j) s) ≡ isClass c (drop at s))
+Inv-loop self s c class n j₀ j = (j ≤ n) × (begins (nameFrom c j) (drop (self .at + j) s) ≡ isClass c (drop (self .at) s))
 
 abbrev μ-loop : tie.MeasureT-loop
-μ-loop s at c class n j₀ j = n - j
+μ-loop self s c class n j₀ j = n - j
 
 class-at-requires : tie.Need-class-at-requires Inv-loop μ-loop
 class-at-requires c κs = search needs
@@ -40,9 +40,9 @@ loop-less c = search needs
 
 loop-again : tie.Need-loop-again Inv-loop μ-loop
 loop-again c =
-    let l = c .before .before .before .before in
+    let l = c .before .before .before .before .before in
     let e = l .before in
-    let on = name-on _ _ _ _ (e .class-at .ensures) _ (l .loop .inv .1) (e .before .before .pre .1) (c .before .before .before .loop-test .taken) in
+    let on = name-on _ _ _ _ (e .class-at .ensures) _ (l .loop .inv .1) (e .before .before .pre .1) (c .before .before .before .before .loop-test .taken) in
     (search needs, on _ (c .before .before .peek .ensures) (c .if1 .left))
 
 add-peek-2 : tie.Need-add-peek-2 Inv-loop μ-loop

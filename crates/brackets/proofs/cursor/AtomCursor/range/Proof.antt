@@ -1,8 +1,8 @@
--- `read_range`: both ways of the test.
+-- `AtomCursor::range`: both ways of the test.
 use borrow.Author.Needs.{needs}
 use Rattle.brackets.proofs.Elements.{range-found, range-fault}
-use Rattle.brackets.proofs.element.read_range.Statement.{statement}
-use Rattle.brackets.proofs.element.read_range.Tie as tie
+use Rattle.brackets.proofs.cursor.AtomCursor.range.Statement.{statement}
+use Rattle.brackets.proofs.cursor.AtomCursor.range.Tie as tie
 
 peek-requires : tie.Need-peek-requires
 peek-requires c κs = search needs
@@ -22,8 +22,8 @@ peek-requires-3 c κs = search needs
 opens-requires : tie.Need-opens-requires
 opens-requires c κs = search needs
 
-add-t16 : tie.Need-add-t16
-add-t16 c = search needs
+past-requires : tie.Need-past-requires
+past-requires c κs = search needs
 
 returns : tie.Need-returns
 returns c = search range-found
@@ -31,8 +31,8 @@ returns c = search range-found
 returns-2 : tie.Need-returns-2
 returns-2 c = search range-fault
 
-pub read-range-spec : {M : Type 1} → statement M
-read-range-spec =
+pub range-spec : {M : Type 1} → statement M
+range-spec =
     tie.close
     (tie.spec
     peek-requires
@@ -41,6 +41,6 @@ read-range-spec =
     add-peek-2
     peek-requires-3
     opens-requires
-    add-t16
+    past-requires
     returns
     returns-2)

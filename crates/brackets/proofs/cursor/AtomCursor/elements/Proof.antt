@@ -1,17 +1,17 @@
--- `read_elements`. Invariant: what is done from here is done from the start.
+-- `AtomCursor::elements`. Invariant: what is done from here is done from the start.
 use Prim.Native.Nat.{_-_}
 use lib.ListN.{length}
 use borrow.Author.Needs.{needs}
-use Rattle.brackets.proofs.Taken.{found-known, found-less}
 use Rattle.brackets.proofs.Bracketed.{Going, going-first, going-end, going-closed, going-fault, going-on}
-use Rattle.brackets.proofs.bracket.read_elements.Statement.{statement}
-use Rattle.brackets.proofs.bracket.read_elements.Tie as tie
+use Rattle.brackets.proofs.Taken.{found-known, found-less}
+use Rattle.brackets.proofs.cursor.AtomCursor.elements.Statement.{statement}
+use Rattle.brackets.proofs.cursor.AtomCursor.elements.Tie as tie
 
 abbrev Inv-loop : tie.InvT-loop
-Inv-loop text start set₀ at₀ first₀ set at first = Going text start set₀ at first set
+Inv-loop s set₀ here₀ first₀ set here first = Going s (here₀ .at) set₀ (here .at) first set
 
 abbrev μ-loop : tie.MeasureT-loop
-μ-loop text start set₀ at₀ first₀ set at first = length text - at
+μ-loop s set₀ here₀ first₀ set here first = length s - here .at
 
 loop-holds : tie.Need-loop-holds Inv-loop μ-loop
 loop-holds c = search going-first
@@ -19,14 +19,14 @@ loop-holds c = search going-first
 peek-requires : tie.Need-peek-requires Inv-loop μ-loop
 peek-requires c κs = search needs
 
-add-t13 : tie.Need-add-t13 Inv-loop μ-loop
-add-t13 c = search needs
+past-requires : tie.Need-past-requires Inv-loop μ-loop
+past-requires c κs = search needs
 
 returns : tie.Need-returns Inv-loop μ-loop
 returns c = search going-closed
 
-read-element-requires : tie.Need-read-element-requires Inv-loop μ-loop
-read-element-requires c κs = search needs
+element-requires : tie.Need-element-requires Inv-loop μ-loop
+element-requires c κs = search needs
 
 enum-known-e : tie.Need-enum-known-e Inv-loop μ-loop
 enum-known-e c = search needs
@@ -49,17 +49,17 @@ loop-again c = search going-on
 returns-3 : tie.Need-returns-3 Inv-loop μ-loop
 returns-3 c = search going-end
 
-pub read-elements-spec : {M : Type 1} → statement M
-read-elements-spec =
+pub elements-spec : {M : Type 1} → statement M
+elements-spec =
     tie.close
     (tie.spec
     Inv-loop
     μ-loop
     loop-holds
     peek-requires
-    add-t13
+    past-requires
     returns
-    read-element-requires
+    element-requires
     enum-known-e
     add-element-requires
     enum-told

@@ -1,9 +1,9 @@
--- `read_atom`: each way out is a case of reading an atom.
+-- `AtomCursor::atom`: each way out is a case of reading an atom.
 use borrow.Author.Needs.{needs}
 use Rattle.brackets.proofs.Answers.{fault-place, fault-table}
 use Rattle.brackets.proofs.Atoms.{atom-end, dot-place, dot-table, bracket-place, bracket-table, atom-unescaped, escaped-place, escaped-table, atom-mark, plain-place, plain-table}
-use Rattle.brackets.proofs.atom.read_atom.Statement.{statement}
-use Rattle.brackets.proofs.atom.read_atom.Tie as tie
+use Rattle.brackets.proofs.cursor.AtomCursor.atom.Statement.{statement}
+use Rattle.brackets.proofs.cursor.AtomCursor.atom.Tie as tie
 
 returns : tie.Need-returns
 returns c = (search (fault-place, atom-end), search (fault-table, atom-end))
@@ -14,17 +14,17 @@ peek-requires c κs = search needs
 store-dot-requires : tie.Need-store-dot-requires
 store-dot-requires c κs = search needs
 
-add-t12 : tie.Need-add-t12
-add-t12 c = search needs
+past-requires : tie.Need-past-requires
+past-requires c κs = search needs
 
 returns-2 : tie.Need-returns-2
 returns-2 c = (search dot-place, search dot-table)
 
-add-read-bracket : tie.Need-add-read-bracket
-add-read-bracket c = search needs
+past-requires-2 : tie.Need-past-requires-2
+past-requires-2 c κs = search needs
 
-read-bracket-requires : tie.Need-read-bracket-requires
-read-bracket-requires c κs = search needs
+bracket-requires : tie.Need-bracket-requires
+bracket-requires c κs = search needs
 
 returns-3 : tie.Need-returns-3
 returns-3 c = (search bracket-place, search bracket-table)
@@ -44,8 +44,8 @@ returns-4 c = (search (fault-place, atom-unescaped), search (fault-table, atom-u
 store-key-requires : tie.Need-store-key-requires
 store-key-requires c κs = search needs
 
-add-t15 : tie.Need-add-t15
-add-t15 c = search needs
+past-requires-3 : tie.Need-past-requires-3
+past-requires-3 c κs = search needs
 
 returns-5 : tie.Need-returns-5
 returns-5 c = (search escaped-place, search escaped-table)
@@ -59,33 +59,33 @@ returns-6 c = (search (fault-place, atom-mark), search (fault-table, atom-mark))
 store-key-requires-2 : tie.Need-store-key-requires-2
 store-key-requires-2 c κs = search needs
 
-add-t8 : tie.Need-add-t8
-add-t8 c = search needs
+past-requires-4 : tie.Need-past-requires-4
+past-requires-4 c κs = search needs
 
 returns-7 : tie.Need-returns-7
 returns-7 c = (search plain-place, search plain-table)
 
-pub read-atom-spec : {M : Type 1} → statement M
-read-atom-spec =
+pub atom-spec : {M : Type 1} → statement M
+atom-spec =
     tie.close
     (tie.spec
     returns
     peek-requires
     store-dot-requires
-    add-t12
+    past-requires
     returns-2
-    add-read-bracket
-    read-bracket-requires
+    past-requires-2
+    bracket-requires
     returns-3
     add-peek
     peek-requires-2
     is-mark-requires
     returns-4
     store-key-requires
-    add-t15
+    past-requires-3
     returns-5
     is-mark-requires-2
     returns-6
     store-key-requires-2
-    add-t8
+    past-requires-4
     returns-7)
