@@ -14,7 +14,7 @@ use Rattle.brackets.specs.declared.element.ElementRead.{ElementRead}
 use Rattle.brackets.specs.Form.{Element, byte, range, class, className, writeElement}
 use Rattle.brackets.specs.Brackets.{Parsed, parsed, fault, readElements}
 use Rattle.brackets.specs.Sets.{Range, classRanges, inElement, inElements}
-use Rattle.brackets.specs.Answers.{cursorAt, mapWith}
+use Rattle.brackets.specs.Answers.{cursorAt, placeBehind, mapWith}
 use Rattle.letters.specs.declared.Case.{Case}
 use Rattle.letters.specs.Letters.{folded}
 use Rattle.runs.specs.Keys.{lineKey}
@@ -89,7 +89,7 @@ Known (class c) = c < 12
 unfoldable pub elementsFrom : ℕ → List ℕ → Parsed (List Element)
 elementsFrom start l = readElements (length l) true (drop start l)
 
--- the reading of a bracket's elements from n bytes: the set before and after, and the answer
+-- the reading of a bracket's elements in a text of n bytes: the set before and after, and the answer; after a fault nobody looks at the set
 unfoldable pub ElementsDone : ℕ → Parsed (List Element) → List Bool → List Bool → AtomRead → Type 0
-ElementsDone n (parsed es rest) before after r = (r ≡ AtomRead.At (cursorAt (n - length rest))) × (after ≡ mapWith (withElements es) 0 before)
+ElementsDone n (parsed es rest) before after r = (r ≡ placeBehind n (parsed es rest)) × (after ≡ mapWith (withElements es) 0 before)
 ElementsDone n fault before after r = r ≡ AtomRead.Fault
