@@ -30,7 +30,7 @@ use Rattle.reports.specs.declared.total.Total.{Total}
 use Rattle.reports.specs.Totals.{totalOf}
 use Rattle.reports.specs.declared.span_count.SpanCount.{SpanCount}
 use Rattle.reports.specs.Reports.{report, inReport, totalIn}
-use Rattle.reports.specs.Words.{loadedAt}
+use Rattle.reports.specs.Words.{behindRows, loadedAt}
 use Rattle.reports.proofs.ReportLaws.{in-report, total-run}
 use Rattle.counter.specs.declared.counting.BookCount.{BookCount}
 use Rattle.counter.specs.declared.front.Space.{Space}
@@ -96,11 +96,11 @@ module _ {book offsets : List ℕ} {macros : ℕ} (i : InBook book offsets macro
       accepted = pattern-in c s keys enter keys' enter' figures keyed entered e
 
       -- a size of some words more than states is small
-      pub size-fits : (k : ℕ) → leb k 4 ≡ true → p .states + k < 2 ^ 64
-      size-fits k h = omega (arith, accepted .small, leb-true k 4 h)
+      pub size-fits : (k : ℕ) → leb k 32 ≡ true → p .states + k < 2 ^ 64
+      size-fits k h = omega (arith, accepted .small, leb-true k 32 h)
 
       -- macro m, with these work words
-      module _ (m : ℕ) (before : List ℕ) (x : Space) (told : settledBy x ≡ spaceStep macros m (suc m * (p .states + 4)) (length before)) where
+      module _ (m : ℕ) (before : List ℕ) (x : Space) (told : settledBy x ≡ spaceStep macros m (suc m * (p .states + behindRows)) (length before)) where
         sized : settledBy x ≡ spaceStep macros m (needed (query c (accepted .tree)) m) (length before)
         sized = rw (← states-of (accepted .tables)) told
 
@@ -110,12 +110,12 @@ module _ {book offsets : List ℕ} {macros : ℕ} (i : InBook book offsets macro
         module _ (f : x ≡ Space.Enough) where
           pub macro-in : MacroFits book offsets m p before
           macro-in =
-              let inside : m < macros = space-inside macros m (suc m * (p .states + 4)) (length before) x told f in
+              let inside : m < macros = space-inside macros m (suc m * (p .states + behindRows)) (length before) x told f in
               record {
                 table = i .table;
                 inside = omega (arith, i .many);
                 small = accepted .small;
-                room = space-room macros m (suc m * (p .states + 4)) (length before) x told f;
+                room = space-room macros m (suc m * (p .states + behindRows)) (length before) x told f;
               }
 
           pub macro-counted : (after : List ℕ) (r : BookCount) → BookCounted keys' enter' p (macrosIn book) m before after r → outcome r after ≡ bookResult c book s m before

@@ -34,6 +34,7 @@ use Rattle.book.proofs.LayoutLaws.{macros-few}
 use Rattle.spans.proofs.PairLaws.{pairs-square}
 use Rattle.pattern.proofs.Readings.{accepted-few}
 use Rattle.counter.proofs.FrontLaws.{count-refused-book, count-refused-pattern, count-accepted}
+use Rattle.reports.specs.Words.{behindRows}
 
 -- a sound book, an accepted pattern, a macro of the book, and work space enough
 pub record Countable (c : Case) (b p work : List ℕ) (ms : List Macro) (t : Pattern) (m : ℕ) : Type 0 where
@@ -100,7 +101,7 @@ module _ (t : Query) where
 pub needed-most : (c : Case) (b p : List ℕ) (t : Pattern) (m : ℕ) → reader.readPattern p ≡ reader.accepted t → m < length (macrosIn b) → needed (query c t) m ≤ mostWords
 needed-most c b p t m e h =
     let number : suc m ≤ 1024 = omega (arith, macros-few b) in
-    let wide : states (query c t) + 4 ≤ 36 = omega (arith, accepted-few p t e) in
+    let wide : states (query c t) + behindRows ≤ 32 + behindRows = omega (arith, accepted-few p t e) in
     mul-le-mul number wide
 
 -- No book has a macro from 1,024 on: all such numbers are refused alike.

@@ -29,7 +29,7 @@ use Rattle.pattern.specs.Automata.{Automaton}
 use Rattle.pattern.specs.declared.automaton.Accepting.{Accepting}
 use Rattle.pattern.proofs.Readings.{states-of}
 use Rattle.reports.specs.Reports.{report}
-use Rattle.reports.specs.Words.{loadedAt, storedAt}
+use Rattle.reports.specs.Words.{behindRows, loadedAt, storedAt}
 use Rattle.reports.proofs.ReportLaws.{report-size}
 use Rattle.reports.proofs.StoredLaws.{words-length, loaded-from, stored-there}
 use Rattle.counter.specs.declared.items.MacroCount.{MacroCount}
@@ -38,10 +38,10 @@ use Rattle.counter.specs.Promises.{placeOf, AllServed, ItemsFit, ItemsCo
 
 module _ (t : Query) (few : atomCount (t .tree) ≤ 29) (ms : List Macro) where
   -- the report of macro j, where those of the first n stand in front
-  pub reports-at : (n j : ℕ) → j < n → (work rest : List ℕ) → work ≡ firstWords (macroWords t ms) n ++ rest → loadedAt work (j * (states t + 4)) (states t) ≡ report t (expansion ms j)
+  pub reports-at : (n j : ℕ) → j < n → (work rest : List ℕ) → work ≡ firstWords (macroWords t ms) n ++ rest → loadedAt work (j * (states t + behindRows)) (states t) ≡ report t (expansion ms j)
   reports-at n j h work rest e =
-      let (behind, there) = words-at (macroWords t ms) (states t + 4) (λ i. words-length t few (expansion ms i)) n j h rest in
-      loaded-from t few (expansion ms j) work behind (j * (states t + 4)) (ap (drop (j * (states t + 4))) e ∙ there)
+      let (behind, there) = words-at (macroWords t ms) (states t + behindRows) (λ i. words-length t few (expansion ms i)) n j h rest in
+      loaded-from t few (expansion ms j) work behind (j * (states t + behindRows)) (ap (drop (j * (states t + behindRows))) e ∙ there)
 
   -- a macro's items are served by the reports of those below it
   pub served : wellFormed ms ≡ true → (i : ℕ) (work rest : List ℕ) → work ≡ firstWords (macroWords t ms) i ++ rest → AllServed t (λ j. expansion ms j) work (getD ms i [])
@@ -62,7 +62,7 @@ module _ {keys enter : List ℕ} {p : Accepting} {ms : List Macro} {m : ℕ} {be
         inside = omega arith;
         long = refl;
         few = omega arith;
-        counts = λ t h. let none : 0 * (states t + 4) ≡ 0 = omega arith in (rw (none, words-none (macroWords t ms)) refl, sym (sum-none (stepsWithin t ms)));
+        counts = λ t h. let none : 0 * (states t + behindRows) ≡ 0 = omega arith in (rw (none, words-none (macroWords t ms)) refl, sym (sum-none (stepsWithin t ms)));
       }
 
   -- all macros are stored
@@ -74,7 +74,7 @@ module _ {keys enter : List ℕ} {p : Accepting} {ms : List Macro} {m : ℕ} {be
 
 module _ {book offsets : List ℕ} {m : ℕ} {p : Accepting} {before : List ℕ} (g : MacroFits book offsets m p before) where
   -- the width of a report is small
-  pub width-fits : Fits w64 (p .states + 4)
+  pub width-fits : Fits w64 (p .states + behindRows)
   width-fits = omega (arith, g .small)
 
   -- the items of macro i
@@ -94,8 +94,8 @@ module _ {keys enter : List ℕ} {p : Accepting} {book : List ℕ} {m : ℕ} {be
     pub place-fits : Fits w64 (placeOf p i)
     place-fits =
         let low : i ≤ 1024 = omega (arith, few) in
-        let thin : p .states + 4 ≤ 36 = omega (arith, g .small) in
-        omega (arith, mul-le-mul-right (p .states + 4) low)
+        let thin : p .states + behindRows ≤ 32 + behindRows = omega (arith, g .small) in
+        omega (arith, mul-le-mul-right (p .states + behindRows) low)
 
     -- and so are the steps
     pub steps-fit : {items : List Item} {a : MacroCount} → ItemsCounted keys enter p work items a → Fits w64 (n + a .steps)
@@ -111,7 +111,7 @@ module _ {keys enter : List ℕ} {p : Accepting} {book : List ℕ} {m : ℕ} {be
             few = omega (arith, x .few, h .few);
             counts = λ t d.
                 let done = x .counts t d in
-                let one = h .counts t d (λ k. expansion ms k) (rw its (served t (d .few) ms well i work (drop (i * (states t + 4)) before) (done .0))) in
+                let one = h .counts t d (λ k. expansion ms k) (rw its (served t (d .few) ms well i work (drop (i * (states t + behindRows)) before) (done .0))) in
                 let whole : a .report ≡ report t (expansion ms i) = one .0 ∙ rw its (ap (report t) (sym (expansion-law ms well i))) in
                 (next t d (done .0) whole, ap (λ (k : ℕ). k + a .steps) (done .1) ∙ ap (λ (k : ℕ). sumBelow i (stepsWithin t ms) + k) (one .1 ∙ rw its refl) ∙ sym (sum-more i (stepsWithin t ms)));
           }
@@ -127,14 +127,14 @@ module _ {keys enter : List ℕ} {p : Accepting} {book : List ℕ} {m : ℕ} {be
 
           next : (t : Query) → Automaton t keys enter p → work ≡ reportsOver t ms i before → a .report ≡ report t (expansion ms i) → after ≡ reportsOver t ms (i + 1) before
           next t d j w =
-              let k = states t + 4 in
+              let k = states t + behindRows in
               let size : report t (expansion ms i) .s ≡ states t = report-size t (expansion ms i) in
               let room : suc m * k ≤ length before = rw (states-of d) at (g .room) in
               let low : suc i ≤ suc m = omega arith in
               let there : i * k + k ≤ length work = omega (arith, mul-le-mul-right k low, x .long, room) in
               let run = expansion ms i in
               let put : storedAt work (i * k) (report t run) ≡ take (i * k) work ++ (macroWords t ms i ++ drop (i * k + k) work) =
-              stored-there work (i * k) (report t run) (rw size (omega (arith, d .few))) (rw size there) ∙ ap (λ (z : ℕ). take (i * k) work ++ (macroWords t ms i ++ drop (i * k + (z + 4)) work)) size in
+              stored-there work (i * k) (report t run) (rw size (omega (arith, d .few))) (rw size there) ∙ ap (λ (z : ℕ). take (i * k) work ++ (macroWords t ms i ++ drop (i * k + (z + behindRows)) work)) size in
               let all : after ≡ take (i * k) work ++ (macroWords t ms i ++ drop (i * k + k) work) =
-              e ∙ ap (λ (z : ℕ). storedAt work (i * (z + 4)) (a .report)) (states-of d) ∙ ap (storedAt work (i * k)) w ∙ put in
+              e ∙ ap (λ (z : ℕ). storedAt work (i * (z + behindRows)) (a .report)) (states-of d) ∙ ap (storedAt work (i * k)) w ∙ put in
               words-stored (macroWords t ms) k (λ q. words-length t (d .few) (expansion ms q)) i before work after j all

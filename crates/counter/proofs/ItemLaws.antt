@@ -29,7 +29,7 @@ use Rattle.pattern.proofs.Readings.{states-of}
 use Rattle.reports.specs.declared.report.Report.{Report}
 use Rattle.reports.specs.declared.span_count.SpanCount.{SpanCount}
 use Rattle.reports.specs.Reports.{spanCount, emptyCount, extendedCount, joinedCounts, inReport, reportOf, report}
-use Rattle.reports.specs.Words.{loadedAt}
+use Rattle.reports.specs.Words.{behindRows, loadedAt}
 use Rattle.reports.proofs.ReportLaws.{empty-count, empty-small, count-size, count-pairs, extended-small, joined-small, extend-count, join-counts, in-report, report-is}
 use Rattle.spans.specs.declared.span.Span.{Span}
 use Rattle.spans.specs.Pairs.{pairs, pairsIn}
@@ -65,7 +65,7 @@ module _ {keys enter : List ℕ} {p : Accepting} {work : List ℕ} {a : SpanCoun
         extends = λ t h called w run served e. rw e (extend-count h w k run served);
       })
 
-  pub item-call : {j : ℕ} {r : Report} {d b : SpanCount} → item ≡ Call j → r ≡ loadedAt work (j * (a .span .s + 4)) (a .span .s)
+  pub item-call : {j : ℕ} {r : Report} {d b : SpanCount} → item ≡ Call j → r ≡ loadedAt work (j * (a .span .s + behindRows)) (a .span .s)
       → d ≡ inReport r → b ≡ joinedCounts a d → AfterItem keys enter p work a item b
   item-call {j} {r} {d} i f g l =
       rw (i, l)
@@ -79,8 +79,8 @@ module _ {keys enter : List ℕ} {p : Accepting} {work : List ℕ} {a : SpanCoun
       })
 
 -- the place of a called macro's words fits
-pub call-small : (s j : ℕ) → s ≤ 32 → j < 65536 → Fits w64 (j * (s + 4))
-call-small s j h l = let thin : s + 4 ≤ 36 = omega arith in omega (arith, mul-le-mul-left j thin)
+pub call-small : (s j : ℕ) → s ≤ 32 → j < 65536 → Fits w64 (j * (s + behindRows))
+call-small s j h l = let thin : s + behindRows ≤ 32 + behindRows = omega arith in omega (arith, mul-le-mul-left j thin)
 
 -- the run of an item
 run-of-item : (t : Query) (called : ℕ → List ℕ) (work : List ℕ) (i : Item) → Served t called work i → isRun (keysOf called i) ≡ true

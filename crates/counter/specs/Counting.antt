@@ -17,7 +17,7 @@ use Rattle.spans.specs.Pairs.{pairs}
 use Rattle.reports.specs.declared.total.Total.{Total}
 use Rattle.reports.specs.Totals.{totalOf}
 use Rattle.reports.specs.Reports.{report}
-use Rattle.reports.specs.Words.{reportWords}
+use Rattle.reports.specs.Words.{behindRows, reportWords}
 use Rattle.runs.specs.Kept.{wordsOver}
 use Rattle.runs.specs.Counts.{sumBelow}
 use Rattle.counter.specs.Front.{answerBy, front}
@@ -44,14 +44,14 @@ itemsTo ms m = sumBelow (suc m) (λ i. length (getD ms i []))
 
 -- "A count needs (m + 1) × (s + 4) words (64 bits) of work space": s + 4 for each macro's report
 abbrev pub reportSize : Query → ℕ
-reportSize t = states t + 4
+reportSize t = states t + behindRows
 
 abbrev pub needed : Query → ℕ → ℕ
 needed t m = suc m * reportSize t
 
 -- words that are enough for every book and pattern: 1,024 macros, 32 states (`needed-most`)
 abbrev pub mostWords : ℕ
-mostWords = 1024 * (32 + 4)
+mostWords = 1024 * (32 + behindRows)
 
 -- the words of macro i's report
 abbrev pub macroWords : Query → List Macro → ℕ → List ℕ

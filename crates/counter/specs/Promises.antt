@@ -18,7 +18,7 @@ use Rattle.pattern.specs.Automata.{Automaton}
 use Rattle.pattern.specs.declared.automaton.Accepting.{Accepting}
 use Rattle.reports.specs.declared.span_count.SpanCount.{SpanCount}
 use Rattle.reports.specs.Reports.{spanCount, report}
-use Rattle.reports.specs.Words.{loadedAt}
+use Rattle.reports.specs.Words.{behindRows, loadedAt}
 use Rattle.counter.specs.declared.counting.BookCount.{BookCount}
 use Rattle.counter.specs.declared.items.MacroCount.{MacroCount}
 use Rattle.counter.specs.Counting.{itemSteps, steps, filled, countOf}
@@ -27,7 +27,7 @@ use Rattle.counter.specs.Answers.{outcome}
 -- an item is a key, or a call whose run's report stands in the work words
 abbrev pub Served : Query → (ℕ → List ℕ) → List ℕ → Item → Type 0
 Served t called work (Key k) = isKey k ≡ true
-Served t called work (Call j) = (loadedAt work (j * (states t + 4)) (states t) ≡ report t (called j)) × (isRun (called j) ≡ true)
+Served t called work (Call j) = (loadedAt work (j * (states t + behindRows)) (states t) ≡ report t (called j)) × (isRun (called j) ≡ true)
 
 -- and so is each of some
 abbrev pub AllServed : Query → (ℕ → List ℕ) → List ℕ → List Item → Type 0
@@ -47,7 +47,7 @@ pub record ItemsFit (items : Items) (p : Accepting) : Type 0 where
 
 -- the place of macro i's report in the work words
 abbrev pub placeOf : Accepting → ℕ → ℕ
-placeOf p i = i * (p .states + 4)
+placeOf p i = i * (p .states + behindRows)
 
 -- the report of the run of some items, and their steps; each item has at most 32 × 32 pairs
 pub record ItemsCounted (keys enter : List ℕ) (p : Accepting) (work : List ℕ) (items : List Item) (r : MacroCount) : Type 0 where
@@ -59,7 +59,7 @@ pub record MacroFits (book offsets : List ℕ) (m : ℕ) (p : Accepting) (work :
   pub table : offsets ≡ layout book .offsets
   pub inside : m < length (macrosIn book)
   pub small : p .states ≤ 32
-  pub room : suc m * (p .states + 4) ≤ length work
+  pub room : suc m * (p .states + behindRows) ≤ length work
 
 -- the reports of macros 0 to m stand in the work words, and their steps were counted
 pub record Filled (keys enter : List ℕ) (p : Accepting) (ms : List Macro) (m : ℕ) (before after : List ℕ) (n : ℕ) : Type 0 where

@@ -13,7 +13,7 @@ use Rattle.spans.specs.Spans.{span}
 use Rattle.spans.proofs.SpanLaws.{span-rows, span-padded}
 use Rattle.reports.specs.declared.report.Report.{Report}
 use Rattle.reports.specs.Reports.{spanCount, reportOf, report}
-use Rattle.reports.specs.Words.{reportWords, loaded, loadedAt, wordsWith, storedAt}
+use Rattle.reports.specs.Words.{behindRows, reportWords, loaded, loadedAt, wordsWith, storedAt}
 use Rattle.reports.proofs.ReportLaws.{report-size}
 
 -- the words of a report, and the report of its words
@@ -25,7 +25,7 @@ module _ (s : ℕ) (rows : List ℕ) (f h c e : ℕ) (small : s ≤ 32) (long : 
   taken-length : length (take s rows) ≡ s
   taken-length = rw (length-take, long) (omega arith)
 
-  made-length : length (reportWords made) ≡ s + 4
+  made-length : length (reportWords made) ≡ s + behindRows
   made-length = rw (length-append, taken-length) refl
 
   made-loaded : (rest : List ℕ) → take s rows ++ replicate (32 - s) 0 ≡ rows → loaded s (reportWords made ++ rest) ≡ made
@@ -51,7 +51,7 @@ module _ (t : Query) (few : atomCount (t .tree) ≤ 29) (w : List ℕ) where
   unfolding report reportOf spanCount
   rows-in = refl
 
-  pub words-length : length (reportWords (report t w)) ≡ states t + 4
+  pub words-length : length (reportWords (report t w)) ≡ states t + behindRows
   words-length =
       ap (λ (r : Report). length (reportWords r)) whole
       ∙ made-length (states t) (report t w .rows) _ _ _ _ (omega arith) (ap length rows-in ∙ span-rows t w)
@@ -65,11 +65,11 @@ module _ (t : Query) (few : atomCount (t .tree) ≤ 29) (w : List ℕ) where
   -- the report that stands at a place
   pub loaded-from : (work behind : List ℕ) (at : ℕ) → drop at work ≡ reportWords (report t w) ++ behind → loadedAt work at (states t) ≡ report t w
   loaded-from work behind at e =
-      let left : length work - at ≡ states t + 4 + length behind = sym (length-drop at work) ∙ ap length e ∙ length-append (reportWords (report t w)) behind ∙ ap (λ (n : ℕ). n + length behind) words-length in
+      let left : length work - at ≡ states t + behindRows + length behind = sym (length-drop at work) ∙ ap length e ∙ length-append (reportWords (report t w)) behind ∙ ap (λ (n : ℕ). n + length behind) words-length in
       let small : states t ≤ 32 = omega arith in
-      let room : at + (states t + 4) ≤ length work = omega arith in
-      rw (le-leb (states t) 32 small, le-leb (at + (states t + 4)) (length work) room) (ap (loaded (states t)) e ∙ loaded-words behind)
+      let room : at + (states t + behindRows) ≤ length work = omega arith in
+      rw (le-leb (states t) 32 small, le-leb (at + (states t + behindRows)) (length work) room) (ap (loaded (states t)) e ∙ loaded-words behind)
 
 -- a report that there is room for is stored
-pub stored-there : (work : List ℕ) (at : ℕ) (r : Report) → r .s ≤ 32 → at + (r .s + 4) ≤ length work → storedAt work at r ≡ wordsWith work at r
-stored-there work at r h l = rw (le-leb (r .s) 32 h, le-leb (at + (r .s + 4)) (length work) l) refl
+pub stored-there : (work : List ℕ) (at : ℕ) (r : Report) → r .s ≤ 32 → at + (r .s + behindRows) ≤ length work → storedAt work at r ≡ wordsWith work at r
+stored-there work at r h l = rw (le-leb (r .s) 32 h, le-leb (at + (r .s + behindRows)) (length work) l) refl

@@ -15,7 +15,7 @@ use mir.Syntax.{w64}
 use lib.ListN.{length, getD, take, drop, set, replicate, length-drop}
 use lib.Seq.{length-take-le, take-suc, append-snoc, set-at, getD-drop, drop-drop, paste, length-paste, take-paste, drop-paste, sets-eq}
 use Rattle.reports.specs.declared.report.Report.{Report}
-use Rattle.reports.specs.Words.{loaded, roomFor, loadedAt, wordsWith, storedAt}
+use Rattle.reports.specs.Words.{behindRows, loaded, roomFor, loadedAt, wordsWith, storedAt}
 use Rattle.runs.proofs.CopyLaws.{Copying, copying-more}
 use Rattle.runs.proofs.Tests.{and-fst, and-snd, neither, or-cases, tests-ext}
 
@@ -74,7 +74,7 @@ storing-more c h p l = copying-more c h (omega arith) (omega arith)
 
 -- n words hold those of a report of s states from `at` on
 abbrev pub Holds : ℕ → ℕ → ℕ → Type 0
-Holds n at s = (s ≤ 32) × (at + (s + 4) ≤ n)
+Holds n at s = (s ≤ 32) × (at + (s + behindRows) ≤ n)
 
 -- the rows of a report stored over some words
 abbrev pub RowsOver : List ℕ → ℕ → Report → List ℕ → Type 0
@@ -91,7 +91,7 @@ stored-all old at r {work} e p l =
     let one : n + 1 ≡ suc n = omega arith in
     let two : n + 2 ≡ suc (suc n) = omega arith in
     let three : n + 3 ≡ suc (suc (suc n)) = omega arith in
-    let far : at + (r .s + 4) ≡ n + 4 = omega arith in
+    let far : at + (r .s + behindRows) ≡ n + 4 = omega arith in
     let before : at ≤ length old = omega arith in
     let few : r .s ≤ length (r .rows) = omega arith in
     let long : length work ≡ length old = rw e (length-paste old at (r .rows) (r .s) (omega arith) few) in
@@ -109,28 +109,28 @@ module _ (n at s : ℕ) where
     where
       go : (ltb 32 s ≡ true) ⊎ (ltb n at ≡ true) → false ≡ roomFor n at s
       go (inl e) = let far : 32 < s = ltb-true 32 s e in rw (lt-leb s 32 far) refl
-      go (inr e) = let far : n < at = ltb-true n at e in let over : n < at + (s + 4) = omega arith in rw (lt-leb (at + (s + 4)) n over) (sym (and-false (leb s 32)))
+      go (inr e) = let far : n < at = ltb-true n at e in let over : n < at + (s + behindRows) = omega arith in rw (lt-leb (at + (s + behindRows)) n over) (sym (and-false (leb s 32)))
 
   module _ (h : (ltb 32 s || ltb n at) ≡ false) where
-    pub room-sum : Fits w64 (s + 4)
+    pub room-sum : Fits w64 (s + behindRows)
     room-sum = omega (arith, ltb-false 32 s (neither (ltb 32 s) (ltb n at) h .0))
 
     pub room-left : at ≤ n
     room-left = ltb-false n at (neither (ltb 32 s) (ltb n at) h .1)
 
-  pub room-told : (ltb 32 s || ltb n at) ≡ false → leb (s + 4) (n - at) ≡ roomFor n at s
+  pub room-told : (ltb 32 s || ltb n at) ≡ false → leb (s + behindRows) (n - at) ≡ roomFor n at s
   room-told h =
       let (small, low) = neither (ltb 32 s) (ltb n at) h in
       let there : at ≤ n = ltb-false n at low in
-      rw (le-leb s 32 (ltb-false 32 s small)) (tests-ext (leb (s + 4) (n - at)) (leb (at + (s + 4)) n) (λ e. le-leb (at + (s + 4)) n (omega (arith, leb-true (s + 4) (n - at) e))) (λ e. le-leb (s + 4) (n - at) (omega (arith, leb-true (at + (s + 4)) n e))))
+      rw (le-leb s 32 (ltb-false 32 s small)) (tests-ext (leb (s + behindRows) (n - at)) (leb (at + (s + behindRows)) n) (λ e. le-leb (at + (s + behindRows)) n (omega (arith, leb-true (s + behindRows) (n - at) e))) (λ e. le-leb (s + behindRows) (n - at) (omega (arith, leb-true (at + (s + behindRows)) n e))))
 
   -- what it says
   module _ {b : Bool} (e : b ≡ roomFor n at s) (f : b ≡ true) where
     pub room-small : s ≤ 32
-    room-small = leb-true s 32 (and-fst (leb s 32) (leb (at + (s + 4)) n) (sym e ∙ f))
+    room-small = leb-true s 32 (and-fst (leb s 32) (leb (at + (s + behindRows)) n) (sym e ∙ f))
 
-    pub room-there : at + (s + 4) ≤ n
-    room-there = leb-true (at + (s + 4)) n (and-snd (leb s 32) (leb (at + (s + 4)) n) (sym e ∙ f))
+    pub room-there : at + (s + behindRows) ≤ n
+    room-there = leb-true (at + (s + behindRows)) n (and-snd (leb s 32) (leb (at + (s + behindRows)) n) (sym e ∙ f))
 
 module _ (work : List ℕ) (at : ℕ) {b : Bool} where
   pub load-there : (s : ℕ) {r : Report} → b ≡ roomFor (length work) at s → b ≡ true → r ≡ loaded s (drop at work) → r ≡ loadedAt work at s

@@ -7,6 +7,10 @@ use lib.ListN.{length, getD, take, drop, replicate}
 use Rattle.reports.specs.declared.report.Report.{Report}
 use Rattle.reports.specs.Reports.{noReport}
 
+-- the words behind the rows, which s of them take
+abbrev pub behindRows : ℕ
+behindRows = 4
+
 -- "rows, flag, heads, closed, tail"
 abbrev pub reportWords : Report → List ℕ
 reportWords r = take (r .s) (r .rows) ++ (r .flag ∷ r .heads ∷ r .closed ∷ r .tail ∷ [])
@@ -17,7 +21,7 @@ loaded s w = record { s = s; rows = take s w ++ replicate (32 - s) 0; flag = get
 
 -- n words hold those of a report of s states from `at` on
 abbrev pub roomFor : ℕ → ℕ → ℕ → Bool
-roomFor n at s = leb s 32 && leb (at + (s + 4)) n
+roomFor n at s = leb s 32 && leb (at + (s + behindRows)) n
 
 -- the report whose words start at a place, or zeros where they are not all there
 abbrev pub loadedAt : List ℕ → ℕ → ℕ → Report
@@ -25,7 +29,7 @@ loadedAt w at s = cond (roomFor (length w) at s) (loaded s (drop at w)) noReport
 
 -- the words with those of a report from a place on
 abbrev pub wordsWith : List ℕ → ℕ → Report → List ℕ
-wordsWith w at r = take at w ++ (reportWords r ++ drop (at + (r .s + 4)) w)
+wordsWith w at r = take at w ++ (reportWords r ++ drop (at + (r .s + behindRows)) w)
 
 -- the same, or the words as they were where there is no room for all of them
 abbrev pub storedAt : List ℕ → ℕ → Report → List ℕ

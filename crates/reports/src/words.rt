@@ -7,7 +7,7 @@ ghost use mathlib.Core.Path.{_≡_};
 ghost use mathlib.Core.List.{_++_};
 ghost use lib.ListN.{length, take, drop, replicate};
 ghost use lib.Seq.{paste};
-ghost use Rattle.reports.specs.Words.{loaded, loadedAt, reportWords, roomFor, storedAt};
+ghost use Rattle.reports.specs.Words.{behindRows, loaded, loadedAt, reportWords, roomFor, storedAt};
 
 // Whether n words hold those of a report of s states from `at` on.
 fn room_for(n: usize, at: usize, s: u64) -> bool
@@ -35,7 +35,7 @@ fn load_rows(work: &[u64], at: usize, s: usize) -> [u64; 32]
 
 // The report whose words start at `at`.
 fn load_words(work: &[u64], at: usize, s: usize) -> Report
-    requires { ⌜ (s ≤ 32) × (at + (s + 4) ≤ length (now work)) ⌝ }
+    requires { ⌜ (s ≤ 32) × (at + (s + behindRows) ≤ length (now work)) ⌝ }
     ensures { λ r. ⌜ r ≡ loaded s (drop at (now (work .entry))) ⌝ }
 {
     let rows = load_rows(work, at, s);
@@ -75,8 +75,8 @@ fn store_rows(work: &mut [u64], at: usize, rows: &[u64; 32], s: usize)
 
 // Writes a report's words from `at` on.
 fn store_words(work: &mut [u64], at: usize, r: Report)
-    requires { ⌜ (r .s ≤ 32) × (at + (r .s + 4) ≤ length (now work)) ⌝ }
-    ensures { λ _. ⌜ now (work .exit) ≡ take at (now (work .entry)) ++ (reportWords r ++ drop (at + (r .s + 4)) (now (work .entry))) ⌝ }
+    requires { ⌜ (r .s ≤ 32) × (at + (r .s + behindRows) ≤ length (now work)) ⌝ }
+    ensures { λ _. ⌜ now (work .exit) ≡ take at (now (work .entry)) ++ (reportWords r ++ drop (at + (r .s + behindRows)) (now (work .entry))) ⌝ }
 {
     let rows = r.rows;
     let s = r.s as usize;
