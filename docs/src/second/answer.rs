@@ -2,10 +2,11 @@
 
 use crate::case::Case;
 use crate::hash::hash;
+use crate::join::join;
 use crate::operations::*;
 use crate::question::Question;
 use crate::refusal::Refusal;
-use crate::report::{join, Report};
+use crate::report::Report;
 
 pub fn answer(case: &Case) -> String {
     match case {
@@ -57,7 +58,7 @@ fn hash_entries(entries: &[u16]) -> u64 {
     hash(entries.iter().map(|&entry| u64::from(entry)))
 }
 
-fn report_answer(report: &Report) -> String {
-    let Report { s, rows, flag, heads, closed, tail } = report;
-    format!("report {s} {flag} {heads} {closed} {tail} {}", hash(rows.iter().copied()))
+pub fn report_answer(report: &Report) -> String {
+    let fields: String = report.fields().iter().map(|field| format!("{field} ")).collect();
+    format!("report {} {fields}{}", report.s, hash(report.rows.iter().copied()))
 }

@@ -7,7 +7,7 @@ use crate::describe::describe;
 use crate::tally::Tally;
 
 /// So long is a stream at most.
-pub const MOST_BYTES: usize = 327_680;
+pub const MOST_BYTES: usize = 458_752;
 
 /// Cases waiting to be sent.
 pub struct Batch<'a> {

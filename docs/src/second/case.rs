@@ -75,8 +75,7 @@ fn write_parts(stream: &mut Vec<u8>, numbers: &[usize], texts: &[&Vec<u8>]) {
 
 fn write_report(stream: &mut Vec<u8>, report: &Report) {
     stream.extend_from_slice(&report.s.to_le_bytes());
-    let fields = [report.flag, report.heads, report.closed, report.tail];
-    for word in report.rows.iter().chain(&fields) {
+    for word in report.rows.iter().chain(&report.fields()) {
         stream.extend_from_slice(&word.to_le_bytes());
     }
 }
@@ -170,6 +169,8 @@ impl Stream<'_> {
         report.heads = self.low_first(8)?;
         report.closed = self.low_first(8)?;
         report.tail = self.low_first(8)?;
+        report.trimmed = self.low_first(8)?;
+        report.edges = self.low_first(8)?;
         Some(report)
     }
 }

@@ -13,16 +13,16 @@ use crate::make_question::question_with;
 use crate::operations::{cuecount, CUECOUNT_BYTES};
 use crate::rng::Rng;
 use crate::tally::Tally;
+use std::collections::BTreeSet;
 
 const SEEDED: u64 = 80;
 
 /// An input and, where it is known beforehand, what must be printed.
-type Input = (Vec<u8>, Option<&'static str>);
+pub type Input = (Vec<u8>, Option<&'static str>);
 
 pub fn compare(program: &str, seed: u64) -> Result<Tally, String> {
     let mut tally = Tally::default();
-    let mut inputs = stated_inputs();
-    inputs.extend(sized_inputs());
+    let mut inputs = fixed_inputs();
     inputs.extend(fixed_counts());
     for number in 0..SEEDED {
         inputs.push((seeded_input(&mut Rng::for_case(seed ^ 0xC0DE, number)), None));
@@ -32,6 +32,11 @@ pub fn compare(program: &str, seed: u64) -> Result<Tally, String> {
         compare_one(program, &input, stated, &mut rng, &mut tally)?;
     }
     Ok(tally)
+}
+
+/// Inputs about the program itself.
+pub fn fixed_inputs() -> Vec<Input> {
+    [stated_inputs(), worded_inputs(), sized_inputs()].concat()
 }
 
 fn compare_one(
@@ -77,9 +82,11 @@ fn input(pattern: &[u8], book: &[u8]) -> Vec<u8> {
 /// What document 01 says of each can be read off without counting much.
 fn stated_inputs() -> Vec<Input> {
     let book = write(&example());
-    let many = |count: usize| write(&vec![keys(b"a"); count]);
     vec![
         (input(b"B", &book), Some("lines 2 steps 17")),
+        (input(b"a$", &write(&[keys(b"a\r\n")])), Some("lines 1 steps 12")),
+        (input(b"a\r", &write(&[keys(b"a\r\n")])), Some("lines 0 steps 17")),
+        (input(b"\r", &book), Some("lines 0 steps 13")),
         (Vec::new(), Some("refused 1")),
         (b"B".to_vec(), Some("refused 1")),
         (book.clone(), Some("refused 1")),
@@ -93,11 +100,33 @@ fn stated_inputs() -> Vec<Input> {
         (input(&[b'a'; 30], &book), Some("refused 9")),
         (input(&[b'a'; 30], &book[..book.len() - 1]), Some("refused 4")),
         (input(b"B", &[&book[..], b"\n"].concat()), Some("refused 4")),
-        (input(b"a", &many(512)), Some("lines 1 steps 2048")),
-        (input(b"a", &many(513)), Some("refused 11")),
-        (input(b"^$", &many(585)), Some("lines 0 steps 1755")),
-        (input(b"^$", &many(586)), Some("refused 11")),
-        (input(b"a", &many(1024)), Some("refused 11")),
+    ]
+}
+
+/// Books of so many macros of one key around 4,096 work words: `a` needs 10 words a macro, `^$` 9, seven atoms
+/// 16 and 23 atoms 32, so that the last two can fill the words exactly. Each macro's one item has s steps.
+fn worded_inputs() -> Vec<Input> {
+    let of = |pattern: &[u8], key: u8, count: usize, stated| {
+        (input(pattern, &write(&vec![vec![u16::from(key)]; count])), Some(stated))
+    };
+    let (seven, most) = ([b'.'; 7], [b'.'; 23]);
+    vec![
+        of(b"a", b'a', 409, "lines 1 steps 1636"),
+        of(b"a", b'a', 410, "refused 11"),
+        of(b"a", b'a', 512, "refused 11"),
+        of(b"a", b'a', 1024, "refused 11"),
+        of(b"^$", b'a', 455, "lines 0 steps 1365"),
+        of(b"^$", b'a', 456, "refused 11"),
+        of(b"^$", b'\n', 455, "lines 1 steps 1365"),
+        of(b"^$", b'\n', 585, "refused 11"),
+        of(b"^$", b'\r', 455, "lines 0 steps 1365"),
+        of(b"^$", b'\r', 456, "refused 11"),
+        of(&seven, b'\r', 256, "lines 0 steps 2560"),
+        of(&seven, b'\r', 257, "refused 11"),
+        of(&seven, b'a', 292, "refused 11"),
+        of(&most, b'\n', 128, "lines 0 steps 3328"),
+        of(&most, b'\r', 129, "refused 11"),
+        of(&most, b'a', 136, "refused 11"),
     ]
 }
 
@@ -141,18 +170,18 @@ fn sized_inputs() -> Vec<Input> {
     ]
 }
 
-/// The books of the fixed cases that are asked without the choice of case.
+/// The books of the fixed cases that are asked without the choice of case, each once.
 fn fixed_counts() -> Vec<Input> {
-    let mut inputs = Vec::new();
+    let mut seen = BTreeSet::new();
     for fixed in fixed::once() {
         match fixed.case {
             Case::Count { question, book, .. } if question.letters == Letters::Apart => {
-                inputs.push((input(&question.pattern, &book), None));
+                seen.insert(input(&question.pattern, &book));
             }
             _ => {}
         }
     }
-    inputs
+    seen.into_iter().map(|input| (input, None)).collect()
 }
 
 fn seeded_input(rng: &mut Rng) -> Vec<u8> {

@@ -4,7 +4,6 @@ use crate::batch::{Batch, MOST_BYTES};
 use crate::case::Case;
 use crate::letters::BOTH;
 use crate::make_line;
-use crate::meaning::lines;
 use crate::operations::line_test;
 use crate::question::Question;
 use crate::rng::Rng;
@@ -15,14 +14,18 @@ const TRIES: usize = 30;
 /// A line's bytes and a case's numbers need room behind the pattern.
 const MOST_PATTERN: usize = MOST_BYTES - 10_000;
 
-/// One pattern a line, LF after each; bytes behind the last LF are one more.
+/// One pattern a line, LF after each; bytes behind the last LF are one more. A CR is a byte of its pattern
+/// here: the lines of S-4 are those of runs.
 pub fn read(path: &str) -> Result<Vec<Vec<u8>>, String> {
     let bytes = std::fs::read(path).map_err(|error| format!("{path}: {error}"))?;
     patterns(&bytes).map_err(|message| format!("{path}: {message}"))
 }
 
 pub fn patterns(bytes: &[u8]) -> Result<Vec<Vec<u8>>, String> {
-    let patterns: Vec<Vec<u8>> = lines(bytes).iter().map(|line| line.to_vec()).collect();
+    let mut patterns: Vec<Vec<u8>> = bytes.split(|&byte| byte == 10).map(<[u8]>::to_vec).collect();
+    if patterns.last().map_or(false, |last| last.is_empty()) {
+        patterns.pop();
+    }
     if patterns.is_empty() {
         return Err(String::from("no pattern in it"));
     }

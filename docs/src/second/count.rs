@@ -7,7 +7,7 @@ use crate::report::Report;
 use crate::states::States;
 use crate::summary::summaries;
 use crate::tree::Pattern;
-use crate::written;
+use crate::written::{self, Runs};
 
 /// So many keys are written out for one count at most.
 const LIMIT: u64 = 2_000_000;
@@ -31,14 +31,14 @@ pub fn count_within(book: &Book, pattern: &Pattern, last: usize, limit: u64) -> 
     let chosen = within(&lengths, limit);
     let mut tester = Tester::new(pattern);
     let mut counted = by_summaries_if_needed(book, &states, &chosen);
+    let mut runs = Runs::of(book);
     for (number, _) in chosen.iter().enumerate().filter(|(_, &chosen)| chosen) {
-        let mut run = Vec::new();
-        written::write_out(book, number, &mut run);
-        counted.reports[number] = written::report(&states, &mut tester, &run);
-        counted.steps += written::steps(book, &states, number);
+        let run = runs.keep(number);
+        counted.reports[number] = written::report(&states, &mut tester, run);
         if number == last {
-            counted.lines = Some(tester.count(&run));
+            counted.lines = Some(tester.count(run));
         }
+        counted.steps += written::steps(&runs, &states, number);
     }
     check_lines(&counted, &states);
     if !chosen[last] {
@@ -71,7 +71,7 @@ fn by_summaries_if_needed(book: &Book, states: &States, chosen: &[bool]) -> Coun
     }
     for (number, summary) in summaries(book, states, chosen.len() - 1).iter().enumerate() {
         if !chosen[number] {
-            counted.reports[number] = summary.report();
+            counted.reports[number] = summary.report(states);
             counted.steps += summary.steps;
         }
     }

@@ -50,6 +50,7 @@ pub fn describe(case: &Case) -> String {
 }
 
 fn numbers(report: &Report) -> String {
-    let Report { s, rows, flag, heads, closed, tail } = report;
-    format!("s {s} flag {flag} heads {heads} closed {closed} tail {tail} rows {rows:?}")
+    let Report { s, rows, flag, heads, closed, tail, trimmed, edges } = report;
+    let words = format!("trimmed {trimmed} edges {edges}");
+    format!("s {s} flag {flag} heads {heads} closed {closed} tail {tail} {words} rows {rows:?}")
 }

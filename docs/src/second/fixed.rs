@@ -10,6 +10,11 @@ use crate::fixed_letters::letters;
 use crate::fixed_letters_books::letters_in_books;
 use crate::fixed_lines::{BRACKETS, EXPRESSIONS, PAPER};
 use crate::fixed_parts::parts;
+use crate::fixed_returns::returns;
+use crate::fixed_returns_books::{returns_in_books, returns_in_words};
+use crate::fixed_returns_cuts::cuts;
+use crate::fixed_returns_huge::{huge_cuts, huge_returns};
+use crate::fixed_returns_joins::returns_joined;
 use crate::fixed_rows::rows;
 use crate::fixed_runs::runs;
 use crate::fixed_whole::wholes;
@@ -44,22 +49,26 @@ impl Fixed {
     }
 }
 
-/// Document 01's cases, the same with case ignored, those made for the choice of case, and those about where
-/// brackets begin and end.
+/// Document 01's cases, the same with case ignored, those made for the choice of case, those about where
+/// brackets begin and end, and those about line ends.
 pub fn all() -> Vec<Fixed> {
-    let mut fixed = of_document_01();
+    let mut fixed = once();
     fixed.extend(again(&of_document_01()));
-    fixed.extend(for_the_choice());
-    fixed.extend(of_brackets());
+    fixed.extend([returns_in_words(), huge_returns(), cuts(), returns_joined()].concat());
     fixed
 }
 
-/// Without those asked again: each start of a program takes its time.
+/// Without those asked again, and without the many alike: each start of a program takes its time.
 pub fn once() -> Vec<Fixed> {
     let mut fixed = of_document_01();
     fixed.extend(for_the_choice());
     fixed.extend(of_brackets());
+    fixed.extend(of_line_ends());
     fixed
+}
+
+fn of_line_ends() -> Vec<Fixed> {
+    [returns(), returns_in_books(), huge_cuts()].concat()
 }
 
 fn of_document_01() -> Vec<Fixed> {

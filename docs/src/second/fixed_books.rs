@@ -5,9 +5,8 @@ use crate::case::Case;
 use crate::fixed::Fixed;
 use crate::letters::Letters;
 use crate::make_book::{call, keys, write, Macros};
+use crate::operations::COUNT_WORDS as ENOUGH;
 use crate::question::Question;
-
-const ENOUGH: usize = 36_864;
 
 pub fn counts() -> Vec<Fixed> {
     let mut fixed = paper();
@@ -30,18 +29,18 @@ pub fn example() -> Macros {
 fn paper() -> Vec<Fixed> {
     let across = [keys(b"a"), vec![call(0), u16::from(b'b')]];
     vec![
-        count("B", &example(), 1, 16, "lines 2 steps 17"),
-        count("B", &example(), 1, 15, "refused 11"),
-        count("B", &example(), 1, 17, "lines 2 steps 17"),
-        count("B", &example(), 0, 8, "lines 1 steps 11"),
-        count("B", &example(), 0, 7, "refused 11"),
+        count("B", &example(), 1, 20, "lines 2 steps 17"),
+        count("B", &example(), 1, 19, "refused 11"),
+        count("B", &example(), 1, 21, "lines 2 steps 17"),
+        count("B", &example(), 0, 10, "lines 1 steps 11"),
+        count("B", &example(), 0, 9, "refused 11"),
         count("B", &example(), 2, ENOUGH, "refused 10"),
-        count("ab", &across, 1, 18, "lines 1 steps 15"),
-        count("^$", &[keys(b"\n")], 0, 7, "lines 1 steps 3"),
-        count("^$", &[keys(b"a")], 0, 7, "lines 0 steps 3"),
-        count("a*", &[keys(b"\n")], 0, 8, "lines 1 steps 4"),
-        count("ab", &[keys(b"a\nb")], 0, 9, "lines 0 steps 11"),
-        count("a$", &[keys(b"a\r\n")], 0, 8, "lines 0"),
+        count("ab", &across, 1, 22, "lines 1 steps 15"),
+        count("^$", &[keys(b"\n")], 0, 9, "lines 1 steps 3"),
+        count("^$", &[keys(b"a")], 0, 9, "lines 0 steps 3"),
+        count("a*", &[keys(b"\n")], 0, 10, "lines 1 steps 4"),
+        count("ab", &[keys(b"a\nb")], 0, 11, "lines 0 steps 11"),
+        count("a$", &[keys(b"a\r\n")], 0, 10, "lines 1 steps 12"),
     ]
 }
 
@@ -54,17 +53,17 @@ fn shortcuts() -> Vec<Fixed> {
     let joined = [keys(b"xa"), keys(b"bx\n"), vec![call(0), call(1), call(0), call(1)]];
     let apart = [keys(b"ab\nb"), keys(b"a\nab"), vec![call(0), call(1)]];
     vec![
-        count("ab", &lone_end, 1, 18, "lines 0 steps 16"),
-        count("ab", &no_match, 1, 18, "lines 0"),
-        count("a", &[keys(b"a")], 0, 8, "lines 1 steps 4"),
-        count("a", &[keys(b"a\n")], 0, 8, "lines 1 steps 11"),
-        count("a", &[keys(b"b")], 0, 8, "lines 0 steps 4"),
-        count("a", &twice, 1, 16, "lines 1 steps 15"),
-        count("a", &closed, 1, 16, "lines 2 steps 16"),
-        count("ab", &joined, 2, 27, "lines 2"),
-        count("ab", &apart, 2, 27, "lines 2"),
-        count("ba", &apart, 2, 27, "lines 1"),
-        count("a|b", &apart, 2, 27, "lines 3"),
+        count("ab", &lone_end, 1, 22, "lines 0 steps 16"),
+        count("ab", &no_match, 1, 22, "lines 0"),
+        count("a", &[keys(b"a")], 0, 10, "lines 1 steps 4"),
+        count("a", &[keys(b"a\n")], 0, 10, "lines 1 steps 11"),
+        count("a", &[keys(b"b")], 0, 10, "lines 0 steps 4"),
+        count("a", &twice, 1, 20, "lines 1 steps 15"),
+        count("a", &closed, 1, 20, "lines 2 steps 16"),
+        count("ab", &joined, 2, 33, "lines 2"),
+        count("ab", &apart, 2, 33, "lines 2"),
+        count("ba", &apart, 2, 33, "lines 1"),
+        count("a|b", &apart, 2, 33, "lines 3"),
     ]
 }
 
@@ -87,11 +86,11 @@ fn tops() -> Vec<Fixed> {
     let a = u16::from(b'a');
     let beyond = vec![call(63), call(63)];
     vec![
-        count("a", &tower(), 63, 512, &format!("{top} 389")),
-        count("a", &tower(), 62, 504, "lines 9223372036854775807 steps 383"),
-        count("a", &tower_with(&[vec![call(63), call(0)]]), 64, 520, "refused 12"),
-        count("a", &tower_with(&[vec![call(63), call(0)]]), 63, 520, &format!("{top} 389")),
-        count("a", &tower_with(&[vec![call(63), call(0)]]), 64, 519, "refused 11"),
+        count("a", &tower(), 63, 640, &format!("{top} 389")),
+        count("a", &tower(), 62, 630, "lines 9223372036854775807 steps 383"),
+        count("a", &tower_with(&[vec![call(63), call(0)]]), 64, 650, "refused 12"),
+        count("a", &tower_with(&[vec![call(63), call(0)]]), 63, 650, &format!("{top} 389")),
+        count("a", &tower_with(&[vec![call(63), call(0)]]), 64, 649, "refused 11"),
         count("a", &tower_with(&[vec![call(63), a]]), 64, ENOUGH, "refused 12"),
         count("a", &tower_with(&[vec![call(63), 98]]), 64, ENOUGH, &format!("{top} 394")),
         count("a", &tower_with(&[vec![call(63), 98, 10]]), 64, ENOUGH, &format!("{top} 395")),
@@ -99,10 +98,10 @@ fn tops() -> Vec<Fixed> {
         count("a", &tower_with(&[vec![a, 10, call(63)]]), 64, ENOUGH, "refused 12"),
         count("a", &tower_with(&[vec![98, call(63)]]), 64, ENOUGH, &format!("{top} 396")),
         count("a", &tower_with(&[beyond.clone()]), 64, ENOUGH, "refused 12"),
-        count("a", &tower_with(&[beyond.clone(), vec![a]]), 65, 528, "lines 1 steps 398"),
-        count("a", &tower_with(&[beyond.clone(), vec![call(63)]]), 65, 528, &format!("{top} 398")),
-        count("a", &tower_with(&[beyond.clone(), vec![a, call(64)]]), 65, 528, "refused 12"),
-        count("b", &tower_with(&[beyond]), 64, 520, "lines 0"),
+        count("a", &tower_with(&[beyond.clone(), vec![a]]), 65, 660, "lines 1 steps 398"),
+        count("a", &tower_with(&[beyond.clone(), vec![call(63)]]), 65, 660, &format!("{top} 398")),
+        count("a", &tower_with(&[beyond.clone(), vec![a, call(64)]]), 65, 660, "refused 12"),
+        count("b", &tower_with(&[beyond]), 64, 650, "lines 0"),
     ]
 }
 

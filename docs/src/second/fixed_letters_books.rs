@@ -17,7 +17,7 @@ const RUNS: &[(&str, &str, &str, &str)] = &[
     ("^[^[:lower:]]*$", "CUE 7\ncue 7\n7\n\nCuE\n", "lines 3", "lines 2"),
     ("^$", "A\n\na\n", "lines 1", "lines 1"),
     ("kK$", "Kk", "lines 0", "lines 1"),
-    ("kK$", "Kk\nkK\r\n", "lines 0", "lines 1"),
+    ("kK$", "Kk\nkK\r\n", "lines 1", "lines 2"),
     ("A", "", "lines 0", "lines 0"),
     ("", "\0", "refused 7", "refused 7"),
     ("A**", "\0", "refused 8", "refused 8"),
@@ -71,8 +71,8 @@ fn hoists() -> Vec<Pair> {
         vec![call(2), call(3), call(4), call(2)],
     ];
     vec![
-        both("HOIST|haze", &book, 5, 96, ["lines 1", "lines 4"]),
-        both("HOIST|haze", &book, 2, 48, ["lines 0", "lines 1"]),
+        both("HOIST|haze", &book, 5, 108, ["lines 1", "lines 4"]),
+        both("HOIST|haze", &book, 2, 54, ["lines 0", "lines 1"]),
     ]
 }
 
@@ -82,14 +82,14 @@ fn steps() -> Vec<Pair> {
     let twice = [keys(b"A"), vec![call(0), call(0)]];
     let across = [keys(b"A"), vec![call(0), u16::from(b'B')]];
     vec![
-        both("a", &[keys(b"A\n")], 0, 8, ["lines 0 steps 7", "lines 1 steps 11"]),
-        both("A", &[keys(b"a\n")], 0, 8, ["lines 0 steps 7", "lines 1 steps 11"]),
-        both("a", &twice, 1, 16, ["lines 0 steps 11", "lines 1 steps 15"]),
-        both("[^a]", &[keys(b"Aa\n")], 0, 8, ["lines 1 steps 16", "lines 0 steps 10"]),
-        both("[Z-a]", &[keys(b"zA\n")], 0, 8, ["lines 0 steps 10", "lines 1 steps 18"]),
-        both("ab", &[keys(b"aB\n")], 0, 9, ["lines 0 steps 13", "lines 1 steps 17"]),
-        both("ab", &across, 1, 18, ["lines 0 steps 13", "lines 1 steps 15"]),
-        both("b", &example(), 1, 16, ["lines 0 steps 13", "lines 2 steps 17"]),
+        both("a", &[keys(b"A\n")], 0, 10, ["lines 0 steps 7", "lines 1 steps 11"]),
+        both("A", &[keys(b"a\n")], 0, 10, ["lines 0 steps 7", "lines 1 steps 11"]),
+        both("a", &twice, 1, 20, ["lines 0 steps 11", "lines 1 steps 15"]),
+        both("[^a]", &[keys(b"Aa\n")], 0, 10, ["lines 1 steps 16", "lines 0 steps 10"]),
+        both("[Z-a]", &[keys(b"zA\n")], 0, 10, ["lines 0 steps 10", "lines 1 steps 18"]),
+        both("ab", &[keys(b"aB\n")], 0, 11, ["lines 0 steps 13", "lines 1 steps 17"]),
+        both("ab", &across, 1, 22, ["lines 0 steps 13", "lines 1 steps 15"]),
+        both("b", &example(), 1, 20, ["lines 0 steps 13", "lines 2 steps 17"]),
     ]
 }
 
@@ -106,11 +106,11 @@ fn tops() -> Vec<Pair> {
     let open = [vec![call(63), u16::from(b'A')]];
     let lower = [tower(), over.to_vec()].concat();
     vec![
-        both("a", &upper_tower(&[]), 63, 512, ["lines 0 steps 385", top]),
-        both("a", &upper_tower(&[]), 63, 511, ["refused 11", "refused 11"]),
-        both("a", &upper_tower(&over), 64, 520, ["lines 0 steps 390", "refused 12"]),
-        both("a", &upper_tower(&open), 64, 520, ["lines 0 steps 390", "refused 12"]),
-        both("[^A]", &lower, 63, 512, [top, "lines 0 steps 385"]),
-        both("[^A]", &lower, 64, 520, ["refused 12", "lines 0 steps 390"]),
+        both("a", &upper_tower(&[]), 63, 640, ["lines 0 steps 385", top]),
+        both("a", &upper_tower(&[]), 63, 639, ["refused 11", "refused 11"]),
+        both("a", &upper_tower(&over), 64, 650, ["lines 0 steps 390", "refused 12"]),
+        both("a", &upper_tower(&open), 64, 650, ["lines 0 steps 390", "refused 12"]),
+        both("[^A]", &lower, 63, 640, [top, "lines 0 steps 385"]),
+        both("[^A]", &lower, 64, 650, ["refused 12", "lines 0 steps 390"]),
     ]
 }

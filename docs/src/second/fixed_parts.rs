@@ -128,15 +128,15 @@ fn joins() -> Vec<Fixed> {
     let key_c = open([2, 2, 4, 0]);
     let line = ended(1, 7, 0, 1);
     vec![
-        join(&key_b, &key_c, "report 4 0 0 0 0 10578302484079379267"),
-        join(&key_c, &key_b, "report 4 0 0 0 0 6757500766874190915"),
-        join(&line, &key_c, "report 4 1 7 0 2 none"),
-        join(&ended(1, 7, 0, 2), &line, "report 4 1 7 1 1 none"),
-        join(&line, &line, "report 4 1 7 1 1 none"),
-        join(&key_c, &line, "report 4 1 7 0 1 none"),
-        join(&key_c, &ended(1, 4, 5, 1), "report 4 1 4 5 1 none"),
-        join(&ended(1, 7, 5, 8), &ended(1, 7, 6, 2), "report 4 1 7 11 2 none"),
-        join(&ended(1, 7, 5, 8), &ended(1, 15, 6, 2), "report 4 1 7 12 2 none"),
+        join(&key_b, &key_c, "report 4 0 0 0 0 0 0 10578302484079379267"),
+        join(&key_c, &key_b, "report 4 0 0 0 0 0 0 6757500766874190915"),
+        join(&line, &key_c, "report 4 1 7 0 2 0 0 none"),
+        join(&ended(1, 7, 0, 2), &line, "report 4 1 7 1 1 0 0 none"),
+        join(&line, &line, "report 4 1 7 1 1 0 0 none"),
+        join(&key_c, &line, "report 4 1 7 0 1 0 0 none"),
+        join(&key_c, &ended(1, 4, 5, 1), "report 4 1 4 5 1 0 0 none"),
+        join(&ended(1, 7, 5, 8), &ended(1, 7, 6, 2), "report 4 1 7 11 2 0 0 none"),
+        join(&ended(1, 7, 5, 8), &ended(1, 15, 6, 2), "report 4 1 7 12 2 0 0 none"),
     ]
 }
 
@@ -145,21 +145,21 @@ fn join_edges() -> Vec<Fixed> {
     let max = u64::MAX;
     let with_s = |s: u64| Report { s, ..Report::empty(s) };
     let mut fixed = vec![
-        join(&ended(1, 7, max, 1), &ended(1, 6, 0, 2), "report 4 1 7 18446744073709551615 2 none"),
-        join(&ended(1, 7, max, 1), &ended(1, 7, 0, 2), "report 4 2 7 0 2 none"),
-        join(&ended(1, 7, 1 << 63, 1), &ended(1, 6, 1 << 63, 2), "report 4 2 7 0 2 none"),
-        join(&ended(2, 7, 9, 1), &ended(1, 6, 0, 2), "report 4 2 7 0 2 none"),
-        join(&ended(1, 7, 9, 1), &ended(9, 6, 0, 2), "report 4 2 7 0 2 none"),
-        join(&ended(max, 7, 9, 1), &open([2, 2, 4, 0]), "report 4 2 7 0 2 none"),
-        join(&open([2, 2, 4, 0]), &ended(256, 4, 9, 1), "report 4 2 4 0 1 none"),
-        join(&ended(1, max, 1, 1), &ended(1, 240, 1, max), "report 4 1 15 2 15 none"),
-        join(&open([18, 16, 0, 0]), &ended(1, 18, 1, 1), "report 4 1 1 1 1 none"),
-        join(&ended(0, 7, 9, 1), &ended(0, 7, 9, 1), "report 4 0 0 0 0 none"),
+        join(&ended(1, 7, max, 1), &ended(1, 6, 0, 2), "report 4 1 7 18446744073709551615 2 0 0 none"),
+        join(&ended(1, 7, max, 1), &ended(1, 7, 0, 2), "report 4 2 7 0 2 0 0 none"),
+        join(&ended(1, 7, 1 << 63, 1), &ended(1, 6, 1 << 63, 2), "report 4 2 7 0 2 0 0 none"),
+        join(&ended(2, 7, 9, 1), &ended(1, 6, 0, 2), "report 4 2 7 0 2 0 0 none"),
+        join(&ended(1, 7, 9, 1), &ended(9, 6, 0, 2), "report 4 2 7 0 2 0 0 none"),
+        join(&ended(max, 7, 9, 1), &open([2, 2, 4, 0]), "report 4 2 7 0 2 0 0 none"),
+        join(&open([2, 2, 4, 0]), &ended(256, 4, 9, 1), "report 4 2 4 0 1 0 0 none"),
+        join(&ended(1, max, 1, 1), &ended(1, 240, 1, max), "report 4 1 15 2 15 0 0 none"),
+        join(&open([18, 16, 0, 0]), &ended(1, 18, 1, 1), "report 4 1 1 1 1 0 0 none"),
+        join(&ended(0, 7, 9, 1), &ended(0, 7, 9, 1), "report 4 0 0 0 0 0 0 none"),
     ];
     for (left, right) in [(2, 2), (33, 33), (0, 0), (4, 5), (3, 259), (max, max)] {
         fixed.push(join(&with_s(left), &with_s(right), "refused 13"));
     }
-    fixed.push(join(&with_s(3), &with_s(3), "report 3 0 0 0 0 none"));
-    fixed.push(join(&with_s(32), &with_s(32), "report 32 0 0 0 0 none"));
+    fixed.push(join(&with_s(3), &with_s(3), "report 3 0 0 0 0 0 0 none"));
+    fixed.push(join(&with_s(32), &with_s(32), "report 32 0 0 0 0 0 0 none"));
     fixed
 }

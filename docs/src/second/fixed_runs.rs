@@ -3,15 +3,16 @@
 
 use crate::fixed::Fixed;
 use crate::letters::Letters;
+use crate::line_ends::closed;
 
-/// Pattern, run, answer (document 01, "Runs on both sides" and "Lines").
+/// Pattern, run, answer (document 01, "Runs on both sides" and "Lines", with the line ends of document 02, S-4).
 const RUNS: &[(&str, &str, &str)] = &[
     ("^$", "\n", "lines 1"),
     ("^$", "a", "lines 0"),
     ("a*", "\n", "lines 1"),
     ("ab", "ab", "lines 1"),
     ("ab", "a\nb", "lines 0"),
-    ("a$", "a\r\n", "lines 0"),
+    ("a$", "a\r\n", "lines 1"),
     ("^$", "", "lines 0"),
     ("^$", "\n\n\n", "lines 3"),
     ("^$", "\n\na", "lines 2"),
@@ -21,7 +22,7 @@ const RUNS: &[(&str, &str, &str)] = &[
     ("a", "aaaa\n", "lines 1"),
     ("a", "\na\n\nb\na", "lines 2"),
     ("a$|^b", "ab\nba\ncb\nca\nb", "lines 3"),
-    (".", "\n\r\n \n", "lines 2"),
+    (".", "\n\r\n \n", "lines 1"),
     ("[^a]", "\na\nb\n", "lines 1"),
     ("", "\0", "refused 7"),
     ("a**", "\0", "refused 8"),
@@ -59,9 +60,9 @@ fn run_of(pattern: &[u8], run: &[u8], stated: &str) -> Fixed {
     Fixed::run(Letters::Apart, pattern, run, stated)
 }
 
-/// One line for each key but LF.
+/// One line for each key but LF, CR too.
 fn every_key() -> Vec<u8> {
-    (1..=255u8).filter(|&key| key != 10).flat_map(|key| [key, 10]).collect()
+    (1..=255u8).filter(|&key| key != 10).flat_map(|key| closed(&[key])).collect()
 }
 
 /// Each class, and all keys but those of the class.

@@ -2,6 +2,7 @@
 
 use crate::fixed::Fixed;
 use crate::letters::Letters;
+use crate::line_ends::closed;
 
 /// From a key to a key, both included.
 pub type Ranges = &'static [(u8, u8)];
@@ -30,7 +31,7 @@ pub fn exactly(letters: Letters, pattern: &[u8], before: &[u8], wanted: impl Fn(
     let those: Vec<u8> = keys.iter().copied().filter(|&key| wanted(key)).collect();
     let stated = format!("lines {}", those.len());
     [keys, those].map(|keys| {
-        let run: Vec<u8> = keys.iter().flat_map(|&key| [before, &[key, 10]].concat()).collect();
+        let run: Vec<u8> = keys.iter().flat_map(|&key| closed(&[before, &[key]].concat())).collect();
         Fixed::run(letters, pattern, &run, &stated)
     })
 }

@@ -1,4 +1,4 @@
-//! A second program for document 01, and S-1 and S-2 of document 02, written apart from the first, to test
+//! A second program for document 01, and S-1, S-2 and S-4 of document 02, written apart from the first, to test
 //! it with. It works everything out by the definitions and prefers plainness to speed.
 
 mod answer;
@@ -35,13 +35,22 @@ mod fixed_letters;
 mod fixed_letters_books;
 mod fixed_lines;
 mod fixed_parts;
+mod fixed_returns;
+mod fixed_returns_books;
+mod fixed_returns_cuts;
+mod fixed_returns_huge;
+mod fixed_returns_joins;
 mod fixed_rows;
 mod fixed_runs;
 mod fixed_sets;
 mod fixed_whole;
 mod form;
 mod hash;
+mod join;
+mod join_by_states;
+mod kinds;
 mod letters;
+mod line_ends;
 mod make;
 mod make_book;
 mod make_bracket;
@@ -55,6 +64,7 @@ mod make_long;
 mod make_pattern;
 mod make_question;
 mod make_report;
+mod make_returns;
 mod make_rows;
 mod make_share;
 mod make_tree;
@@ -71,6 +81,8 @@ mod selftest_brackets;
 mod selftest_command;
 mod selftest_letters;
 mod selftest_patterns;
+mod selftest_returns;
+mod selftest_returns_made;
 mod states;
 mod summary;
 mod tally;

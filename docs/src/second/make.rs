@@ -10,7 +10,9 @@ use crate::make_line;
 use crate::make_question::question;
 use crate::make_report::pair;
 use crate::make_share;
+use crate::operations::COUNT_WORDS;
 use crate::question::Question;
+use crate::report::words_needed;
 use crate::rng::Rng;
 
 pub fn cases(seed: u64, count: u64) -> impl Iterator<Item = Case> {
@@ -108,7 +110,7 @@ fn number_near(rng: &mut Rng, count: usize) -> usize {
 /// Exactly as many words as needed, one less, more, or none.
 fn words_near(rng: &mut Rng, number: usize, question: &Question) -> usize {
     let atoms = question.read().map_or(1, |tree| tree.atoms());
-    let needed = (number.min(1023) + 1) * (atoms + 7);
+    let needed = words_needed(number.min(1023), atoms);
     let words = match rng.below(20) {
         0..=8 => needed,
         9..=10 => needed - 1,
@@ -116,7 +118,7 @@ fn words_near(rng: &mut Rng, number: usize, question: &Question) -> usize {
         12 => needed / 2,
         _ => needed + rng.below(20),
     };
-    words.min(36_864)
+    words.min(COUNT_WORDS)
 }
 
 /// Any book: sound, damaged, full, or mere bytes.

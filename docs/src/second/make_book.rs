@@ -2,6 +2,7 @@
 
 use crate::book::{FIRST_CALL, MARK, MOST_ITEMS};
 use crate::make_line;
+use crate::make_returns;
 use crate::question::Question;
 use crate::rng::Rng;
 
@@ -41,7 +42,8 @@ pub fn shallow(rng: &mut Rng, question: &Question) -> Macros {
     }
 }
 
-/// A run cut into small macros which higher ones call in order, so that lines cross several calls.
+/// A run cut into small macros which higher ones call in order, so that lines and their ends cross several
+/// calls.
 fn cut_run(rng: &mut Rng, question: &Question) -> Macros {
     let mut run = make_line::run(rng, question);
     if run.is_empty() {
@@ -51,7 +53,7 @@ fn cut_run(rng: &mut Rng, question: &Question) -> Macros {
     let mut level: Vec<u16> = Vec::new();
     let mut left = &run[..];
     while !left.is_empty() {
-        let (part, rest) = left.split_at(rng.between(1, left.len().min(6)));
+        let (part, rest) = left.split_at(make_returns::cut(rng, left, 6));
         level.push(call(macros.len()));
         macros.push(keys(part));
         left = rest;
@@ -110,15 +112,16 @@ fn lower(rng: &mut Rng, number: usize) -> usize {
     }
 }
 
-/// At least one key, a part of some line with or without its LF.
+/// At least one key: a line end or half of one, or a part of some line with or without its end.
 pub fn some_keys(rng: &mut Rng, question: &Question) -> Vec<u16> {
-    if rng.chance(18) {
-        return vec![10];
+    if rng.chance(22) {
+        return keys(make_returns::lone(rng));
     }
     let mut line = make_line::line(rng, question);
     if rng.chance(45) {
-        line.push(10);
+        line.extend_from_slice(make_returns::any_end(rng));
     }
+    make_returns::stray(rng, &mut line);
     if line.is_empty() {
         line.push(b'a');
     }

@@ -2,8 +2,10 @@
 //! 64-bit range, full books, and chains as deep as books allow.
 
 use crate::book::{MOST_ITEMS, MOST_MACROS};
+use crate::line_ends::closed;
 use crate::make_book::{call, grown, keys, some_keys, Macros};
 use crate::make_line;
+use crate::make_returns::any_end;
 use crate::operations::line_test;
 use crate::question::Question;
 use crate::rng::Rng;
@@ -59,18 +61,30 @@ fn two_lines(rng: &mut Rng, question: &Question) -> (Vec<u8>, Vec<u8>) {
     (good, bad)
 }
 
-/// Macro i holds 2^i matching lines; the one behind them calls as many as make a number just below,
-/// at or above 2^64 - 1; the last ones put keys before and behind.
+/// The matching line once, with an end, cut within it, or with its CR at the end and an LF at the front.
+fn one_line(rng: &mut Rng, good: &[u8]) -> Macros {
+    match rng.below(6) {
+        0 => vec![keys(&[good, b"\r"].concat()), keys(b"\n"), vec![call(0), call(1)]],
+        1 if !good.is_empty() => vec![keys(good), keys(b"\r"), keys(b"\n"), vec![call(0), call(1), call(2)]],
+        2 => vec![keys(&[b"\n", good, b"\r"].concat())],
+        3 => vec![keys(&[good, b"\r\n"].concat())],
+        _ => vec![keys(&closed(good))],
+    }
+}
+
+/// Macro i behind the first ones holds 2^i matching lines; the one behind them calls as many as make a number
+/// just below, at or above 2^64 - 1; the last ones put keys before and behind.
 fn near_top(rng: &mut Rng, question: &Question) -> Macros {
-    let (mut good, mut bad) = two_lines(rng, question);
-    good.push(10);
-    bad.push(10);
-    let mut macros = vec![keys(&good)];
-    for number in 1..=64 {
+    let (good, mut bad) = two_lines(rng, question);
+    bad.extend_from_slice(any_end(rng));
+    let mut macros = one_line(rng, &good);
+    let first = macros.len() - 1;
+    for number in first + 1..=first + 64 {
         macros.push(vec![call(number - 1), call(number - 1)]);
     }
     let wanted = (1u128 << 64) - 4 + rng.below(7) as u128;
-    let mut items: Vec<u16> = (0..=64).filter(|place| wanted >> place & 1 == 1).map(call).collect();
+    let places = (0..=64).filter(|place| wanted >> place & 1 == 1);
+    let mut items: Vec<u16> = places.map(|place| call(first + place)).collect();
     if rng.chance(50) {
         items.reverse();
     }
@@ -112,7 +126,7 @@ pub fn full(rng: &mut Rng, count: usize, items: usize, percent: usize) -> Macros
             if number > 0 && rng.chance(percent) {
                 call(rng.below(number))
             } else {
-                u16::from(rng.pick(b"aaabbbccx\n\n"))
+                u16::from(rng.pick(b"aaaabbbbcccx\r\n\n\n"))
             }
         });
         macros.push(one.collect());
@@ -126,7 +140,7 @@ pub fn chain(rng: &mut Rng, count: usize) -> Macros {
     for number in 1..count.min(MOST_MACROS) {
         let mut items = vec![call(number - 1)];
         if rng.chance(30) {
-            items.insert(rng.below(2), u16::from(rng.pick(b"aabc\n")));
+            items.insert(rng.below(2), u16::from(rng.pick(b"aabc\r\n\n")));
         }
         macros.push(items);
     }

@@ -1,8 +1,10 @@
 //! Seeded lines and runs, mostly derived from the pattern they are meant for.
 
 use crate::letters::Letters;
+use crate::line_ends::CR;
 use crate::make_letters::change_case;
 use crate::make_pattern::damage;
+use crate::make_returns;
 use crate::meaning::line_matches;
 use crate::question::Question;
 use crate::rng::Rng;
@@ -32,8 +34,8 @@ pub fn line(rng: &mut Rng, question: &Question) -> Vec<u8> {
         damage(rng, &mut line, keys);
     }
     change_case(rng, question.letters, &mut line);
-    if rng.chance(4) {
-        line.push(13);
+    if rng.chance(6) {
+        line.push(CR);
     }
     line.retain(|&key| key != 0 && key != 10);
     line
@@ -110,17 +112,22 @@ fn key_of(rng: &mut Rng, set: &Set, keys: &[u8]) -> u8 {
     }
 }
 
-/// Some lines, each closed by LF, the last one sometimes not; sometimes empty.
+/// Some lines, each closed, the last one sometimes not; sometimes empty, sometimes hardly more than a line end.
 pub fn run(rng: &mut Rng, question: &Question) -> Vec<u8> {
+    if rng.chance(4) {
+        return make_returns::lone(rng).to_vec();
+    }
+    let style = make_returns::style(rng);
     let mut run = Vec::new();
     for _ in 0..rng.below(7) {
         if rng.chance(85) {
             run.extend(line(rng, question));
         }
-        run.push(10);
+        run.extend_from_slice(make_returns::end(rng, style));
     }
     if rng.chance(45) {
         run.extend(line(rng, question));
     }
+    make_returns::stray(rng, &mut run);
     run
 }

@@ -2,12 +2,13 @@
 
 use crate::letters::Letters;
 use crate::make_pattern::{pattern, sound_pattern};
+use crate::make_returns;
 use crate::make_tree::Taste;
 use crate::question::Question;
 use crate::rng::Rng;
 use crate::tree::Pattern;
 
-/// At least `sound` percent of the patterns are sound.
+/// At least `sound` percent of the patterns are sound; some tell whether a CR belongs to its line.
 pub fn question(rng: &mut Rng, sound: usize) -> Question {
     let letters = some_letters(rng);
     question_with(rng, letters, sound)
@@ -18,6 +19,9 @@ pub fn some_letters(rng: &mut Rng) -> Letters {
 }
 
 pub fn question_with(rng: &mut Rng, letters: Letters, sound: usize) -> Question {
+    if rng.chance(16) {
+        return Question { letters, pattern: make_returns::pattern(rng) };
+    }
     let taste = taste_for(rng, letters);
     let pattern = if rng.chance(sound) { sound_pattern(rng, taste) } else { pattern(rng, taste) };
     Question { letters, pattern }

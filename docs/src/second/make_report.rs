@@ -1,7 +1,9 @@
 //! Seeded pairs of reports for joining: real ones, and any numbers at all.
 
+use crate::line_ends::LF;
 use crate::make_line;
 use crate::make_question::{some_letters, sound_question};
+use crate::make_returns;
 use crate::meaning::Tester;
 use crate::report::{Report, MOST_STATES};
 use crate::rng::Rng;
@@ -16,6 +18,12 @@ pub fn pair(rng: &mut Rng) -> (Report, Report) {
         }
         if rng.chance(30) {
             report.closed = near_top(rng);
+        }
+        if rng.chance(20) {
+            report.trimmed = thin(rng);
+        }
+        if rng.chance(20) {
+            report.edges = some_edges(rng);
         }
         if rng.chance(15) {
             report.flag = rng.pick(&[0, 1, 2, 3, 255, 256, 257, 1 << 32, u64::MAX]);
@@ -36,8 +44,12 @@ fn real(rng: &mut Rng) -> (Report, Report) {
     let mut one = |rng: &mut Rng| {
         let mut run = make_line::run(rng, &question);
         if rng.chance(40) {
-            run.retain(|&key| key != 10);
+            run.retain(|&key| key != LF);
         }
+        if rng.chance(20) {
+            run = make_returns::lone(rng).to_vec();
+        }
+        make_returns::stray(rng, &mut run);
         written::report(&states, &mut tester, &run)
     };
     (one(rng), one(rng))
@@ -54,9 +66,25 @@ fn any(rng: &mut Rng) -> (Report, Report) {
         report.heads = thin(rng);
         report.closed = near_top(rng);
         report.tail = thin(rng);
+        report.trimmed = thin(rng);
+        report.edges = some_edges(rng);
+        if rng.chance(25) {
+            // So a report without LF looks empty.
+            report.rows[0] |= 1;
+        }
         report
     };
     (one(rng), one(rng))
+}
+
+/// The two bits that are read, sometimes with others.
+fn some_edges(rng: &mut Rng) -> u64 {
+    let read = rng.below(4) as u64;
+    match rng.below(4) {
+        0 => read | rng.next() & !3,
+        1 => read | 4 << rng.below(62),
+        _ => read,
+    }
 }
 
 /// Few bits, so that sets sometimes have nothing in common; bits above 32 too.
@@ -80,10 +108,13 @@ fn near_top(rng: &mut Rng) -> u64 {
     }
 }
 
-/// Fills what the join must ignore: rows and bits at s and above, and what the flag empties.
+/// Fills what the join must ignore: rows and bits at s and above, and what the flag empties; of the last word
+/// all bits but two.
 fn rubbish(rng: &mut Rng, report: &mut Report) {
     let s = report.s.min(MOST_STATES as u64) as usize;
     let above = !((1u64 << s) - 1);
+    report.trimmed |= rng.next() & above;
+    report.edges |= rng.next() & !3;
     for row in report.rows[s..].iter_mut() {
         *row = rng.next();
     }

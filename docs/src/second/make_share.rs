@@ -4,6 +4,7 @@ use crate::case::Case;
 use crate::make::count_case;
 use crate::make_ends;
 use crate::make_question::some_letters;
+use crate::make_returns;
 use crate::make_rows;
 use crate::question::Question;
 use crate::rng::Rng;
@@ -36,10 +37,14 @@ pub fn question(rng: &mut Rng) -> Question {
 }
 
 fn run(rng: &mut Rng, question: &Question) -> Vec<u8> {
-    let lines: Vec<Vec<u8>> = (0..rng.between(1, 6)).map(|_| make_rows::line(rng, question)).collect();
-    let mut run = lines.join(&10);
+    let style = make_returns::style(rng);
+    let mut run = make_rows::line(rng, question);
+    for _ in 0..rng.below(6) {
+        run.extend_from_slice(make_returns::end(rng, style));
+        run.extend(make_rows::line(rng, question));
+    }
     if rng.chance(50) {
-        run.push(10);
+        run.extend_from_slice(make_returns::end(rng, style));
     }
     run
 }

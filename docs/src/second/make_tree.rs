@@ -7,7 +7,7 @@ use crate::rng::Rng;
 use crate::tree::*;
 
 /// Plain bytes beyond the small alphabet.
-const ODD: &[u8] = b"]}-/ :=,\t\r\"09AZz~\x01\x7f\x80\x9b\xc3\xff";
+const ODD: &[u8] = b"]}-/ :=,\t\r\r\r\r\"09AZz~\x01\x7f\x80\x9b\xc3\xff";
 /// Letters of both cases, and plain bytes next to them or 32 away from others.
 const CASED: &[u8] = b"aaabbbcckzAAABBBCCKZ";
 const CASED_ODD: &[u8] = b"@@``]}_MNmnYy!:;\x7f\xc1\xc1\xe1\xe1\xda\xfa";
@@ -34,7 +34,7 @@ pub fn tree(rng: &mut Rng, atoms: usize, taste: Taste) -> Pattern {
 
 fn branch(rng: &mut Rng, atoms: usize, taste: Taste) -> Branch {
     let start = rng.chance(32);
-    let end = rng.chance(32);
+    let end = rng.chance(38);
     Branch { start, end, pieces: pieces(rng, atoms, taste) }
 }
 

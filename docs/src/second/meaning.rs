@@ -1,6 +1,7 @@
 //! The line test by the meaning (document 01, "Patterns", last paragraph). No states here: a part of
 //! the pattern is asked where it can end when it may begin at any of some places in the line.
 
+use crate::line_ends::lines;
 use crate::tree::*;
 use std::collections::{BTreeSet, HashMap};
 
@@ -98,14 +99,4 @@ impl<'a> Tester<'a> {
     pub fn count(&mut self, run: &[u8]) -> u64 {
         lines(run).iter().map(|line| u64::from(self.matches(line))).sum()
     }
-}
-
-/// The lines of a run (document 01, "Lines"): every LF closes one, empty or not; keys after the last
-/// LF form one more if there is at least one.
-pub fn lines(run: &[u8]) -> Vec<&[u8]> {
-    let mut parts: Vec<&[u8]> = run.split(|&key| key == 10).collect();
-    if parts.last().map_or(false, |last| last.is_empty()) {
-        parts.pop();
-    }
-    parts
 }

@@ -6,10 +6,12 @@ use crate::letters::Letters;
 use crate::meaning::{line_matches, Tester};
 use crate::question::Question;
 use crate::refusal::*;
+use crate::report::words_needed;
 
 pub const CUECOUNT_WORDS: usize = 4_096;
 pub const CUECOUNT_BYTES: usize = 8_192;
-pub const COUNT_WORDS: usize = 36_864;
+/// Enough for every book and pattern: 1,024 times 38.
+pub const COUNT_WORDS: usize = 38_912;
 
 /// The one-line test: the pattern first, then the line.
 pub fn line_test(question: &Question, line: &[u8]) -> Result<bool, Refusal> {
@@ -93,8 +95,7 @@ pub fn book_count(
     if number >= book.macros.len() {
         return Err(NO_SUCH_MACRO);
     }
-    let states = pattern.atoms() + 3;
-    if work.len() < (number + 1) * (states + 4) {
+    if work.len() < words_needed(number, pattern.atoms()) {
         return Err(SHORT_WORK);
     }
     let counted = count(&book, &pattern, number);

@@ -39,7 +39,7 @@ fn files(checks: &mut Checks) {
         checks.check(patterns(file.as_bytes()) == lines, || format!("patterns of {file:?}"));
     }
     checks.check(patterns(b"").is_err(), || String::from("patterns of an empty file"));
-    checks.check(patterns(&vec![b'a'; 400_000]).is_err(), || String::from("a pattern longer than a stream"));
+    checks.check(patterns(&vec![b'a'; 500_000]).is_err(), || String::from("a pattern longer than a stream"));
     checks.check(read("/nowhere/patterns").is_err(), || String::from("patterns of a file that is not there"));
 }
 

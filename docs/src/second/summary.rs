@@ -1,9 +1,11 @@
-//! The second method, for runs too long to write out: what each macro does to the states is kept and
-//! put together item by item, lower macros first (they are the only ones that can be called).
+//! The second method, for runs too long to write out: what each macro does to the states of all kinds is kept
+//! and put together item by item, lower macros first (they are the only ones that can be called).
 
 use crate::book::{item, Book, Item};
-use crate::report::Report;
-use crate::states::{bit, holds, States, LINE_START};
+use crate::kinds::{Kinds, Machine};
+use crate::line_ends::LF;
+use crate::report::{Report, BEGINS_WITH_LF, ENDS_IN_CR};
+use crate::states::{bit, States, FOUND, LINE_START, MID_LINE};
 
 /// More than any count that is answered; sums stop here so that they stay small.
 const TOO_HIGH: u128 = 1 << 64;
@@ -11,26 +13,27 @@ const TOO_HIGH: u128 = 1 << 64;
 /// What the items read so far do.
 #[derive(Clone)]
 pub struct Summary {
-    /// From each state, until the first LF.
-    rows: Vec<u64>,
+    /// From each state of each kind, until the first LF.
+    rows: Vec<Kinds>,
     /// Whether an LF was met; from there on only the fields below change.
     ended: bool,
-    heads: u64,
+    heads: Kinds,
     closed: u128,
-    tail: u64,
+    tail: Kinds,
     /// The pairs of states met before the items.
     pub steps: u64,
 }
 
 pub fn summaries(book: &Book, states: &States, last: usize) -> Vec<Summary> {
+    let machine = Machine { states };
     let mut done: Vec<Summary> = Vec::new();
     for number in 0..=last {
-        let mut summary = Summary::nothing(states);
+        let mut summary = Summary::nothing(&machine);
         for &written in book.items(number) {
-            summary.steps += summary.pairs();
+            summary.steps += summary.pairs(&machine);
             match item(written) {
-                Item::Key(10) => summary.line_end(states.accepting),
-                Item::Key(key) => summary.pass(|set| states.moves_of_set(set, key)),
+                Item::Key(LF) => summary.line_end(machine.closing(), machine.plain(bit(LINE_START))),
+                Item::Key(key) => summary.pass(|set| machine.lead(set, key)),
                 Item::Call(called) => summary.call(&done[called]),
             }
         }
@@ -40,42 +43,44 @@ pub fn summaries(book: &Book, states: &States, last: usize) -> Vec<Summary> {
 }
 
 impl Summary {
-    fn nothing(states: &States) -> Summary {
-        let rows = (0..states.s).map(bit).collect();
+    fn nothing(machine: &Machine) -> Summary {
+        let rows = (0..machine.size()).map(|place| 1 << place).collect();
         Summary { rows, ended: false, heads: 0, closed: 0, tail: 0, steps: 0 }
     }
 
-    fn pairs(&self) -> u64 {
+    /// Of states by all keys, from every state or from line-start alone.
+    fn pairs(&self, machine: &Machine) -> u64 {
+        let count = |set: &Kinds| u64::from(machine.reached(*set).count_ones());
         if self.ended {
-            return u64::from(self.tail.count_ones());
+            return count(&self.tail);
         }
-        self.rows.iter().map(|row| u64::from(row.count_ones())).sum()
+        self.rows[..machine.states.s].iter().map(count).sum()
     }
 
     /// Something without LF.
-    fn pass<F: Fn(u64) -> u64>(&mut self, lead: F) {
+    fn pass<F: Fn(Kinds) -> Kinds>(&mut self, lead: F) {
         if self.ended {
             self.tail = lead(self.tail);
-        } else {
-            for row in self.rows.iter_mut() {
-                *row = lead(*row);
-            }
+            return;
+        }
+        for row in self.rows.iter_mut() {
+            *row = lead(*row);
         }
     }
 
-    /// An LF, or the first line of something; `good` are the states from which that line is accepted.
-    fn line_end(&mut self, good: u64) {
+    /// An LF, or something from its first line on; `good` are those from which that line is accepted.
+    fn line_end(&mut self, good: Kinds, tail: Kinds) {
         if self.ended {
             self.closed += u128::from(self.tail & good != 0);
         } else {
-            for (state, row) in self.rows.iter().enumerate() {
+            for (place, row) in self.rows.iter().enumerate() {
                 if row & good != 0 {
-                    self.heads |= bit(state);
+                    self.heads |= 1 << place;
                 }
             }
         }
         self.ended = true;
-        self.tail = bit(LINE_START);
+        self.tail = tail;
     }
 
     fn call(&mut self, called: &Summary) {
@@ -83,19 +88,30 @@ impl Summary {
             self.pass(|set| union(&called.rows, set));
             return;
         }
-        self.line_end(called.heads);
+        self.line_end(called.heads, called.tail);
         self.closed = (self.closed + called.closed).min(TOO_HIGH);
-        self.tail = called.tail;
     }
 
-    pub fn report(&self) -> Report {
-        let mut report = Report::empty(self.rows.len() as u64);
+    /// Of a macro, so of at least one key.
+    pub fn report(&self, states: &States) -> Report {
+        let machine = Machine { states };
+        let mut report = Report::empty(states.s as u64);
+        let accepted = |set: &Kinds| machine.held(*set) & states.accepting != 0;
+        let open = if self.ended { self.tail } else { self.rows[MID_LINE] };
+        // Some state is always reached, so there is something before a final CR; and only an LF helps what waits.
+        let ends = machine.held(open) != 0;
+        let begins = self.heads & machine.before(bit(FOUND)) != 0;
+        report.edges = BEGINS_WITH_LF * u64::from(begins) + ENDS_IN_CR * u64::from(ends);
         if !self.ended {
-            report.rows[..self.rows.len()].copy_from_slice(&self.rows);
+            for (state, row) in self.rows[..states.s].iter().enumerate() {
+                report.rows[state] = machine.reached(*row);
+                report.trimmed |= if accepted(row) { bit(state) } else { 0 };
+            }
             return report;
         }
-        report.heads = self.heads;
-        report.tail = self.tail;
+        report.trimmed = if accepted(&self.tail) { bit(LINE_START) } else { 0 };
+        report.heads = machine.plain_part(self.heads);
+        report.tail = machine.reached(self.tail);
         report.flag = 2;
         if let Ok(closed) = u64::try_from(self.closed) {
             report.flag = 1;
@@ -105,6 +121,12 @@ impl Summary {
     }
 }
 
-fn union(rows: &[u64], set: u64) -> u64 {
-    rows.iter().enumerate().filter(|(state, _)| holds(set, *state)).fold(0, |all, (_, row)| all | row)
+fn union(rows: &[Kinds], set: Kinds) -> Kinds {
+    let mut all = 0;
+    let mut left = set;
+    while left != 0 {
+        all |= rows[left.trailing_zeros() as usize];
+        left &= left - 1;
+    }
+    all
 }
