@@ -129,7 +129,7 @@ beside command bash tests/rakvinje.sh
 
 mkdir -p target/examples
 single "it writes the examples" "$room/write" target/examples
-for book in document01.mbk arena.mbk; do
+for book in document01.mbk laptop.mbk arena.mbk; do
     single "examples/$book is what it writes" cmp "target/examples/$book" "examples/$book"
 done
 

@@ -10,6 +10,7 @@ cd "$(dirname "$0")/.." || exit 2
 r=./rakvinje
 small=examples/document01.mbk
 arena=examples/arena.mbk
+laptop=examples/laptop.mbk
 
 # book NAME BYTES: a book of these bytes (written as printf escapes).
 book() {
@@ -78,6 +79,32 @@ expect 1 'refused 8' '*not of the form*' "$r" count -i '[a-Z]' "$small"
 expect 1 'refused 8' '*not of the form*' "$r" count -i '[[:UPPER:]]' "$small"
 expect 1 'refused 9' '*over 29 atoms*' "$r" count -i "$(many x 30)" "$small"
 expect 1 'refused 10' '*no macro of that number*' "$r" count -i B "$small" 2
+
+# Line ends of desktop editors: GO CR, LF, HAZE GO CR LF, GO CR in macros of their own.
+cr=$'\r'
+expect 0 'lines 2 steps 63' '' "$r" count 'GO$' "$laptop"
+expect 0 'lines 2 steps 63' '' "$r" count 'GO$' - <"$laptop"
+expect 0 'lines 2 steps 63' '' "$r" count -i 'go$' "$laptop"
+expect 0 'lines 0 steps 55' '' "$r" count 'go$' "$laptop"
+expect 0 'lines 1 steps 57' '' "$r" count '^GO$' "$laptop"
+expect 0 'lines 1 steps 53' '' "$r" count 'GO$' "$laptop" 2
+expect 0 'lines 0 steps 15' '' "$r" count 'GO$' "$laptop" 0
+expect 0 'lines 1 steps 12' '' "$r" count '^$' "$laptop" 1
+expect 0 'lines 0 steps 47' '' "$r" count '^$' "$laptop"
+expect 0 'lines 1 steps 59' '' "$r" count "$cr" "$laptop"
+expect 0 'lines 1 steps 71' '' "$r" count "GO$cr\$" "$laptop"
+# a CR CR LF CR: of two CRs one stays, and the last is a key.
+book returns 'MBK\1\0\1\0\5\0a\0\r\0\r\0\n\0\r\0'
+expect 0 'lines 0 steps 16' '' "$r" count 'a$' "$room/returns"
+expect 0 'lines 1 steps 19' '' "$r" count "a$cr\$" "$room/returns"
+expect 0 'lines 1 steps 14' '' "$r" count "^$cr\$" "$room/returns"
+expect 0 'lines 0 steps 13' '' "$r" count '^$' "$room/returns"
+expect 0 'lines 2 steps 22' '' "$r" count "$cr" "$room/returns"
+# CR and LF each alone in a macro: a CR, LF, CR, LF.
+book alone 'MBK\1\0\4\0\1\0\r\0\1\0\n\0\2\0a\0\0\1\4\0\2\1\1\1\0\1\1\1'
+expect 0 'lines 1 steps 26' '' "$r" count 'a$' "$room/alone"
+expect 0 'lines 1 steps 20' '' "$r" count '^$' "$room/alone"
+expect 0 'lines 0 steps 30' '' "$r" count "$cr" "$room/alone"
 
 # Check.
 expect 0 'sound version 1 macros 2 items 5 bytes 21' '' "$r" check "$small"

@@ -15,8 +15,8 @@ ghost use Rattle.counter.specs.Counting.{mostWords};
 // The bytes in front of a count's pattern.
 const HEAD: usize = 13;
 
-// The bytes of a joining: its kind and two reports of 37 numbers.
-const JOINING: usize = 593;
+// The bytes of a joining: its kind and two reports of 39 numbers.
+const JOINING: usize = 625;
 
 // Counts with these work words. Their hash is printed after a refusal too: it shows what the count left there.
 fn count_in(book: &[u8], pattern: &[u8], case: Case, m: usize, work: &mut [u64])
@@ -63,6 +63,6 @@ pub(crate) fn joining(bytes: &[u8]) -> usize
     if bytes.len() < JOINING {
         return 0;
     }
-    show::joined(join(report(bytes, 1), report(bytes, 297)));
+    show::joined(join(report(bytes, 1), report(bytes, 313)));
     JOINING
 }

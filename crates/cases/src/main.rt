@@ -9,7 +9,7 @@ mod stream;
 
 fn main() {
     // A stream is at most this long.
-    let mut space = [0; 327680];
+    let mut space = [0; 458752];
     let n = io::read_full(libc::STDIN_FILENO, &mut space);
     stream::all(&space[..n]);
 }

@@ -47,9 +47,9 @@ fn rows(bytes: &[u8], at: usize) -> [u64; 32]
     rows
 }
 
-// A report of 37 numbers, in the order of its fields.
+// A report of 39 numbers, in the order of its fields.
 pub(crate) fn report(bytes: &[u8], at: usize) -> Report
-    requires { ⌜ at + 296 ≤ length (now bytes) ⌝ }
+    requires { ⌜ at + 312 ≤ length (now bytes) ⌝ }
 {
     let rows = rows(bytes, at + 8);
     Report {
@@ -59,6 +59,8 @@ pub(crate) fn report(bytes: &[u8], at: usize) -> Report
         heads: large(bytes, at + 272),
         closed: large(bytes, at + 280),
         tail: large(bytes, at + 288),
+        trimmed: large(bytes, at + 296),
+        edges: large(bytes, at + 304),
     }
 }
 

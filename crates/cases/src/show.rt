@@ -61,6 +61,8 @@ fn report(r: Report) {
     named(b" ", r.heads);
     named(b" ", r.closed);
     named(b" ", r.tail);
+    named(b" ", r.trimmed);
+    named(b" ", r.edges);
     named(b" ", hash(&rows));
 }
 

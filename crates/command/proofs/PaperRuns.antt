@@ -1,5 +1,5 @@
--- Document 01, "Runs on both sides": the runs marked *, with the program's own example, in one table, and what document 02 says of case; and
--- that each is as the papers say.
+-- Document 01, "Runs on both sides": the runs marked *, with the program's own example, in one table, and what document 02 says of case and of
+-- line ends; and that each is as the papers say.
 use Prim.Native.Nat.{ℕ}
 use mathlib.Core.Path.{_≡_, refl}
 use mathlib.Core.Bool.{Bool, true, _&&_, xor}
@@ -21,7 +21,7 @@ use Rattle.pattern.specs.States as positions
 use Rattle.pattern.specs.Moves.{enters, target, move, leads}
 use Rattle.pattern.specs.Reader.{Read, accepted, refused, readRepeat, readExpr, readBranch, readBranches, readPattern}
 use Rattle.brackets.specs.Brackets.{sameBytes, findClass, readElement, readElements, readBracket, readAtom}
-use Rattle.lines.specs.Lines.{lines, countIn, matching}
+use Rattle.lines.specs.Lines.{trimmed, lines, countIn, matching}
 use Rattle.counter.specs.Front.{spaceStep}
 use Rattle.counter.specs.Counting.{Outcome, itemSteps, steps, countResult}
 use Rattle.spans.specs.Pairs.{pairs}
@@ -55,7 +55,7 @@ readFigures (refused r) = refusedFor r
 
 -- The work words of a count here: enough for every row.
 abbrev work : List ℕ
-work = replicate 18 0
+work = replicate 40 0
 
 -- What is answered, by the definitions that the contracts cite.
 pub answerTo : Question → Figures ℕ
@@ -96,8 +96,8 @@ table =
     ∷ row (countsBook Sensitive (97 ∷ 98 ∷ []) (0x4D ∷ 0x42 ∷ 0x4B ∷ 1 ∷ 0 ∷ 2 ∷ 0 ∷ 1 ∷ 0 ∷ 97 ∷ 0 ∷ 2 ∷ 0 ∷ 0 ∷ 1 ∷ 98 ∷ 0 ∷ []) 1) 0 1
     -- `ab`: run `a` LF `b`: 0
     ∷ row (counts Sensitive (97 ∷ 98 ∷ []) (97 ∷ 10 ∷ 98 ∷ [])) 0 0
-    -- `a$`: run `a` CR LF: 0
-    ∷ row (counts Sensitive (97 ∷ 36 ∷ []) (97 ∷ 13 ∷ 10 ∷ [])) 0 0
+    -- document 02, S-4: "Document 01's case `a$` on `a` CR LF becomes 1"
+    ∷ row (counts Sensitive (97 ∷ 36 ∷ []) (97 ∷ 13 ∷ 10 ∷ [])) 0 1
     -- `[]a]` matches `]`; `[--/]` matches `.`
     ∷ row (tests Sensitive (91 ∷ 93 ∷ 97 ∷ 93 ∷ []) (93 ∷ [])) 0 1
     ∷ row (tests Sensitive (91 ∷ 45 ∷ 45 ∷ 47 ∷ 93 ∷ []) (46 ∷ [])) 0 1
@@ -121,6 +121,17 @@ table =
     ∷ row (tests Ignored (91 ∷ 64 ∷ 45 ∷ 91 ∷ 93 ∷ []) (97 ∷ [])) 0 1
     ∷ row (tests Ignored (91 ∷ 64 ∷ 45 ∷ 91 ∷ 93 ∷ []) (123 ∷ [])) 0 0
     ∷ row (tests Ignored (91 ∷ 64 ∷ 45 ∷ 91 ∷ 93 ∷ []) (96 ∷ [])) 0 0
+    -- document 02, S-4: "CR LF alone is an empty line": `^$` counts it
+    ∷ row (counts Sensitive (94 ∷ 36 ∷ []) (13 ∷ 10 ∷ [])) 0 1
+    -- "A CR that no LF follows is a key as before, at the end of the run too": `a$` on `a` CR, and `ab$` on `a` CR `b` LF: 0; of two CRs before LF one stays
+    ∷ row (counts Sensitive (97 ∷ 36 ∷ []) (97 ∷ 13 ∷ [])) 0 0
+    ∷ row (counts Sensitive (97 ∷ 98 ∷ 36 ∷ []) (97 ∷ 13 ∷ 98 ∷ 10 ∷ [])) 0 0
+    ∷ row (counts Sensitive (97 ∷ 36 ∷ []) (97 ∷ 13 ∷ 13 ∷ 10 ∷ [])) 0 0
+    -- "also where the CR closes one macro and the LF opens the next, or the CR is alone in its macro"
+    ∷ row (countsBook Sensitive (97 ∷ 36 ∷ []) (0x4D ∷ 0x42 ∷ 0x4B ∷ 1 ∷ 0 ∷ 3 ∷ 0 ∷ 2 ∷ 0 ∷ 97 ∷ 0 ∷ 13 ∷ 0 ∷ 1 ∷ 0 ∷ 10 ∷ 0 ∷ 2 ∷ 0 ∷ 0 ∷ 1 ∷ 1 ∷ 1 ∷ []) 2) 0 1
+    ∷ row (countsBook Sensitive (97 ∷ 36 ∷ []) (0x4D ∷ 0x42 ∷ 0x4B ∷ 1 ∷ 0 ∷ 4 ∷ 0 ∷ 1 ∷ 0 ∷ 13 ∷ 0 ∷ 2 ∷ 0 ∷ 97 ∷ 0 ∷ 0 ∷ 1 ∷ 1 ∷ 0 ∷ 10 ∷ 0 ∷ 2 ∷ 0 ∷ 1 ∷ 1 ∷ 2 ∷ 1 ∷ []) 3) 0 1
+    -- `GO$` finds it
+    ∷ row (counts Sensitive (71 ∷ 79 ∷ 36 ∷ []) (71 ∷ 79 ∷ 13 ∷ 10 ∷ [])) 0 1
     ∷ []
 
 -- The test of a row, and of them all.
@@ -133,10 +144,10 @@ allHold (r ∷ rs) = holds r && allHold rs
 
 -- every row is as the papers say
 pub paper-runs : allHold table ≡ true
-unfolding table allHold answerTo classNames atoms atomCount sameBytes findClass readElement readElements readBracket readAtom readRepeat readExpr readBranch readBranches readPattern classRanges inRanges inElement inElements named setOf folded otherCase repeated takes matchesFrom someMatches matches lines countIn matching readItem readItems readMacro readMacros readHeader readAll readBook expand expandTo expansion lineOf runOf lineResult runResult spaceStep countResult firstPart laterParts lastPart sumBelow pairs itemSteps steps anyBelow countBelow nothing first last follow someBranch positions.holds enters target move leads patternEnd lastResult programResult programAnswer xor
+unfolding table allHold answerTo classNames atoms atomCount sameBytes findClass readElement readElements readBracket readAtom readRepeat readExpr readBranch readBranches readPattern classRanges inRanges inElement inElements named setOf folded otherCase repeated takes matchesFrom someMatches matches trimmed lines countIn matching readItem readItems readMacro readMacros readHeader readAll readBook expand expandTo expansion lineOf runOf lineResult runResult spaceStep countResult firstPart laterParts lastPart sumBelow pairs itemSteps steps anyBelow countBelow nothing first last follow someBranch positions.holds enters target move leads patternEnd lastResult programResult programAnswer xor
 paper-runs = refl
 
 -- the program's example, whole
 pub example-told : programAnswer example ≡ record { refusal = 0; lines = 2; steps = 17 }
-unfolding classNames atoms atomCount sameBytes findClass readElement readElements readBracket readAtom readRepeat readExpr readBranch readBranches readPattern classRanges inRanges inElement inElements named setOf folded otherCase repeated takes matchesFrom someMatches matches lines countIn matching readItem readItems readMacro readMacros readHeader readAll readBook expand expandTo expansion lineOf runOf lineResult runResult spaceStep countResult firstPart laterParts lastPart sumBelow pairs itemSteps steps anyBelow countBelow nothing first last follow someBranch positions.holds enters target move leads patternEnd lastResult programResult programAnswer xor
+unfolding classNames atoms atomCount sameBytes findClass readElement readElements readBracket readAtom readRepeat readExpr readBranch readBranches readPattern classRanges inRanges inElement inElements named setOf folded otherCase repeated takes matchesFrom someMatches matches trimmed lines countIn matching readItem readItems readMacro readMacros readHeader readAll readBook expand expandTo expansion lineOf runOf lineResult runResult spaceStep countResult firstPart laterParts lastPart sumBelow pairs itemSteps steps anyBelow countBelow nothing first last follow someBranch positions.holds enters target move leads patternEnd lastResult programResult programAnswer xor
 example-told = refl

@@ -42,7 +42,7 @@ itemsTo ms m = sumBelow (suc m) (λ i. length (getD ms i []))
 
 -- Work words.
 
--- "A count needs (m + 1) × (s + 4) words (64 bits) of work space": s + 4 for each macro's report
+-- "A count needs (m + 1) × (s + 4) words (64 bits) of work space", with "two more work words a macro" (document 02, S-4)
 abbrev pub reportSize : Query → ℕ
 reportSize t = states t + behindRows
 

@@ -124,7 +124,7 @@ fn counted_sound(
 }
 
 // How many lines of macro m's run match a pattern, with case ignored or not, and the steps (document 01, "States and steps", "Reports",
-// "Refused"). The first (m + 1) × (s + 4) work words then hold the reports of macros 0 to m.
+// "Refused"). The first (m + 1) × (s + 6) work words then hold the reports of macros 0 to m.
 pub fn count_book(book: &[u8], pattern: &[u8], case: Case, m: usize, work: &mut [u64]) -> BookCount
     ensures { λ r. ⌜ outcome r (now (work .exit)) ≡ countResult case (readBook (now (book .entry))) (readPattern (now (pattern .entry))) m (now (work .entry)) ⌝ }
 {

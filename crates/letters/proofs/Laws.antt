@@ -68,22 +68,22 @@ folded-constant Case.Sensitive b k = refl
 folded-constant Case.Ignored true k = refl
 folded-constant Case.Ignored false k = refl
 
--- The other case of a number: it has the number as its own other case, is a key of a line if the number is, and none from 0 to 10 has another.
+-- The other case of a number: it has the number as its own other case, is a key of a line if the number is, and none below 65 has another.
 pub record Other (j k : ℕ) : Type 0 where
   pub back : otherCase k ≡ j
   pub key : lineKey k ≡ lineKey j
-  pub small : (n : ℕ) → n ≤ 10 → eqb n k ≡ eqb n j
+  pub small : (n : ℕ) → n < 65 → eqb n k ≡ eqb n j
   pub byte : j < 256 → k < 256
 
--- a number from 11 to 255 is a key of a line, and none of the smaller ones
-in-line : (k : ℕ) → 10 < k → k < 256 → lineKey k ≡ true
+-- a number from 65 to 255 is a key of a line, and none of the smaller ones
+in-line : (k : ℕ) → 64 < k → k < 256 → lineKey k ≡ true
 in-line k g h = rw (le-leb 1 k (omega arith), le-leb k 255 (omega arith), ne-eqb k 10 (omega arith)) refl
 
-no-small : (n k : ℕ) → n ≤ 10 → 10 < k → eqb n k ≡ false
+no-small : (n k : ℕ) → n < 65 → 64 < k → eqb n k ≡ false
 no-small n k h g = ne-eqb n k (omega arith)
 
 -- two letters
-letters : (j k : ℕ) → 10 < j → 10 < k → j < 256 → k < 256 → otherCase k ≡ j → Other j k
+letters : (j k : ℕ) → 64 < j → 64 < k → j < 256 → k < 256 → otherCase k ≡ j → Other j k
 letters j k a b c d e =
     record { back = e; key = in-line k b d ∙ sym (in-line j a c); small = λ n h. no-small n k h b ∙ sym (no-small n j h a); byte = λ h. d }
 

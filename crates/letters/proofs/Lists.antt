@@ -1,5 +1,5 @@
 -- Lists that are in a relation entry by entry.
-use Prim.Native.Nat.{ℕ, _≤_}
+use Prim.Native.Nat.{ℕ, _<_}
 use mathlib.Core.Path.{_≡_, refl, sym, ap}
 use mathlib.Core.Logic.{inl, inr}
 use mathlib.Core.List.{List, [], _∷_, _++_}
@@ -45,8 +45,8 @@ pub letter-sym : (j k : ℕ) → SameLetter j k → SameLetter k j
 letter-sym j k (inl e) = inl (sym e)
 letter-sym j k (inr e) = inr (rw e (sym (other j .back)))
 
--- a number up to 10, none of which is a letter, is in both or in neither
-pub letters-member : (n : ℕ) → n ≤ 10 → (u v : List ℕ) → SameLetters u v → member n v ≡ member n u
+-- a number below 65, none of which is a letter, is in both or in neither
+pub letters-member : (n : ℕ) → n < 65 → (u v : List ℕ) → SameLetters u v → member n v ≡ member n u
 letters-member n h [] [] e = refl
 letters-member n h (j ∷ u) (k ∷ v) (s, e) = rw (letter-test (eqb n) (λ i. other i .small n h) j k s, letters-member n h u v e) refl
 

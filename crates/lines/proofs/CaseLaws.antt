@@ -17,25 +17,57 @@ use Rattle.pattern.specs.Form.{Pattern}
 use Rattle.pattern.specs.Meaning.{query, matches}
 use Rattle.pattern.specs.Reader.{Read, accepted, refused}
 use Rattle.pattern.proofs.CaseLaws.{letters-same}
-use Rattle.lines.specs.Lines.{onto, lines, countIn, matching}
+use Rattle.lines.specs.Parts.{firstPart, laterParts}
+use Rattle.lines.specs.Lines.{carriageReturn, trimmed, linesFrom, lines, countIn, matching}
 use Rattle.lines.specs.Answers.{lineOf, runOf, lineResult, runResult}
 
 -- two runs' lines, one by one
 abbrev SameLines : List (List ℕ) → List (List ℕ) → Type 0
 SameLines ls ms = Each SameLetters ls ms
 
-onto-same : (j k : ℕ) → SameLetter j k → (ls ms : List (List ℕ)) → SameLines ls ms → SameLines (onto j ls) (onto k ms)
-onto-same j k s [] [] e = ((s, tt), tt)
-onto-same j k s (l ∷ ls) (m ∷ ms) (f, e) = ((s, f), e)
+-- LF and CR are no letters
+end-same : (j k : ℕ) → SameLetter j k → eqb lineEnd k ≡ eqb lineEnd j
+end-same = letter-test (eqb lineEnd) (λ i. other i .small lineEnd (omega arith))
+
+return-same : (j k : ℕ) → SameLetter j k → eqb carriageReturn k ≡ eqb carriageReturn j
+return-same = letter-test (eqb carriageReturn) (λ i. other i .small carriageReturn (omega arith))
+
+first-same : (u v : List ℕ) → SameLetters u v → SameLetters (firstPart u) (firstPart v)
+unfolding firstPart
+first-same [] [] e = tt
+first-same (j ∷ u) (k ∷ v) (s, e) = rw (end-same j k s) (go (first-same u v e) (eqb lineEnd j))
+  where
+    go : SameLetters (firstPart u) (firstPart v) → (t : Bool) → SameLetters (cond t [] (j ∷ firstPart u)) (cond t [] (k ∷ firstPart v))
+    go h true = tt
+    go h false = (s, h)
+
+later-same : (u v : List ℕ) → SameLetters u v → SameLines (laterParts u) (laterParts v)
+unfolding laterParts
+later-same [] [] e = tt
+later-same (j ∷ u) (k ∷ v) (s, e) = rw (end-same j k s) (go (later-same u v e) (eqb lineEnd j))
+  where
+    go : SameLines (laterParts u) (laterParts v) → (t : Bool) → SameLines (cond t (firstPart u ∷ laterParts u) (laterParts u)) (cond t (firstPart v ∷ laterParts v) (laterParts v))
+    go h true = (first-same u v e, h)
+    go h false = h
+
+trim-same : (u v : List ℕ) → SameLetters u v → SameLetters (trimmed u) (trimmed v)
+unfolding trimmed
+trim-same [] [] e = tt
+trim-same (j ∷ []) (k ∷ []) (s, e) = rw (return-same j k s) (go (eqb carriageReturn j))
+  where
+    go : (t : Bool) → SameLetters (cond t [] (j ∷ [])) (cond t [] (k ∷ []))
+    go true = tt
+    go false = (s, tt)
+trim-same (j ∷ i ∷ u) (k ∷ h ∷ v) (s, e) = (s, trim-same (i ∷ u) (h ∷ v) e)
+
+from-same : (l m : List ℕ) → SameLetters l m → (ls ms : List (List ℕ)) → SameLines ls ms → SameLines (linesFrom l ls) (linesFrom m ms)
+from-same [] [] s [] [] e = tt
+from-same (j ∷ l) (k ∷ m) s [] [] e = (s, tt)
+from-same l m s (i ∷ ls) (h ∷ ms) (f, e) = (trim-same l m s, from-same i h f ls ms e)
 
 lines-same : (u v : List ℕ) → SameLetters u v → SameLines (lines u) (lines v)
 unfolding lines
-lines-same [] [] e = tt
-lines-same (j ∷ u) (k ∷ v) (s, e) = rw (letter-test (eqb lineEnd) (λ i. other i .small lineEnd (omega arith)) j k s) (go (lines-same u v e) (eqb lineEnd j))
-  where
-    go : SameLines (lines u) (lines v) → (t : Bool) → SameLines (cond t ([] ∷ lines u) (onto j (lines u))) (cond t ([] ∷ lines v) (onto k (lines v)))
-    go h true = (tt, h)
-    go h false = onto-same j k s (lines u) (lines v) h
+lines-same u v e = from-same (firstPart u) (firstPart v) (first-same u v e) (laterParts u) (laterParts v) (later-same u v e)
 
 count-same : (X : List ℕ → Bool) → ((l m : List ℕ) → SameLetters l m → X l ≡ X m) → (ls ms : List (List ℕ)) → SameLines ls ms → countIn X ls ≡ countIn X ms
 unfolding countIn

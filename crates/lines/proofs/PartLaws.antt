@@ -3,14 +3,16 @@ use Prim.Native.Nat.{ℕ, _+_}
 use native.Mathlib.Omega.{arith}
 use native.Mathlib.Nat.{zero-add, add-zero, add-assoc}
 use mathlib.Core.Path.{_≡_, refl, sym, ap, _∙_}
-use mathlib.Core.Bool.{Bool, true, false, cond, _&&_}
+use mathlib.Core.Bool.{Bool, true, false, not, cond, _&&_, _||_, or-false}
 use mathlib.Core.List.{List, [], _∷_, _++_}
 use lib.Dec.{leb, eqb}
-use Rattle.lines.specs.Lines.{onto, lines, countIn, matching, isOpen}
+use borrow.Author.Tests.{eqb-true}
+use Rattle.lines.specs.Lines.{isOpen, linesFrom, lines, countIn, closedMatches, matching, trimmed, endsInReturn}
 use Rattle.pattern.specs.Meaning.{Query, matches}
 use Rattle.runs.proofs.Tests.{clash, and-both, and-fst, and-snd}
 use Rattle.runs.specs.Keys.{lineKey, isLine, lineEnd, isRun}
-use Rattle.lines.specs.Parts.{firstPart, laterParts, lastPart, partsBefore}
+use Rattle.lines.specs.Parts.{beginsWithEnd, firstPart, laterParts, lastPart, partsBefore}
+use Rattle.lines.proofs.Trims.{ends-cons}
 use Rattle.runs.proofs.KeyLaws.{key-of-line}
 
 -- a run without a line end
@@ -120,6 +122,64 @@ module _ (l : List ℕ) (ls : List (List ℕ)) (v : List ℕ) where
   unfolding partsBefore countIn
   before-closed X e = rw e at (before-then X l ls v)
 
+-- How a run begins and ends.
+
+-- one with a line end has a key
+pub later-open : (w : List ℕ) {l : List ℕ} {ls : List (List ℕ)} → laterParts w ≡ l ∷ ls → isOpen w ≡ true
+unfolding laterParts
+later-open [] e = clash (cc)
+later-open (c ∷ w) e = refl
+
+-- its first part is empty exactly if it begins with one
+pub first-begins : (v : List ℕ) → beginsWithEnd v ≡ true → firstPart v ≡ []
+unfolding beginsWithEnd firstPart
+first-begins [] h = clash (cc)
+first-begins (c ∷ v) h = rw h refl
+
+pub first-open : (v : List ℕ) {m : List ℕ} {ms : List (List ℕ)} → laterParts v ≡ m ∷ ms → beginsWithEnd v ≡ false → isOpen (firstPart v) ≡ true
+unfolding beginsWithEnd firstPart laterParts
+first-open [] e h = clash (cc)
+first-open (c ∷ v) e h = rw h refl
+
+pub begins-none : beginsWithEnd [] ≡ false
+unfolding beginsWithEnd
+begins-none = refl
+
+pub begins-end : beginsWithEnd (lineEnd ∷ []) ≡ true
+unfolding beginsWithEnd
+begins-end = refl
+
+-- another key behind it changes nothing
+pub begins-more : (w : List ℕ) (k : ℕ) → eqb lineEnd k ≡ false → beginsWithEnd (w ++ (k ∷ [])) ≡ beginsWithEnd w
+unfolding beginsWithEnd
+begins-more [] k e = e
+begins-more (c ∷ w) k e = refl
+
+pub begins-append : (u v : List ℕ) → beginsWithEnd (u ++ v) ≡ (beginsWithEnd u || (not (isOpen u) && beginsWithEnd v))
+unfolding beginsWithEnd
+begins-append [] v = refl
+begins-append (c ∷ u) v = sym (or-false (eqb lineEnd c))
+
+-- it ends in CR exactly if its last part does
+ends-parts : (w : List ℕ) → endsInReturn w ≡ endsInReturn (lastPart (firstPart w) (laterParts w))
+unfolding endsInReturn firstPart laterParts lastPart
+ends-parts [] = refl
+ends-parts (c ∷ w) = go (eqb lineEnd c) refl (firstPart w) (laterParts w) refl refl (ends-parts w)
+  where
+    behind : (w : List ℕ) → endsInReturn (lineEnd ∷ w) ≡ endsInReturn w
+    behind [] = refl
+    behind (d ∷ w) = refl
+
+    go : (b : Bool) → eqb lineEnd c ≡ b → (f : List ℕ) (ls : List (List ℕ)) → firstPart w ≡ f → laterParts w ≡ ls → endsInReturn w ≡ endsInReturn (lastPart f ls)
+        → endsInReturn (c ∷ w) ≡ endsInReturn (lastPart (firstOnto b c f) (laterOnto b f ls))
+    go true e f ls g h i = let same : lineEnd ≡ c = eqb-true lineEnd c e in rw (← same) (behind w ∙ i)
+    go false e f [] g h i = ap (λ (l : List ℕ). endsInReturn (c ∷ l)) (sym (first-whole w h) ∙ g)
+    go false e f (m ∷ ms) g h i = ends-cons c w (later-open w h) ∙ i
+
+pub ends-last : (w : List ℕ) {l : List ℕ} {ls : List (List ℕ)} → laterParts w ≡ l ∷ ls → endsInReturn w ≡ endsInReturn (lastPart l ls)
+unfolding lastPart
+ends-last w e = rw e at (ends-parts w)
+
 -- The parts of a run are lines.
 
 pub first-line : (w : List ℕ) → isRun w ≡ true → isLine (firstPart w) ≡ true
@@ -177,47 +237,28 @@ pub before-none : (X : List ℕ → Bool) (l : List ℕ) → countBefore X l [] 
 unfolding partsBefore countIn
 before-none X l = refl
 
--- The lines of a run, by its parts: the last part is a line if it has a key
-abbrev lastOnly : List ℕ → List (List ℕ)
-lastOnly [] = []
-lastOnly (c ∷ l) = (c ∷ l) ∷ []
-
-abbrev linesOf : List ℕ → List (List ℕ) → List (List ℕ)
-linesOf l [] = lastOnly l
-linesOf l (m ∷ ms) = l ∷ linesOf m ms
-
-lines-parts : (w : List ℕ) → lines w ≡ linesOf (firstPart w) (laterParts w)
-unfolding lines firstPart laterParts
-lines-parts [] = refl
-lines-parts (c ∷ w) = go (eqb lineEnd c) (firstPart w) (laterParts w) (lines-parts w)
-  where
-    go : (b : Bool) (f : List ℕ) (ls : List (List ℕ)) → lines w ≡ linesOf f ls → cond b ([] ∷ lines w) (onto c (lines w)) ≡ linesOf (cond b [] (c ∷ f)) (cond b (f ∷ ls) ls)
-    go true f ls e = ap (λ (l : List (List ℕ)). [] ∷ l) e
-    go false [] [] e = rw e refl
-    go false (d ∷ f) [] e = rw e refl
-    go false f (m ∷ ms) e = rw e refl
-
 -- 1 if a last part counts: if it has a key and passes a test
 abbrev pub countLast : (List ℕ → Bool) → List ℕ → ℕ
 countLast X l = cond (isOpen l && X l) 1 0
 
--- how many parts pass, the last only if it counts
-abbrev pub countParts : (List ℕ → Bool) → List ℕ → List (List ℕ) → ℕ
-countParts X l ls = countBefore X l ls + countLast X (lastPart l ls)
+-- how many lines some parts make: all but the last are closed, and that one counts if it has a key
+abbrev countParts : (List ℕ → Bool) → List ℕ → List (List ℕ) → ℕ
+countParts X l ls = countBefore (λ m. X (trimmed m)) l ls + countLast X (lastPart l ls)
 
-count-parts : (X : List ℕ → Bool) (l : List ℕ) (ls : List (List ℕ)) → countIn X (linesOf l ls) ≡ countParts X l ls
+count-parts : (X : List ℕ → Bool) (l : List ℕ) (ls : List (List ℕ)) → countIn X (linesFrom l ls) ≡ countParts X l ls
 unfolding countIn partsBefore lastPart
 count-parts X [] [] = refl
 count-parts X (c ∷ l) [] = omega arith
-count-parts X l (m ∷ ms) = ap (λ (n : ℕ). cond (X l) 1 0 + n) (count-parts X m ms) ∙ sym (add-assoc (cond (X l) 1 0) (countIn X (partsBefore m ms)) _)
+count-parts X l (m ∷ ms) = ap (λ (n : ℕ). cond (X (trimmed l)) 1 0 + n) (count-parts X m ms) ∙ sym (add-assoc (cond (X (trimmed l)) 1 0) (countIn (λ m. X (trimmed m)) (partsBefore m ms)) _)
 
 module _ (t : Query) (w : List ℕ) where
   -- a run without a line end is one line, if it has a key
   pub matching-whole : laterParts w ≡ [] → matching t w ≡ countLast (matches t) w
-  unfolding matching countIn partsBefore lastPart
-  matching-whole e = ap (countIn (matches t)) (rw e at (lines-parts w) ∙ ap lastOnly (first-whole w e)) ∙ count-parts (matches t) w [] ∙ zero-add _
+  unfolding matching lines countIn partsBefore lastPart
+  matching-whole e = rw (e, first-whole w e) (count-parts (matches t) w [] ∙ zero-add _)
 
   -- with line ends: the first line, those between, and the last part if it has a key
-  pub matching-parts : {l : List ℕ} {ls : List (List ℕ)} → laterParts w ≡ l ∷ ls → matching t w ≡ countOne (matches t) (firstPart w) + countParts (matches t) l ls
-  unfolding matching countIn
-  matching-parts {l} {ls} e = ap (countIn (matches t)) (rw e at (lines-parts w)) ∙ ap (λ (n : ℕ). cond (matches t (firstPart w)) 1 0 + n) (count-parts (matches t) l ls)
+  pub matching-parts : {l : List ℕ} {ls : List (List ℕ)} → laterParts w ≡ l ∷ ls
+      → matching t w ≡ countOne (closedMatches t) (firstPart w) + (countBefore (closedMatches t) l ls + countLast (matches t) (lastPart l ls))
+  unfolding matching lines countIn
+  matching-parts {l} {ls} e = rw e (ap (λ (n : ℕ). cond (closedMatches t (firstPart w)) 1 0 + n) (count-parts (matches t) l ls))

@@ -14,7 +14,8 @@ use Rattle.refusal.specs.declared.Refusal.the-variants.{InvalidKey}
 use Rattle.pattern.specs.Meaning.{Query, matches}
 use Rattle.lines.specs.declared.run.RunCount.{RunCount}
 use Rattle.lines.specs.declared.run.Tally.{Tally}
-use Rattle.lines.specs.Lines.{matching, isOpen}
+use Rattle.lines.specs.Lines.{carriageReturn, trimmed, closedMatches, matching, isOpen}
+use Rattle.lines.proofs.Trims.{trim-none, trim-line, trim-return, trim-other, open-more}
 use Rattle.refusal.specs.Figures.{answered}
 use Rattle.lines.specs.Answers.{runOf}
 use Rattle.lines.specs.Promises.{AfterKey, CountsRun, tallyAfter}
@@ -28,16 +29,11 @@ use Rattle.lines.specs.Moving.{startSet, hasAccepting, reached, lookedUp
 
 -- a tally of closed lines
 abbrev pub closedTally : ℕ → ℕ → Tally
-closedTally x n = record { set = x; pending = false; lines = n }
+closedTally x n = record { set = x; trimmed = x; pending = false; lines = n }
 
 -- two of them
 same-tally : {x y m n : ℕ} → x ≡ y → m ≡ n → _≡_ {A = Tally} (closedTally x m) (closedTally y n)
 same-tally e f = rw (e, f)
-
--- and it makes a line that has a key
-open-more : (w : List ℕ) (c : ℕ) → isOpen (w ++ (c ∷ [])) ≡ true
-open-more [] c = refl
-open-more (d ∷ w) c = refl
 
 -- a line counts at most once, and only if it has a key
 pub at-most-one : (m : Bool) {x : ℕ} → x ≡ cond m 1 0 → x ≤ 1
@@ -50,24 +46,36 @@ last-small false m e = omega arith
 
 -- One more key.
 module _ {keys enter : List ℕ} {p : Accepting} {a : Tally} {k : ℕ} where
-  pub after-end : {z x : ℕ} {m : Bool} → k ≡ lineEnd → z ≡ startSet → m ≡ hasAccepting p (a .set) → x ≡ cond m 1 0 → AfterKey keys enter p a k (closedTally z (a .lines + x))
+  pub after-end : {z x : ℕ} {m : Bool} → k ≡ lineEnd → z ≡ startSet → m ≡ hasAccepting p (a .trimmed) → x ≡ cond m 1 0 → AfterKey keys enter p a k (closedTally z (a .lines + x))
   unfolding tallyAfter
   after-end {z} {x} {m} e y f g =
       record {
         small = omega (arith, at-most-one m g);
-        tallies = λ t h w l i z. rw e (same-tally (y ∙ reached-none t) (rw (g, f, reached-matches h (a .set) w i l) refl));
+        tallies = λ t h w l i j z. rw e (same-tally (y ∙ reached-none t) (rw (g, f, reached-matches h (a .trimmed) (trimmed w) j (trim-line w l)) refl));
       }
 
-  pub after-other : {y : ℕ} → k < 256 → (k ≡ lineEnd → ⊥) → y ≡ lookedUp keys enter p (a .set) k → AfterKey keys enter p a k (record { set = y; pending = true; lines = a .lines })
+  -- a key that goes on with the line, where x is what its keys less a final CR lead to
+  after-key : {y x : ℕ} → k < 256 → (k ≡ lineEnd → ⊥) → y ≡ lookedUp keys enter p (a .set) k
+      → ((t : Query) (w : List ℕ) → a .set ≡ reached t w → y ≡ reached t (w ++ (k ∷ [])) → x ≡ reached t (trimmed (w ++ (k ∷ []))))
+      → AfterKey keys enter p a k (record { set = y; trimmed = x; pending = true; lines = a .lines })
   unfolding tallyAfter
-  after-other {y} b n g =
+  after-key {y} {x} b n g f =
       record {
         small = omega arith;
-        tallies = λ t h w l i z.
+        tallies = λ t h w l i j z.
             let no : eqb k lineEnd ≡ false = ne-eqb k lineEnd n in
             let key : lineKey k ≡ true = sym (key-test k b z) ∙ rw no refl in
-            rw (no, g, looked-up h (a .set) k key, i, reached-more t (h .few) w k) refl;
+            let on : y ≡ reached t (w ++ (k ∷ [])) = g ∙ looked-up h (a .set) k key ∙ rw i (reached-more t (h .few) w k) in
+            rw (no, f t w i on, on) refl;
       }
+
+  pub after-return : {y : ℕ} → k < 256 → (k ≡ lineEnd → ⊥) → k ≡ carriageReturn → y ≡ lookedUp keys enter p (a .set) k
+      → AfterKey keys enter p a k (record { set = y; trimmed = a .set; pending = true; lines = a .lines })
+  after-return b n r g = after-key b n g (λ t w i on. i ∙ ap (reached t) (sym (ap (λ (c : ℕ). trimmed (w ++ (c ∷ []))) r ∙ trim-return w)))
+
+  pub after-other : {y : ℕ} → k < 256 → (k ≡ lineEnd → ⊥) → (k ≡ carriageReturn → ⊥) → y ≡ lookedUp keys enter p (a .set) k
+      → AfterKey keys enter p a k (record { set = y; trimmed = y; pending = true; lines = a .lines })
+  after-other b n r g = after-key b n g (λ t w i on. on ∙ ap (reached t) (sym (trim-other w k (ne-eqb carriageReturn k (λ e. r (sym e))))))
 
 -- the run's lines are n, and those from the keys of `line` and from place `at` on
 abbrev pub CountedTo : Query → List ℕ → ℕ → List ℕ → ℕ → Type 0
@@ -78,6 +86,7 @@ pub record Tallied (t : Query) (run : List ℕ) (at : ℕ) (a : Tally) : Type 0 
   pub line : List ℕ
   pub clean : isLine line ≡ true
   pub leads : a .set ≡ reached t line
+  pub closes : a .trimmed ≡ reached t (trimmed line)
   pub has-key : a .pending ≡ isOpen line
   pub count : CountedTo t run at line (a .lines)
 
@@ -94,7 +103,7 @@ module _ {keys enter : List ℕ} {p : Accepting} {run : List ℕ} where
         inside = omega arith;
         small = omega arith;
         clean = refl;
-        tallied = λ t h. record { line = []; clean = refl; leads = e ∙ reached-none t; has-key = refl; count = zero-add (matching t run) };
+        tallied = λ t h. record { line = []; clean = refl; leads = e ∙ reached-none t; closes = e ∙ reached-none t ∙ ap (reached t) (sym trim-none); has-key = refl; count = zero-add (matching t run) };
       }
 
   module _ {a : Tally} {at : ℕ} (s : RunSoFar keys enter p run a at) where
@@ -118,7 +127,7 @@ module _ {keys enter : List ℕ} {p : Accepting} {run : List ℕ} where
         rest : drop at run ≡ k ∷ drop (at + 1) run
         rest = drop-cons run at 0 h ∙ ap (λ (m : ℕ). k ∷ drop m run) (sym (add-one at))
 
-        closed : (t : Query) (w : List ℕ) → isLine w ≡ true → k ≡ lineEnd → b .lines ≡ a .lines + cond (matches t w) 1 0 → CountedTo t run at w (a .lines) → CountedTo t run (at + 1) [] (b .lines)
+        closed : (t : Query) (w : List ℕ) → isLine w ≡ true → k ≡ lineEnd → b .lines ≡ a .lines + cond (closedMatches t w) 1 0 → CountedTo t run at w (a .lines) → CountedTo t run (at + 1) [] (b .lines)
         closed t w l e f r =
             omega
             (arith, ap (λ (v : List ℕ). matching t (w ++ v)) (rest ∙ ap (λ (x : ℕ). x ∷ drop (at + 1) run) e), matching-closed t w (drop (at + 1) run) (line-without w lineEnd refl l))
@@ -129,21 +138,23 @@ module _ {keys enter : List ℕ} {p : Accepting} {run : List ℕ} where
         go : (t : Query) → Automaton t keys enter p → Tallied t run at a → (x : Bool) → eqb k lineEnd ≡ x → Tallied t run (at + 1) b
         go t j u true e =
             let w = u .line in
-            let f : b ≡ record { set = reached t []; pending = false; lines = a .lines + cond (matches t w) 1 0 } = rw e at (g .tallies t j w (u .clean) (u .leads) (ne-eqb k 0 n)) in
+            let f : b ≡ record { set = reached t []; trimmed = reached t []; pending = false; lines = a .lines + cond (closedMatches t w) 1 0 } = rw e at (g .tallies t j w (u .clean) (u .leads) (u .closes) (ne-eqb k 0 n)) in
             record {
               line = [];
               clean = refl;
               leads = ap (λ (d : Tally). d .set) f;
+              closes = ap (λ (d : Tally). d .trimmed) f ∙ ap (reached t) (sym trim-none);
               has-key = ap (λ (d : Tally). d .pending) f;
               count = closed t w (u .clean) (eqb-true k lineEnd e) (ap (λ (d : Tally). d .lines) f) (u .count);
             }
         go t j u false e =
             let w = u .line in
-            let f : b ≡ record { set = reached t (w ++ (k ∷ [])); pending = true; lines = a .lines } = rw e at (g .tallies t j w (u .clean) (u .leads) (ne-eqb k 0 n)) in
+            let f : b ≡ record { set = reached t (w ++ (k ∷ [])); trimmed = reached t (trimmed (w ++ (k ∷ []))); pending = true; lines = a .lines } = rw e at (g .tallies t j w (u .clean) (u .leads) (u .closes) (ne-eqb k 0 n)) in
             record {
               line = w ++ (k ∷ []);
               clean = line-more w k (u .clean) (sym (key-test k i (ne-eqb k 0 n)) ∙ rw e refl);
               leads = ap (λ (d : Tally). d .set) f;
+              closes = ap (λ (d : Tally). d .trimmed) f;
               has-key = ap (λ (d : Tally). d .pending) f ∙ sym (open-more w k);
               count = longer t w (ap (λ (d : Tally). d .lines) f) (u .count);
             }

@@ -1,9 +1,14 @@
 -- The parts of a run between line ends.
 use Prim.Native.Nat.{ℕ}
-use mathlib.Core.Bool.{cond}
+use mathlib.Core.Bool.{Bool, false, cond}
 use mathlib.Core.List.{List, [], _∷_}
 use lib.Dec.{eqb}
 use Rattle.runs.specs.Keys.{lineEnd}
+
+-- whether the run begins with a line end
+unfoldable pub beginsWithEnd : List ℕ → Bool
+beginsWithEnd [] = false
+beginsWithEnd (c ∷ w) = eqb lineEnd c
 
 -- the keys before the first line end, or all
 unfoldable pub firstPart : List ℕ → List ℕ

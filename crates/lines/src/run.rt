@@ -23,6 +23,8 @@ pub enum RunCount {
 struct Tally {
     // The states that the keys of the last line lead to.
     set: u64,
+    // The same without a final CR: what a line end would close.
+    trimmed: u64,
     // Whether the last line has a key.
     pending: bool,
     // How many of the lines before it match.
@@ -34,14 +36,19 @@ fn after_key(t: Tally, key: u8, keys: &[u64; 256], enter: &[u64; 32], a: Accepti
     ensures { λ r. ⌜ AfterKey (now (keys .entry)) (now (enter .entry)) a t key r ⌝ }
 {
     if key == 10 {
+        let start = State::LINE_START.set();
         return Tally {
-            set: State::LINE_START.set(),
+            set: start,
+            trimmed: start,
             pending: false,
-            lines: t.lines + chosen(meets(t.set, a.accepting), 1),
+            lines: t.lines + chosen(meets(t.trimmed, a.accepting), 1),
         };
     }
+    let set = advance(t.set, key, keys, enter, a);
+    let trimmed = if key == 13 { t.set } else { set };
     Tally {
-        set: advance(t.set, key, keys, enter, a),
+        set: set,
+        trimmed: trimmed,
         pending: true,
         lines: t.lines,
     }
@@ -50,8 +57,10 @@ fn after_key(t: Tally, key: u8, keys: &[u64; 256], enter: &[u64; 32], a: Accepti
 fn counted(run: &[u8], keys: &[u64; 256], enter: &[u64; 32], a: Accepting) -> RunCount
     ensures { λ r. ⌜ CountsRun (now (keys .entry)) (now (enter .entry)) a (now (run .entry)) r ⌝ }
 {
+    let start = State::LINE_START.set();
     let mut t = Tally {
-        set: State::LINE_START.set(),
+        set: start,
+        trimmed: start,
         pending: false,
         lines: 0,
     };

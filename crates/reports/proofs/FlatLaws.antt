@@ -1,4 +1,4 @@
--- A report and the joining of two reports, field by field, as document 01 lists them.
+-- A report and the joining of two reports, field by field, as document 01 lists them, with document 02's two words.
 use Prim.Native.Nat.{ℕ, suc, _+_, _≤_}
 use native.Mathlib.Omega.{arith}
 use mathlib.Core.Path.{_≡_, refl, sym, ap, _∙_}
@@ -6,44 +6,55 @@ use mathlib.Core.Bool.{Bool, true, false, not, cond}
 use mathlib.Core.List.{List, [], _∷_}
 use lib.Dec.{leb, eqb}
 use lib.ListN.{getD}
-use Rattle.stateset.specs.Set.{bit, word, common}
-use Rattle.pattern.specs.Meaning.{Query, matches}
+use Rattle.stateset.specs.Set.{bit, word}
+use Rattle.pattern.specs.Meaning.{Query}
 use Rattle.pattern.specs.Moves.{states, leads, acceptedFrom}
-use Rattle.lines.specs.Lines.{countIn}
+use Rattle.lines.specs.Lines.{trimmed, countIn, closedMatches}
 use Rattle.lines.specs.Parts.{firstPart, laterParts, partsBefore, lastPart}
 use Rattle.spans.specs.declared.span.Span.{Span}
+use Rattle.spans.specs.declared.span.Edges.{Edges}
 use Rattle.spans.specs.declared.span.JoinedSpan.{JoinedSpan}
-use Rattle.spans.specs.Spans.{rowsOf, noRows, openSpan, endedSpan, spanWith, span, closedWith}
-use Rattle.spans.specs.Joining.{onward, joinedWith}
+use Rattle.spans.specs.Spans.{rowsOf, noRows, openSpan, endedSpan, edges, spanWith, span, closedWith}
+use Rattle.spans.specs.Joining.{onward, headsAcross, closesAcross, joinedEdges, joinedWith}
 use Rattle.spans.proofs.RowLaws.{states-all}
 use Rattle.spans.proofs.SpanLaws.{span-by, closed-by, joined-by}
 use Rattle.reports.specs.declared.report.Report.{Report}
 use Rattle.reports.specs.declared.span_count.SpanCount.{SpanCount}
 use Rattle.reports.specs.declared.total.Total.{Total}
 use Rattle.reports.specs.Totals.{most, totalOf, bothTotals, lineIf}
-use Rattle.reports.specs.Reports.{flagOf, shownOf, spanCount, reportOf, report, withLine, joinedCounts, closedIn, inReport, joinedReports}
+use Rattle.reports.specs.Reports.{flagOf, shownOf, edgesWord, spanIn, spanCount, reportOf, report, withLine, joinedCounts, closedIn, inReport, joinedReports}
 use Rattle.reports.proofs.TotalLaws.{few-lines, many-lines, total-sum, line-told}
 
 -- flag 0, "without LF": "heads, closed, tail are 0"
-abbrev pub withoutEnd : ℕ → (ℕ → ℕ → Bool) → Report
-withoutEnd s X = record { s = s; rows = rowsOf s X; flag = 0; heads = 0; closed = 0; tail = 0 }
+abbrev pub withoutEnd : ℕ → (ℕ → ℕ → Bool) → Edges → Report
+withoutEnd s X d = record { s = s; rows = rowsOf s X; flag = 0; heads = 0; closed = 0; tail = 0; trimmed = d .trimmed; edges = edgesWord d }
 
 -- flag "1 with one, 2 with one and closed lines beyond 2^64 − 1"; "Flag 1 or 2: rows are 0. Flag 2: closed is 0"
-abbrev pub withEnd : ℕ → (ℕ → Bool) → ℕ → (ℕ → Bool) → Report
-withEnd s H n T = record { s = s; rows = noRows; flag = cond (leb n most) 1 2; heads = word s H; closed = cond (leb n most) n 0; tail = word s T }
+abbrev pub withEnd : ℕ → (ℕ → Bool) → ℕ → (ℕ → Bool) → Edges → Report
+withEnd s H n T d =
+    record {
+      s = s;
+      rows = noRows;
+      flag = cond (leb n most) 1 2;
+      heads = word s H;
+      closed = cond (leb n most) n 0;
+      tail = word s T;
+      trimmed = d .trimmed;
+      edges = edgesWord d;
+    }
 
 -- a span without a line end
-open-flat : (s : ℕ) (X : ℕ → ℕ → Bool) (n : Total) → reportOf (record { span = openSpan s X; closed = n }) ≡ withoutEnd s X
+open-flat : (s : ℕ) (X : ℕ → ℕ → Bool) (d : Edges) (n : Total) → reportOf (record { span = openSpan s X d; closed = n }) ≡ withoutEnd s X d
 unfolding reportOf
-open-flat s X n = refl
+open-flat s X d n = refl
 
 -- one with a line end, and n closed lines
-ended-flat : (s : ℕ) (H T : ℕ → Bool) (n : ℕ) → reportOf (record { span = endedSpan s H T; closed = totalOf n }) ≡ withEnd s H n T
+ended-flat : (s : ℕ) (H T : ℕ → Bool) (d : Edges) (n : ℕ) → reportOf (record { span = endedSpan s H T d; closed = totalOf n }) ≡ withEnd s H n T d
 unfolding reportOf
-ended-flat s H T n = go (leb n most)
+ended-flat s H T d n = go (leb n most)
   where
     fields : ℕ → ℕ → Report
-    fields flag closed = record { s = s; rows = noRows; flag = flag; heads = word s H; closed = closed; tail = word s T }
+    fields flag closed = record { s = s; rows = noRows; flag = flag; heads = word s H; closed = closed; tail = word s T; trimmed = d .trimmed; edges = edgesWord d }
 
     go : (b : Bool) → fields (flagOf true (cond b (Total.Lines n) Total.TooMany)) (shownOf true (cond b (Total.Lines n) Total.TooMany)) ≡ fields (cond b 1 2) (cond b n 0)
     go true = refl
@@ -51,16 +62,16 @@ ended-flat s H T n = go (leb n most)
 
 -- the report of a run
 abbrev pub runFields : Query → List ℕ → List (List ℕ) → Report
-runFields t w [] = withoutEnd (states t) (λ q p. leads t q w p)
-runFields t w (l ∷ ls) = withEnd (states t) (λ q. acceptedFrom t q (firstPart w)) (countIn (matches t) (partsBefore l ls)) (leads t 0 (lastPart l ls))
+runFields t w [] = withoutEnd (states t) (λ q p. leads t q w p) (edges t w)
+runFields t w (l ∷ ls) = withEnd (states t) (λ q. acceptedFrom t q (trimmed (firstPart w))) (countIn (closedMatches t) (partsBefore l ls)) (leads t 0 (lastPart l ls)) (edges t w)
 
 pub report-fields : (t : Query) (w : List ℕ) → report t w ≡ runFields t w (laterParts w)
 unfolding report spanCount
 report-fields t w = rw (span-by t w, closed-by t w) (go (laterParts w))
   where
     go : (ls : List (List ℕ)) → reportOf (record { span = spanWith t w ls; closed = totalOf (closedWith t ls) }) ≡ runFields t w ls
-    go [] = open-flat (states t) (λ q p. leads t q w p) (totalOf 0)
-    go (l ∷ ls) = ended-flat (states t) (λ q. acceptedFrom t q (firstPart w)) (leads t 0 (lastPart l ls)) (countIn (matches t) (partsBefore l ls))
+    go [] = open-flat (states t) (λ q p. leads t q w p) (edges t w) (totalOf 0)
+    go (l ∷ ls) = ended-flat (states t) (λ q. acceptedFrom t q (trimmed (firstPart w))) (leads t 0 (lastPart l ls)) (edges t w) (countIn (closedMatches t) (partsBefore l ls))
 
 -- the closed lines of a report with a line end; beyond the largest count where its flag says so
 abbrev pub closedNumber : Report → ℕ
@@ -68,11 +79,15 @@ closedNumber a = cond (leb 2 (a .flag)) (suc most) (a .closed)
 
 -- joining, by whether the left report has flag 0 and whether the right one has
 abbrev pub joinedFields : ℕ → Bool → Bool → Report → Report → Report
-joinedFields s true true a b = withoutEnd s (λ q. onward s (getD (a .rows) q 0) (b .rows))
-joinedFields s true false a b = withEnd s (λ q. common s (getD (a .rows) q 0) (b .heads)) (closedNumber b) (bit (b .tail))
-joinedFields s false true a b = withEnd s (bit (a .heads)) (closedNumber a) (onward s (a .tail) (b .rows))
+joinedFields s true true a b = withoutEnd s (λ q. onward s (getD (a .rows) q 0) (b .rows)) (joinedEdges s (spanIn a) (spanIn b))
+joinedFields s true false a b = withEnd s (headsAcross s (spanIn a) (spanIn b)) (closedNumber b) (bit (b .tail)) (joinedEdges s (spanIn a) (spanIn b))
+joinedFields s false true a b = withEnd s (bit (a .heads)) (closedNumber a) (onward s (a .tail) (b .rows)) (joinedEdges s (spanIn a) (spanIn b))
 joinedFields s false false a b =
-    withEnd s (bit (a .heads)) (closedNumber a + closedNumber b + cond (common s (a .tail) (b .heads)) 1 0) (bit (b .tail))
+    withEnd s
+    (bit (a .heads))
+    (closedNumber a + closedNumber b + cond (closesAcross s (spanIn a) (spanIn b)) 1 0)
+    (bit (b .tail))
+    (joinedEdges s (spanIn a) (spanIn b))
 
 -- the number of closed lines in a report whose flag is 0, or is not
 module _ (a : Report) (small : a .closed ≤ most) where
@@ -129,9 +144,9 @@ joined-fields a b small f g = go (eqb (a .flag) 0) (eqb (b .flag) 0) refl refl
         by true false =
             let k = closedNumber b in
             let all : 0 + k + 0 ≡ k = omega arith in
-            rw all (ended-flat s (λ q. common s (getD (a .rows) q 0) (b .heads)) (bit (b .tail)) k)
+            rw all (ended-flat s (headsAcross s left right) (bit (b .tail)) (joinedEdges s left right) k)
         by false true =
             let k = closedNumber a in
             let all : k + 0 + 0 ≡ k = omega arith in
-            rw all (ended-flat s (bit (a .heads)) (onward s (a .tail) (b .rows)) k)
-        by false false = ended-flat s (bit (a .heads)) (bit (b .tail)) (closedNumber a + closedNumber b + cond (common s (a .tail) (b .heads)) 1 0)
+            rw all (ended-flat s (bit (a .heads)) (onward s (a .tail) (b .rows)) (joinedEdges s left right) k)
+        by false false = ended-flat s (bit (a .heads)) (bit (b .tail)) (joinedEdges s left right) (closedNumber a + closedNumber b + cond (closesAcross s left right) 1 0)

@@ -1,19 +1,24 @@
 -- What the functions make of their parts.
-use Prim.Native.Nat.{ℕ, _<_, _≤_}
+use Prim.Native.Nat.{ℕ, _+_, _/_, _%_, _<_, _≤_}
+use native.Mathlib.Omega.{arith}
+use mir.Val.{Fits}
+use mir.Syntax.{w64}
 use mathlib.Core.Path.{_≡_, refl}
 use mathlib.Core.Bool.{Bool, true, false, not, cond}
 use mathlib.Core.List.{List}
 use lib.Dec.{eqb}
 use borrow.Author.Tests.{eq-eqb, ne-eqb, le-leb, lt-leb, not-true, not-false}
 use Rattle.pattern.specs.declared.automaton.Accepting.{Accepting}
+use Rattle.stateset.proofs.Sets.{bit-first, bit-half}
 use Rattle.spans.specs.declared.span.Span.{Span}
+use Rattle.spans.specs.declared.span.Edges.{Edges}
 use Rattle.spans.specs.declared.span.JoinedSpan.{JoinedSpan}
 use Rattle.spans.specs.Joining.{joinedSpans, extendedSpan, endLines}
 use Rattle.reports.specs.declared.report.Report.{Report}
 use Rattle.reports.specs.declared.span_count.SpanCount.{SpanCount}
 use Rattle.reports.specs.declared.total.Total.{Total}
 use Rattle.reports.specs.Totals.{bothTotals}
-use Rattle.reports.specs.Reports.{flat, reportOf, withLine, extendedCount, joinedCounts, totalIn, closedIn, inReport, joinedReports, alike, noReport}
+use Rattle.reports.specs.Reports.{edgesWord, edgesIn, reportOf, withLine, extendedCount, joinedCounts, totalIn, closedIn, inReport, joinedReports, alike, noReport}
 use Rattle.reports.specs.Answers.{joinResult}
 
 -- a line more, or none
@@ -46,26 +51,54 @@ module _ (a : Report) where
   closed-lines e h = rw (ne-eqb (a .flag) 0 e, lt-leb 2 (a .flag) h) refl
 
   -- with the span
-  abbrev pub spanWhere : Bool → Span
-  spanWhere b = record { s = a .s; rows = a .rows; ended = b; heads = a .heads; tail = a .tail }
+  abbrev pub spanWhere : Bool → Edges → Span
+  spanWhere b d = record { s = a .s; rows = a .rows; ended = b; heads = a .heads; tail = a .tail; edges = d }
 
-  pub in-made : {c : Total} → c ≡ closedIn a → record { span = spanWhere (not (eqb (a .flag) 0)); closed = c } ≡ inReport a
+  pub in-made : {d : Edges} {c : Total} → d ≡ edgesIn (a .trimmed) (a .edges) → c ≡ closedIn a → record { span = spanWhere (not (eqb (a .flag) 0)) d; closed = c } ≡ inReport a
   unfolding inReport
-  in-made c = rw c refl
+  in-made d c = rw (d, c) refl
 
 -- flat
 module _ (a : SpanCount) where
-  pub flat-open : a .span .ended ≡ false → flat 0 0 a ≡ reportOf a
-  unfolding reportOf
-  flat-open e = rw e refl
+  -- with the second word of its edges
+  abbrev pub flatWith : ℕ → ℕ → ℕ → Report
+  flatWith w flag closed =
+      record {
+        s = a .span .s;
+        rows = a .span .rows;
+        flag = flag;
+        heads = a .span .heads;
+        closed = closed;
+        tail = a .span .tail;
+        trimmed = a .span .edges .trimmed;
+        edges = w;
+      }
 
-  pub flat-lines : {k : ℕ} → a .span .ended ≡ true → a .closed ≡ Total.Lines k → flat 1 k a ≡ reportOf a
-  unfolding reportOf
-  flat-lines e f = rw (e, f) refl
+  module _ {w : ℕ} (edged : w ≡ edgesWord (a .span .edges)) where
+    pub flat-open : a .span .ended ≡ false → flatWith w 0 0 ≡ reportOf a
+    unfolding reportOf
+    flat-open e = rw (edged, e) refl
 
-  pub flat-over : a .span .ended ≡ true → a .closed ≡ Total.TooMany → flat 2 0 a ≡ reportOf a
-  unfolding reportOf
-  flat-over e f = rw (e, f) refl
+    pub flat-lines : {k : ℕ} → a .span .ended ≡ true → a .closed ≡ Total.Lines k → flatWith w 1 k ≡ reportOf a
+    unfolding reportOf
+    flat-lines e f = rw (edged, e, f) refl
+
+    pub flat-over : a .span .ended ≡ true → a .closed ≡ Total.TooMany → flatWith w 2 0 ≡ reportOf a
+    unfolding reportOf
+    flat-over e f = rw (edged, e, f) refl
+
+-- the edges in two words, and the second word
+pub word-made : (e : Edges) {x y : ℕ} → x ≡ cond (e .leading) 1 0 → y ≡ cond (e .trailing) 2 0 → x + y ≡ edgesWord e
+word-made e x y = rw (x, y) refl
+
+pub word-room : (a b : Bool) {x y : ℕ} → x ≡ cond a 1 0 → y ≡ cond b 2 0 → Fits w64 (x + y)
+word-room true true x y = omega arith
+word-room true false x y = omega arith
+word-room false true x y = omega arith
+word-room false false x y = omega arith
+
+pub edges-told : (x w : ℕ) → record { trimmed = x; leading = eqb (w % 2) 1; trailing = eqb (w / 2 % 2) 1 } ≡ edgesIn x w
+edges-told x w = rw (← bit-first w, ← bit-first (w / 2), bit-half w 0) refl
 
 module _ (a b : Report) where
   -- reports of one size are joined

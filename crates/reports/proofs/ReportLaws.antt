@@ -1,5 +1,5 @@
 -- What is kept of a run: with one key more, of two runs, flat and joined so, and the count that it comes to.
-use Prim.Native.Nat.{ℕ, _+_, _≤_}
+use Prim.Native.Nat.{ℕ, _+_, _/_, _%_, _≤_}
 use native.Mathlib.Omega.{arith}
 use mathlib.Core.Path.{_≡_, refl, sym, ap, _∙_}
 use mathlib.Core.Bool.{Bool, true, false, not, cond}
@@ -13,7 +13,10 @@ use Rattle.pattern.specs.Automata.{Automaton}
 use Rattle.pattern.specs.declared.automaton.Accepting.{Accepting}
 use Rattle.pattern.proofs.Readings.{accepting-of}
 use Rattle.lines.specs.Lines.{matching}
+use Rattle.stateset.specs.Set.{bit}
+use Rattle.stateset.proofs.Sets.{bit-first, bit-half}
 use Rattle.spans.specs.declared.span.Span.{Span}
+use Rattle.spans.specs.declared.span.Edges.{Edges}
 use Rattle.spans.specs.Spans.{span, closedLines, closesBetween}
 use Rattle.spans.specs.Joining.{endLines}
 use Rattle.spans.specs.Pairs.{pairs, pairsIn}
@@ -26,7 +29,7 @@ use Rattle.spans.proofs.SpanLaws.{span-size, empty-span, closed-empty, closed-n
 use Rattle.reports.specs.declared.span_count.SpanCount.{SpanCount}
 use Rattle.reports.specs.declared.total.Total.{Total}
 use Rattle.reports.specs.Totals.{totalOf, bothTotals}
-use Rattle.reports.specs.Reports.{spanCount, flagOf, shownOf, flat, reportOf, report, withLine, emptyCount, extendedCount, joinedCounts, totalIn, closedIn, inReport, joinedReports}
+use Rattle.reports.specs.Reports.{spanCount, flagOf, shownOf, edgesWord, edgesIn, flat, reportOf, report, withLine, emptyCount, extendedCount, joinedCounts, totalIn, closedIn, inReport, joinedReports}
 use Rattle.reports.proofs.TotalLaws.{few-lines, total-sum, line-told}
 
 -- the empty run
@@ -86,10 +89,32 @@ pub joined-small : (a b : SpanCount) → joinedCounts a b .span .s ≤ 32
 unfolding joinedCounts
 joined-small a b = joined-few (a .span) (b .span)
 
+-- The edges, flat and back.
+low-bit : (a b : Bool) → bit (cond a 1 0 + cond b 2 0) 0 ≡ a
+low-bit a b = bit-first (cond a 1 0 + cond b 2 0) ∙ go a b
+  where
+    go : (a b : Bool) → eqb ((cond a 1 0 + cond b 2 0) % 2) 1 ≡ a
+    go true true = refl
+    go true false = refl
+    go false true = refl
+    go false false = refl
+
+high-bit : (a b : Bool) → bit (cond a 1 0 + cond b 2 0) 1 ≡ b
+high-bit a b = sym (bit-half (cond a 1 0 + cond b 2 0) 0) ∙ bit-first ((cond a 1 0 + cond b 2 0) / 2) ∙ go a b
+  where
+    go : (a b : Bool) → eqb ((cond a 1 0 + cond b 2 0) / 2 % 2) 1 ≡ b
+    go true true = refl
+    go true false = refl
+    go false true = refl
+    go false false = refl
+
+edges-back : (e : Edges) → edgesIn (e .trimmed) (edgesWord e) ≡ e
+edges-back e = rw (low-bit (e .leading) (e .trailing), high-bit (e .leading) (e .trailing)) refl
+
 -- Flat and back, where there is no closed line without a line end.
 in-flat : (a : SpanCount) → (a .span .ended ≡ false → a .closed ≡ Total.Lines 0) → inReport (reportOf a) ≡ a
 unfolding inReport reportOf
-in-flat a none = both (ended (a .span .ended) (a .closed)) (closed (a .span .ended) (a .closed) none)
+in-flat a none = both (ended (a .span .ended) (a .closed)) (edges-back (a .span .edges)) (closed (a .span .ended) (a .closed) none)
   where
     ended : (b : Bool) (n : Total) → not (eqb (flagOf b n) 0) ≡ b
     ended false n = refl
@@ -101,9 +126,9 @@ in-flat a none = both (ended (a .span .ended) (a .closed)) (closed (a .span .end
     closed true (Total.Lines k) e = refl
     closed true Total.TooMany e = refl
 
-    both : {b : Bool} {n : Total} → b ≡ a .span .ended → n ≡ a .closed
-        → record { span = record { s = a .span .s; rows = a .span .rows; ended = b; heads = a .span .heads; tail = a .span .tail }; closed = n } ≡ a
-    both e f = rw (e, f) refl
+    both : {b : Bool} {d : Edges} {n : Total} → b ≡ a .span .ended → d ≡ a .span .edges → n ≡ a .closed
+        → record { span = record { s = a .span .s; rows = a .span .rows; ended = b; heads = a .span .heads; tail = a .span .tail; edges = d }; closed = n } ≡ a
+    both e g f = rw (e, g, f) refl
 
 -- the report of a run is what is kept of it, flat
 pub report-is : (t : Query) (w : List ℕ) → reportOf (spanCount t w) ≡ report t w

@@ -17,10 +17,10 @@ use Rattle.reports.specs.Words.{behindRows, reportWords, loaded, loadedA
 use Rattle.reports.proofs.ReportLaws.{report-size}
 
 -- the words of a report, and the report of its words
-module _ (s : ℕ) (rows : List ℕ) (f h c e : ℕ) (small : s ≤ 32) (long : length rows ≡ 32) where
+module _ (s : ℕ) (rows : List ℕ) (f h c e x d : ℕ) (small : s ≤ 32) (long : length rows ≡ 32) where
   -- the report of these
   abbrev made : Report
-  made = record { s = s; rows = rows; flag = f; heads = h; closed = c; tail = e }
+  made = record { s = s; rows = rows; flag = f; heads = h; closed = c; tail = e; trimmed = x; edges = d }
 
   taken-length : length (take s rows) ≡ s
   taken-length = rw (length-take, long) (omega arith)
@@ -30,22 +30,36 @@ module _ (s : ℕ) (rows : List ℕ) (f h c e : ℕ) (small : s ≤ 32) (long : 
 
   made-loaded : (rest : List ℕ) → take s rows ++ replicate (32 - s) 0 ≡ rows → loaded s (reportWords made ++ rest) ≡ made
   made-loaded rest p =
-      rw (append-assoc (take s rows) (f ∷ h ∷ c ∷ e ∷ []) rest)
-      (same (ap (λ (l : List ℕ). l ++ replicate (32 - s) 0) (take-at (take s rows) words s taken-length) ∙ p) (getD-at (take s rows) f (h ∷ c ∷ e ∷ rest) 0 s taken-length) (entry 1) (entry 2) (entry 3))
+      rw (append-assoc (take s rows) (f ∷ h ∷ c ∷ e ∷ x ∷ d ∷ []) rest)
+      (same (ap (λ (l : List ℕ). l ++ replicate (32 - s) 0) (take-at (take s rows) words s taken-length) ∙ p) (getD-at (take s rows) f (h ∷ c ∷ e ∷ x ∷ d ∷ rest) 0 s taken-length) (entry 1) (entry 2) (entry 3) (entry 4) (entry 5))
     where
       words : List ℕ
-      words = f ∷ h ∷ c ∷ e ∷ rest
+      words = f ∷ h ∷ c ∷ e ∷ x ∷ d ∷ rest
 
       entry : (k : ℕ) → getD (take s rows ++ words) (s + k) 0 ≡ getD words k 0
       entry k = ap (λ (n : ℕ). getD (take s rows ++ words) (n + k) 0) (sym taken-length) ∙ getD-append-add (take s rows) words k 0
 
-      same : {x : List ℕ} {a b d i : ℕ} → x ≡ rows → a ≡ f → b ≡ h → d ≡ c → i ≡ e → _≡_ {A = Report} (record { s = s; rows = x; flag = a; heads = b; closed = d; tail = i }) made
-      same g j k l m = rw (g, j, k, l, m) refl
+      same : {l : List ℕ} {a b i j k o : ℕ} → l ≡ rows → a ≡ f → b ≡ h → i ≡ c → j ≡ e → k ≡ x → o ≡ d
+          → _≡_ {A = Report} (record { s = s; rows = l; flag = a; heads = b; closed = i; tail = j; trimmed = k; edges = o }) made
+      same l a b i j k o = rw (l, a, b, i, j, k, o) refl
 
 module _ (t : Query) (few : atomCount (t .tree) ≤ 29) (w : List ℕ) where
   -- its fields, and how many states there are
-  whole : report t w ≡ record { s = states t; rows = report t w .rows; flag = report t w .flag; heads = report t w .heads; closed = report t w .closed; tail = report t w .tail }
-  whole = ap (λ (n : ℕ). record { s = n; rows = report t w .rows; flag = report t w .flag; heads = report t w .heads; closed = report t w .closed; tail = report t w .tail }) (report-size t w)
+  abbrev sized : ℕ → Report
+  sized n =
+      record {
+        s = n;
+        rows = report t w .rows;
+        flag = report t w .flag;
+        heads = report t w .heads;
+        closed = report t w .closed;
+        tail = report t w .tail;
+        trimmed = report t w .trimmed;
+        edges = report t w .edges;
+      }
+
+  whole : report t w ≡ sized (states t)
+  whole = ap sized (report-size t w)
 
   rows-in : report t w .rows ≡ span t w .rows
   unfolding report reportOf spanCount
@@ -54,12 +68,12 @@ module _ (t : Query) (few : atomCount (t .tree) ≤ 29) (w : List ℕ) where
   pub words-length : length (reportWords (report t w)) ≡ states t + behindRows
   words-length =
       ap (λ (r : Report). length (reportWords r)) whole
-      ∙ made-length (states t) (report t w .rows) _ _ _ _ (omega arith) (ap length rows-in ∙ span-rows t w)
+      ∙ made-length (states t) (report t w .rows) _ _ _ _ _ _ (omega arith) (ap length rows-in ∙ span-rows t w)
 
   loaded-words : (rest : List ℕ) → loaded (states t) (reportWords (report t w) ++ rest) ≡ report t w
   loaded-words rest =
       ap (λ (r : Report). loaded (states t) (reportWords r ++ rest)) whole
-      ∙ made-loaded (states t) (report t w .rows) _ _ _ _ (omega arith) (ap length rows-in ∙ span-rows t w) rest (rw rows-in (span-padded t few w))
+      ∙ made-loaded (states t) (report t w .rows) _ _ _ _ _ _ (omega arith) (ap length rows-in ∙ span-rows t w) rest (rw rows-in (span-padded t few w))
       ∙ sym whole
 
   -- the report that stands at a place

@@ -57,13 +57,24 @@ module _ {work : List ℕ} {at s : ℕ} where
 word-at : (work : List ℕ) (at s k : ℕ) → getD work (at + s + k) 0 ≡ getD (drop at work) (s + k) 0
 word-at work at s k = rw (add-assoc at s k) (sym (getD-drop at work (s + k) 0))
 
--- the report of some rows and of the four words behind them
+-- the report of some rows and of the words behind them
 abbrev pub rowsAndWords : List ℕ → ℕ → ℕ → List ℕ → Report
-rowsAndWords work at s rows = record { s = s; rows = rows; flag = getD work (at + s) 0; heads = getD work (at + s + 1) 0; closed = getD work (at + s + 2) 0; tail = getD work (at + s + 3) 0 }
+rowsAndWords work at s rows =
+    record {
+      s = s;
+      rows = rows;
+      flag = getD work (at + s) 0;
+      heads = getD work (at + s + 1) 0;
+      closed = getD work (at + s + 2) 0;
+      tail = getD work (at + s + 3) 0;
+      trimmed = getD work (at + s + 4) 0;
+      edges = getD work (at + s + 5) 0;
+    }
 
 -- they are the report that stands there
 pub loaded-all : (work : List ℕ) (at s : ℕ) {rows : List ℕ} → rows ≡ padded s (drop at work) → _≡_ {A = Report} (rowsAndWords work at s rows) (loaded s (drop at work))
-loaded-all work at s e = rw (e, word-at work at s 1, word-at work at s 2, word-at work at s 3, getD-drop at work s 0) refl
+loaded-all work at s e =
+    rw (e, word-at work at s 1, word-at work at s 2, word-at work at s 3, word-at work at s 4, word-at work at s 5, getD-drop at work s 0) refl
 
 -- Storing rows.
 
@@ -80,26 +91,28 @@ Holds n at s = (s ≤ 32) × (at + (s + behindRows) ≤ n)
 abbrev pub RowsOver : List ℕ → ℕ → Report → List ℕ → Type 0
 RowsOver old at r work = work ≡ paste old at (r .rows) (r .s)
 
--- the four words of a report set behind its rows
-abbrev pub fourSet : List ℕ → ℕ → Report → List ℕ
-fourSet work n r = set (set (set (set work n (r .flag)) (n + 1) (r .heads)) (n + 2) (r .closed)) (n + 3) (r .tail)
+-- the words of a report set behind its rows
+abbrev pub wordsSet : List ℕ → ℕ → Report → List ℕ
+wordsSet work n r = set (set (set (set (set (set work n (r .flag)) (n + 1) (r .heads)) (n + 2) (r .closed)) (n + 3) (r .tail)) (n + 4) (r .trimmed)) (n + 5) (r .edges)
 
--- the rows stored, and the four words behind them
-pub stored-all : (old : List ℕ) (at : ℕ) (r : Report) {work : List ℕ} → RowsOver old at r work → Holds (length old) at (r .s) → length (r .rows) ≡ 32 → fourSet work (at + r .s) r ≡ wordsWith old at r
+-- the rows stored, and the words behind them
+pub stored-all : (old : List ℕ) (at : ℕ) (r : Report) {work : List ℕ} → RowsOver old at r work → Holds (length old) at (r .s) → length (r .rows) ≡ 32 → wordsSet work (at + r .s) r ≡ wordsWith old at r
 stored-all old at r {work} e p l =
     let n = at + r .s in
     let one : n + 1 ≡ suc n = omega arith in
     let two : n + 2 ≡ suc (suc n) = omega arith in
     let three : n + 3 ≡ suc (suc (suc n)) = omega arith in
-    let far : at + (r .s + behindRows) ≡ n + 4 = omega arith in
+    let four : n + 4 ≡ suc (suc (suc (suc n))) = omega arith in
+    let five : n + 5 ≡ suc (suc (suc (suc (suc n)))) = omega arith in
+    let far : at + (r .s + behindRows) ≡ n + behindRows = omega arith in
     let before : at ≤ length old = omega arith in
     let few : r .s ≤ length (r .rows) = omega arith in
     let long : length work ≡ length old = rw e (length-paste old at (r .rows) (r .s) (omega arith) few) in
     let head : take n work ≡ take at old ++ take (r .s) (r .rows) = rw e (take-paste old at (r .rows) (r .s) before few) in
     let behind : drop n work ≡ drop n old = rw e (drop-paste old at (r .rows) (r .s) before few) in
-    let rest : drop (n + 4) work ≡ drop (n + 4) old = sym (drop-drop 4 n work) ∙ ap (drop 4) behind ∙ drop-drop 4 n old in
-    rw (one, two, three, far)
-    (sets-eq (r .flag ∷ r .heads ∷ r .closed ∷ r .tail ∷ []) work n (omega arith) ∙ rw (head, rest) (simp append-assoc))
+    let rest : drop (n + behindRows) work ≡ drop (n + behindRows) old = sym (drop-drop behindRows n work) ∙ ap (drop behindRows) behind ∙ drop-drop behindRows n old in
+    rw (one, two, three, four, five, far)
+    (sets-eq (r .flag ∷ r .heads ∷ r .closed ∷ r .tail ∷ r .trimmed ∷ r .edges ∷ []) work n (omega arith) ∙ rw (head, rest) (simp append-assoc))
 
 -- Whether there is room.
 

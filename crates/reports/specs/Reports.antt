@@ -1,10 +1,13 @@
--- Document 01, "Reports": a report is a span and the number of its closed lines, flat; and the joining of two reports.
-use Prim.Native.Nat.{ℕ}
+-- Document 01, "Reports", with document 02, S-4: a report is a span and the number of its closed lines, flat; and the joining of two reports.
+use Prim.Native.Nat.{ℕ, _+_}
 use mathlib.Core.Bool.{Bool, true, false, not, cond, _&&_}
 use mathlib.Core.List.{List}
 use lib.Dec.{leb, eqb}
 use Rattle.pattern.specs.Meaning.{Query}
 use Rattle.pattern.specs.declared.automaton.Accepting.{Accepting}
+use Rattle.stateset.specs.Set.{bit}
+use Rattle.spans.specs.declared.span.Span.{Span}
+use Rattle.spans.specs.declared.span.Edges.{Edges}
 use Rattle.spans.specs.declared.span.JoinedSpan.{JoinedSpan}
 use Rattle.spans.specs.Spans.{noRows, span, closedLines}
 use Rattle.spans.specs.Joining.{emptySpan, joinedSpans, extendedSpan, endLines}
@@ -29,9 +32,23 @@ shownOf false n = 0
 shownOf true (Total.Lines n) = n
 shownOf true Total.TooMany = 0
 
+-- "1 if the run begins with LF, plus 2 if it ends in CR"
+abbrev pub edgesWord : Edges → ℕ
+edgesWord e = cond (e .leading) 1 0 + cond (e .trailing) 2 0
+
 -- the fields of a report
 abbrev pub flat : ℕ → ℕ → SpanCount → Report
-flat flag closed a = record { s = a .span .s; rows = a .span .rows; flag = flag; heads = a .span .heads; closed = closed; tail = a .span .tail }
+flat flag closed a =
+    record {
+      s = a .span .s;
+      rows = a .span .rows;
+      flag = flag;
+      heads = a .span .heads;
+      closed = closed;
+      tail = a .span .tail;
+      trimmed = a .span .edges .trimmed;
+      edges = edgesWord (a .span .edges);
+    }
 
 unfoldable pub reportOf : SpanCount → Report
 reportOf a = flat (flagOf (a .span .ended) (a .closed)) (shownOf (a .span .ended) (a .closed)) a
@@ -62,15 +79,23 @@ joinedCounts a b = withLine (joinedSpans (a .span) (b .span)) (bothTotals (a .cl
 unfoldable pub totalIn : Accepting → SpanCount → Total
 totalIn p a = bothTotals (a .closed) (Total.Lines (endLines p (a .span)))
 
--- Joining reports: "it ignores rows and state bits at s and above and fields that the flag empties; a flag over 2 is read as 2".
+-- Joining reports: "it ignores rows and state bits at s and above and fields that the flag empties; a flag over 2 is read as 2". What it makes of
+-- the two words of S-4 stands in docs/JOINING.md.
 
 -- the closed lines in a report
 abbrev pub closedIn : Report → Total
 closedIn a = cond (eqb (a .flag) 0) (Total.Lines 0) (cond (leb 2 (a .flag)) Total.TooMany (Total.Lines (a .closed)))
 
+-- the edges in its two last words: of the second the bits of value 1 and 2 are read, and no others
+abbrev pub edgesIn : ℕ → ℕ → Edges
+edgesIn x w = record { trimmed = x; leading = bit w 0; trailing = bit w 1 }
+
+abbrev pub spanIn : Report → Span
+spanIn a = record { s = a .s; rows = a .rows; ended = not (eqb (a .flag) 0); heads = a .heads; tail = a .tail; edges = edgesIn (a .trimmed) (a .edges) }
+
 -- the span in a report, and its closed lines
 unfoldable pub inReport : Report → SpanCount
-inReport a = record { span = record { s = a .s; rows = a .rows; ended = not (eqb (a .flag) 0); heads = a .heads; tail = a .tail }; closed = closedIn a }
+inReport a = record { span = spanIn a; closed = closedIn a }
 
 -- that this is "the report of the two runs one after the other" is the theorem `join-reports`
 unfoldable pub joinedReports : Report → Report → Report
@@ -82,4 +107,4 @@ alike a b = eqb (a .s) (b .s) && (leb 3 (a .s) && leb (a .s) 32)
 
 -- "A refusal's other numbers are 0"
 abbrev pub noReport : Report
-noReport = record { s = 0; rows = noRows; flag = 0; heads = 0; closed = 0; tail = 0 }
+noReport = record { s = 0; rows = noRows; flag = 0; heads = 0; closed = 0; tail = 0; trimmed = 0; edges = 0 }

@@ -1,4 +1,4 @@
--- Document 01, "Reports": the work words of a report.
+-- Document 01, "Reports", with document 02, S-4: the work words of a report.
 use Prim.Native.Nat.{ℕ, _+_, _-_}
 use mathlib.Core.Bool.{Bool, _&&_, cond}
 use mathlib.Core.List.{List, [], _∷_, _++_}
@@ -7,17 +7,27 @@ use lib.ListN.{length, getD, take, drop, replicate}
 use Rattle.reports.specs.declared.report.Report.{Report}
 use Rattle.reports.specs.Reports.{noReport}
 
--- the words behind the rows, which s of them take
+-- how many words stand behind the s rows
 abbrev pub behindRows : ℕ
-behindRows = 4
+behindRows = 6
 
--- "rows, flag, heads, closed, tail"
+-- "rows, flag, heads, closed, tail"; "two more work words a macro, after tail"
 abbrev pub reportWords : Report → List ℕ
-reportWords r = take (r .s) (r .rows) ++ (r .flag ∷ r .heads ∷ r .closed ∷ r .tail ∷ [])
+reportWords r = take (r .s) (r .rows) ++ (r .flag ∷ r .heads ∷ r .closed ∷ r .tail ∷ r .trimmed ∷ r .edges ∷ [])
 
 -- a report of s states read back from its words
 abbrev pub loaded : ℕ → List ℕ → Report
-loaded s w = record { s = s; rows = take s w ++ replicate (32 - s) 0; flag = getD w s 0; heads = getD w (s + 1) 0; closed = getD w (s + 2) 0; tail = getD w (s + 3) 0 }
+loaded s w =
+    record {
+      s = s;
+      rows = take s w ++ replicate (32 - s) 0;
+      flag = getD w s 0;
+      heads = getD w (s + 1) 0;
+      closed = getD w (s + 2) 0;
+      tail = getD w (s + 3) 0;
+      trimmed = getD w (s + 4) 0;
+      edges = getD w (s + 5) 0;
+    }
 
 -- n words hold those of a report of s states from `at` on
 abbrev pub roomFor : ℕ → ℕ → ℕ → Bool

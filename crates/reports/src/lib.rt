@@ -1,5 +1,6 @@
 // Reports of runs: a span and the number of its closed lines, of the empty run, with one key more, joined, flat, as work words; and
 // the count that it comes to.
+mod edges;
 mod report;
 mod span_count;
 mod total;

@@ -1,4 +1,6 @@
-// Reports of runs: a span and the number of its closed lines, flat (document 01, "Reports"); and joining.
+// Reports of runs: a span and the number of its closed lines, flat (document 01, "Reports", with document 02, S-4); and joining.
+use crate::edges::edges_in;
+use crate::edges::edges_word;
 use crate::span_count::SpanCount;
 use crate::span_count::joined;
 use crate::total::Total;
@@ -11,8 +13,8 @@ ghost use lib.Dec.{eqb, leb};
 ghost use Rattle.reports.specs.Reports.{closedIn, inReport, noReport, reportOf};
 ghost use Rattle.reports.specs.Answers.{joinResult};
 
-// The work words of a report behind its rows: flag, heads, closed, tail.
-pub const BEHIND_ROWS: usize = 4;
+// The work words of a report behind its rows: flag, heads, closed, tail, trimmed, edges.
+pub const BEHIND_ROWS: usize = 6;
 
 // What a run does to the states of a pattern.
 pub struct Report {
@@ -28,6 +30,11 @@ pub struct Report {
     pub closed: u64,
     // The states reached from line-start since the last line end.
     pub tail: u64,
+    // The states from which the keys since the last line end, less a final CR, are accepted, once there is a line end from line-start alone;
+    // none without a final CR.
+    pub trimmed: u64,
+    // 1 if the run begins with a line end, plus 2 if it ends in CR.
+    pub edges: u64,
 }
 
 // What joining two reports answers: the refusal's number, 0 if there is none, and the report, zeros if it is refused.
@@ -48,6 +55,8 @@ pub(crate) fn no_report() -> Report
         heads: 0,
         closed: 0,
         tail: 0,
+        trimmed: 0,
+        edges: 0,
     }
 }
 
@@ -69,12 +78,14 @@ pub fn in_report(a: Report) -> SpanCount
     ensures { λ r. ⌜ r ≡ inReport a ⌝ }
 {
     let rows = a.rows;
+    let edges = edges_in(a.trimmed, a.edges);
     let span = Span {
         s: a.s,
         rows: rows,
         ended: a.flag != 0,
         heads: a.heads,
         tail: a.tail,
+        edges: edges,
     };
     let closed = closed_in(a);
     SpanCount {
@@ -89,6 +100,8 @@ pub fn report_of(a: SpanCount) -> Report
 {
     let span = a.span;
     let rows = span.rows;
+    let edges = span.edges;
+    let word = edges_word(edges);
     let closed = a.closed;
     let mut flag = 0;
     let mut lines = 0;
@@ -110,6 +123,8 @@ pub fn report_of(a: SpanCount) -> Report
         heads: span.heads,
         closed: lines,
         tail: span.tail,
+        trimmed: edges.trimmed,
+        edges: word,
     }
 }
 

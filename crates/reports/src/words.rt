@@ -1,4 +1,4 @@
-// The work words of reports (document 01, "Reports"): rows, flag, heads, closed, tail.
+// The work words of reports (document 01, "Reports", with document 02, S-4): rows, flag, heads, closed, tail, trimmed, edges.
 use crate::report::BEHIND_ROWS;
 use crate::report::Report;
 use crate::report::no_report;
@@ -47,6 +47,8 @@ fn load_words(work: &[u64], at: usize, s: usize) -> Report
         heads: work[end + 1],
         closed: work[end + 2],
         tail: work[end + 3],
+        trimmed: work[end + 4],
+        edges: work[end + 5],
     }
 }
 
@@ -86,6 +88,8 @@ fn store_words(work: &mut [u64], at: usize, r: Report)
     work[end + 1] = r.heads;
     work[end + 2] = r.closed;
     work[end + 3] = r.tail;
+    work[end + 4] = r.trimmed;
+    work[end + 5] = r.edges;
 }
 
 // The same where there is room for all of them; else nothing is written.

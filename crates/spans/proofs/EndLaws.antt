@@ -2,22 +2,22 @@
 use Prim.Native.Nat.{ℕ, _+_, _<_, _≤_}
 use native.Mathlib.Omega.{arith}
 use native.Mathlib.Nat.{zero-add}
-use mathlib.Core.Path.{_≡_, refl, sym, ap, _∙_}
-use mathlib.Core.Bool.{Bool, true, false, not, cond, _&&_, and-comm, Bool·not-not}
+use mathlib.Core.Path.{_≡_, refl, sym, _∙_}
+use mathlib.Core.Bool.{Bool, true, false, not, cond, _&&_, Bool·not-not}
 use mathlib.Core.List.{List, [], _∷_}
-use lib.Dec.{eqb}
 use lib.ListN.{getD}
 use Rattle.runs.specs.Keys.{isLine, isRun}
 use Rattle.stateset.specs.Set.{bit, word, common}
-use Rattle.stateset.proofs.Sets.{bit-word, bit-one}
-use Rattle.stateset.proofs.Some.{any-ext, any-at}
+use Rattle.stateset.proofs.Sets.{bit-word}
+use Rattle.stateset.proofs.Some.{any-ext}
 use Rattle.pattern.specs.Form.{atomCount}
 use Rattle.pattern.specs.Meaning.{Query, matches}
 use Rattle.pattern.specs.Moves.{states, accepting, leads, acceptedFrom}
 use Rattle.pattern.specs.declared.automaton.Accepting.{Accepting}
 use Rattle.pattern.proofs.AcceptedLines.{states-match}
-use Rattle.pattern.proofs.Leading.{leads-none, leads-start, accepted-is}
-use Rattle.lines.specs.Lines.{matching, isOpen}
+use Rattle.pattern.proofs.Leading.{accepted-is}
+use Rattle.lines.specs.Lines.{trimmed, closedMatches, matching, isOpen}
+use Rattle.lines.proofs.Trims.{trim-line}
 use Rattle.lines.specs.Parts.{firstPart, laterParts, lastPart}
 use Rattle.lines.proofs.PartLaws.{countBefore, countOne, countLast, first-whole, first-line, later-lines, last-line, matching-parts, matching-whole}
 use Rattle.lines.proofs.Tallying.{at-most-one}
@@ -25,22 +25,12 @@ use Rattle.spans.specs.declared.span.Span.{Span}
 use Rattle.spans.specs.Spans.{spanWith, span, closedWith, closedLines}
 use Rattle.spans.specs.Joining.{stateCount, lastLine, endsWith, endLines}
 use Rattle.spans.proofs.RowLaws.{states-all, row-of}
-use Rattle.spans.proofs.JoinLaw.{headsOf}
-
--- a set that has line-start
-common-start : (s x : ℕ) → 0 < s → common s x 1 ≡ bit x 0
-common-start s x h =
-    any-ext s (λ p. bit x p && bit 1 p) (λ p. eqb 0 p && bit x p) (λ p l. ap (λ (b : Bool). bit x p && b) (bit-one 0 p) ∙ and-comm (bit x p) (eqb 0 p))
-    ∙ any-at s 0 (bit x) h
+use Rattle.spans.proofs.EdgeLaws.{headsOf, common-start, starts}
 
 module _ (t : Query) (few : atomCount (t .tree) ≤ 29) (p : Accepting) (tables : p .accepting ≡ word 32 (accepting (t .tree))) where
   -- the states that a line leads to have left line-start exactly if it has a key
-  starts : (l : List ℕ) → common (states t) (word (states t) (leads t 0 l)) 1 ≡ not (isOpen l)
-  starts l = common-start (states t) (word (states t) (leads t 0 l)) (omega arith) ∙ bit-word (states t) (leads t 0 l) 0 (omega arith) ∙ go l
-    where
-      go : (l : List ℕ) → leads t 0 l 0 ≡ not (isOpen l)
-      go [] = leads-none t 0 0
-      go (c ∷ l) = leads-start t l c 0
+  left-start : (l : List ℕ) → common (states t) (word (states t) (leads t 0 l)) 1 ≡ not (isOpen l)
+  left-start l = common-start (states t) (word (states t) (leads t 0 l)) (omega arith) ∙ bit-word (states t) (leads t 0 l) 0 (omega arith) ∙ starts t l
 
   -- and accept exactly if it matches
   accepts : (l : List ℕ) → isLine l ≡ true → common (states t) (word (states t) (leads t 0 l)) (p .accepting) ≡ matches t l
@@ -51,7 +41,7 @@ module _ (t : Query) (few : atomCount (t .tree) ≤ 29) (p : Accepting) (tables 
       ∙ states-match t l h
 
   last-part : (l : List ℕ) → isLine l ≡ true → cond (lastLine (states t) p (word (states t) (leads t 0 l))) 1 0 ≡ countLast (matches t) l
-  last-part l h = rw (starts l, accepts l h, Bool·not-not (isOpen l)) refl
+  last-part l h = rw (left-start l, accepts l h, Bool·not-not (isOpen l)) refl
 
   first-part : (l : List ℕ) → isLine l ≡ true → common (states t) (headsOf t l) 1 ≡ matches t l
   first-part l h = common-start (states t) (headsOf t l) (omega arith) ∙ bit-word (states t) (λ q. acceptedFrom t q l) 0 (omega arith) ∙ states-match t l h
@@ -70,8 +60,8 @@ module _ (t : Query) (few : atomCount (t .tree) ≤ 29) (p : Accepting) (tables 
           matching-whole t w e ∙ sym (rw (all, row-of (states t) (λ q r. leads t q w r) 0 (omega arith) (omega arith)) (zero-add _ ∙ last-part w line))
       go (l ∷ ls) e =
           let line = last-line l ls (rw e at (later-lines w run)) in
-          let one = first-part (firstPart w) (first-line w run) in
-          matching-parts t w e ∙ rw (all, one, last-part (lastPart l ls) line) (sum (countOne (matches t) (firstPart w)) (countBefore (matches t) l ls) (countLast (matches t) (lastPart l ls)))
+          let one = first-part (trimmed (firstPart w)) (trim-line (firstPart w) (first-line w run)) in
+          matching-parts t w e ∙ rw (all, one, last-part (lastPart l ls) line) (sum (countOne (closedMatches t) (firstPart w)) (countBefore (closedMatches t) l ls) (countLast (matches t) (lastPart l ls)))
         where
           sum : (x n y : ℕ) → x + (n + y) ≡ n + (x + y)
           sum x n y = omega arith

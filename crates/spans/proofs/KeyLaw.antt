@@ -14,7 +14,7 @@ use Rattle.stateset.specs.Set.{bit, word, common}
 use Rattle.stateset.proofs.Sets.{bit-word, bits-ext, word-ext, word-high, word-one}
 use Rattle.stateset.proofs.Some.{any-ext, any-at}
 use Rattle.pattern.specs.Form.{atomCount}
-use Rattle.pattern.specs.Meaning.{Query, matches}
+use Rattle.pattern.specs.Meaning.{Query}
 use Rattle.pattern.specs.Moves.{states, accepting, leads, acceptedFrom}
 use Rattle.pattern.specs.Automata.{Automaton}
 use Rattle.pattern.specs.declared.automaton.Accepting.{Accepting}
@@ -22,14 +22,19 @@ use Rattle.pattern.proofs.Readings.{accepting-of}
 use Rattle.pattern.proofs.Leading.{leads-none, accepted-is}
 use Rattle.lines.specs.Moving.{moved}
 use Rattle.lines.specs.Parts.{firstPart, laterParts, lastPart}
+use Rattle.lines.specs.Lines.{trimmed, closedMatches}
+use Rattle.lines.proofs.Trims.{trim-none}
 use Rattle.lines.proofs.Reaching.{looked-up, leads-high, leads-more}
 use Rattle.lines.proofs.PartLaws.{lastThen, first-kept, later-into, later-kept, last-open, end-part, end-first, key-part, last-one, before-none}
 use Rattle.spans.specs.declared.span.Span.{Span}
-use Rattle.spans.specs.Spans.{noRows, spanWith, span, closedWith, closedLines, closesWith, closesBetween}
-use Rattle.spans.specs.Joining.{stateCount, endSpan, joinedWith, joinedSpans, keyed, movedWith, movedSpan, extendedSpan}
+use Rattle.spans.specs.declared.span.Edges.{Edges}
+use Rattle.spans.specs.Spans.{edges, spanWith, span, closedWith, closedLines, closesWith, closesBetween}
+use Rattle.spans.specs.Joining.{stateCount, joinedEdges, headsAcross, endEdges, endSpan, joinedWith, joinedSpans, keyed, movedWith, withEdges, movedSpan, extendedSpan}
 use Rattle.spans.proofs.RowLaws.{states-all, row-of, rows-same}
-use Rattle.spans.proofs.SpanLaws.{span-size, ends-same}
-use Rattle.spans.proofs.JoinLaw.{spanAnd, runRows, headsOf, join-spans, closed-append}
+use Rattle.spans.proofs.SpanLaws.{span-size, ends-same, open-same}
+use Rattle.spans.proofs.Made.{ofEnds}
+use Rattle.spans.proofs.EdgeLaws.{runRows, headsOf, edges-end, moved-edges}
+use Rattle.spans.proofs.JoinLaw.{spanAnd, join-spans, closed-append}
 
 -- Words of a run.
 module _ (t : Query) (few : atomCount (t .tree) ≤ 29) (q : ℕ) (inside : q < states t) where
@@ -72,17 +77,18 @@ accepted-none t q h =
     ∙ any-at (states t) q (accepting (t .tree)) h
 
 -- joining goes by the states below s of the right span's heads
-heads-same : (a : Span) (s h i z : ℕ) → ((x : ℕ) → common (stateCount (a .s)) x h ≡ common (stateCount (a .s)) x i) → (rows : List ℕ)
-    → joinedSpans a (record { s = s; rows = rows; ended = true; heads = h; tail = z }) ≡ joinedSpans a (record { s = s; rows = rows; ended = true; heads = i; tail = z })
-unfolding joinedSpans
-heads-same a s h i z e rows = go (a .ended)
+heads-same : (a : Span) (s h i z : ℕ) (d : Edges) → ((x : ℕ) → common (stateCount (a .s)) x h ≡ common (stateCount (a .s)) x i)
+    → joinedSpans a (ofEnds s h z d) ≡ joinedSpans a (ofEnds s i z d)
+unfolding joinedSpans joinedEdges
+heads-same a s h i z d e = go (a .ended)
   where
-    right : ℕ → Span
-    right x = record { s = s; rows = rows; ended = true; heads = x; tail = z }
+    n : ℕ
+    n = stateCount (a .s)
 
-    go : (b : Bool) → joinedWith (stateCount (a .s)) b true a (right h) ≡ joinedWith (stateCount (a .s)) b true a (right i)
+    go : (b : Bool) → joinedWith n b true a (ofEnds s h z d) ≡ joinedWith n b true a (ofEnds s i z d)
     go true = rw (e (a .tail)) refl
-    go false = rw (word-ext (stateCount (a .s)) (λ q. common (stateCount (a .s)) (getD (a .rows) q 0) h) (λ q. common (stateCount (a .s)) (getD (a .rows) q 0) i) (λ q l. e (getD (a .rows) q 0))) refl
+    go false =
+        rw (word-ext n (headsAcross n a (ofEnds s h z d)) (headsAcross n a (ofEnds s i z d)) (λ q l. ap (cond (a .edges .trailing && d .leading) (bit (a .edges .trimmed) q)) (e (getD (a .rows) q 0)))) refl
 
 -- a key that is no line end closes none
 none-closed : (t : Query) (w : List ℕ) (k : ℕ) → eqb lineEnd k ≡ false → closesBetween t w (k ∷ []) ≡ false
@@ -99,54 +105,57 @@ unfolding closedLines
 closed-one t k = go (eqb lineEnd k) refl
   where
     go : (b : Bool) → eqb lineEnd k ≡ b → closedWith t (laterParts (k ∷ [])) ≡ 0
-    go true e = let same : lineEnd ≡ k = eqb-true lineEnd k e in rw (← same, end-part) (before-none (matches t) [])
+    go true e = let same : lineEnd ≡ k = eqb-true lineEnd k e in rw (← same, end-part) (before-none (closedMatches t) [])
     go false e = rw (key-part k e) refl
 
 -- the span of a line end alone
-end-span : (t : Query) → span t (lineEnd ∷ []) ≡ record { s = states t; rows = noRows; ended = true; heads = headsOf t []; tail = 1 }
+end-span : (t : Query) → span t (lineEnd ∷ []) ≡ ofEnds (states t) (headsOf t []) 1 endEdges
 unfolding span
-end-span t = rw (end-part, end-first, last-one [], ← start-word t) refl
+end-span t = rw (end-part, end-first, trim-none, last-one [], ← start-word t, ← edges-end t) refl
 
 module _ {t : Query} {keys enter : List ℕ} {p : Accepting} (d : Automaton t keys enter p) where
   span-count : (w : List ℕ) → stateCount (span t w .s) ≡ states t
   span-count w = ap stateCount (span-size t w) ∙ states-all (states t) (omega (arith, d .few))
 
+  -- the accepting states
+  accepts : (x : ℕ) → common (states t) x (p .accepting) ≡ common (states t) x (headsOf t [])
+  accepts x =
+      any-ext (states t) (λ r. bit x r && bit (p .accepting) r) (λ r. bit x r && bit (headsOf t []) r)
+      (λ r l.
+      let low : r < 32 = omega (arith, d .few) in
+      rw (accepting-of d, bit-word 32 (accepting (t .tree)) r low, bit-word (states t) (λ q. acceptedFrom t q []) r l, accepted-none t r l) refl)
+
   -- a line end
   end-joined : (w : List ℕ) → joinedSpans (span t w) (endSpan (span t w .s) p) ≡ joinedSpans (span t w) (span t (lineEnd ∷ []))
   end-joined w =
       ap (λ (n : ℕ). joinedSpans (span t w) (endSpan n p)) (span-size t w)
-      ∙ heads-same (span t w) (states t) (p .accepting) (headsOf t []) 1 (λ x. rw (span-count w) (same x)) noRows
+      ∙ heads-same (span t w) (states t) (p .accepting) (headsOf t []) 1 endEdges (λ x. rw (span-count w) (accepts x))
       ∙ ap (joinedSpans (span t w)) (sym (end-span t))
-    where
-      same : (x : ℕ) → common (states t) x (p .accepting) ≡ common (states t) x (headsOf t [])
-      same x =
-          any-ext (states t) (λ r. bit x r && bit (p .accepting) r) (λ r. bit x r && bit (headsOf t []) r)
-          (λ r l.
-          let low : r < 32 = omega (arith, d .few) in
-          rw (accepting-of d, bit-word 32 (accepting (t .tree)) r low, bit-word (states t) (λ q. acceptedFrom t q []) r l, accepted-none t r l) refl)
 
   -- another key
   module _ (k : ℕ) (key : lineKey k ≡ true) (other : eqb lineEnd k ≡ false) (w : List ℕ) where
     moved-with : (ls : List (List ℕ)) → laterParts w ≡ ls
-        → movedWith (states t) (keyed keys enter p k (states t)) (spanWith t w ls .ended) (spanWith t w ls) ≡ spanWith t (w ++ (k ∷ [])) (laterParts (w ++ (k ∷ [])))
+        → withEdges (edges t (w ++ (k ∷ []))) (movedWith (states t) (keyed keys enter p k (states t)) (spanWith t w ls .ended) (spanWith t w ls)) ≡ spanWith t (w ++ (k ∷ [])) (laterParts (w ++ (k ∷ [])))
     moved-with [] e =
         rw (later-into w (k ∷ []) e, key-part k other)
-        (ap (λ (rows : List ℕ). record { s = states t; rows = rows; ended = false; heads = 0; tail = 0 })
+        (open-same (states t)
         (rows-same (states t) (λ q. keyed keys enter p k (states t) (getD (runRows t w) q 0)) (λ q r. leads t q (w ++ (k ∷ [])) r)
-        (λ q r h l. row-keyed t (d .few) q h d k key w (row-of (states t) (λ q r. leads t q w r) q h (omega (arith, d .few))) r l)))
+        (λ q r h l. row-keyed t (d .few) q h d k key w (row-of (states t) (λ q r. leads t q w r) q h (omega (arith, d .few))) r l))
+        refl)
     moved-with (l ∷ ls) e =
         rw (later-kept w (k ∷ []) e)
         (ends-same (states t)
-        (bit (headsOf t (firstPart w)))
-        (λ q. acceptedFrom t q (firstPart (w ++ (k ∷ []))))
+        (bit (headsOf t (trimmed (firstPart w))))
+        (λ q. acceptedFrom t q (trimmed (firstPart (w ++ (k ∷ [])))))
         (keyed keys enter p k (states t) (word (states t) (leads t 0 (lastPart l ls))))
         (leads t 0 (lastThen l ls (k ∷ [])))
-        (λ q h. bit-word (states t) (λ q. acceptedFrom t q (firstPart w)) q h ∙ ap (acceptedFrom t q) (sym (first-kept w (k ∷ []) e)))
-        (λ r h. row-keyed t (d .few) 0 (omega arith) d k key (lastPart l ls) refl r h ∙ ap (λ (v : List ℕ). leads t 0 v r) (sym (last-open l ls (k ∷ []) (key-part k other)))))
+        (λ q h. bit-word (states t) (λ q. acceptedFrom t q (trimmed (firstPart w))) q h ∙ ap (λ (l : List ℕ). acceptedFrom t q (trimmed l)) (sym (first-kept w (k ∷ []) e)))
+        (λ r h. row-keyed t (d .few) 0 (omega arith) d k key (lastPart l ls) refl r h ∙ ap (λ (v : List ℕ). leads t 0 v r) (sym (last-open l ls (k ∷ []) (key-part k other))))
+        refl)
 
     moved-span : movedSpan keys enter p (span t w) k ≡ span t (w ++ (k ∷ []))
     unfolding movedSpan span
-    moved-span = rw (span-count w) (moved-with (laterParts w) refl)
+    moved-span = rw (span-count w, moved-edges t (d .few) p accepts w k other) (moved-with (laterParts w) refl)
 
   -- The span of w, with key k more, is the span of w followed by k.
   pub extend-span : (w : List ℕ) (k : ℕ) → isRun w ≡ true → isKey k ≡ true

@@ -1,7 +1,9 @@
 -- Laws.
 pub mod RowLaws
+pub mod EdgeLaws
 pub mod SpanLaws
 pub mod Made
+pub mod EdgesMade
 pub mod JoinLaw
 pub mod KeyLaw
 pub mod EndLaws

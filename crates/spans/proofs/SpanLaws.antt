@@ -21,9 +21,11 @@ use Rattle.pattern.proofs.Leading.{leads-none}
 use Rattle.lines.specs.Parts.{laterParts}
 use Rattle.lines.proofs.PartLaws.{later-none}
 use Rattle.spans.specs.declared.span.Span.{Span}
+use Rattle.spans.specs.declared.span.Edges.{Edges}
 use Rattle.spans.specs.Spans.{rowsOf, noRows, endedSpan, spanWith, span, closedWith, closedLines}
 use Rattle.spans.specs.Joining.{stateCount, emptySpan, joinedWith, joinedSpans, keyed, movedWith, movedSpan, endSpan, extendedSpan}
 use Rattle.spans.proofs.RowLaws.{states-all, states-few, rows-same}
+use Rattle.spans.proofs.EdgeLaws.{edges-none}
 
 -- the span of a run has the pattern's states
 pub span-size : (t : Query) (w : List ℕ) → span t w .s ≡ states t
@@ -34,17 +36,19 @@ span-size t w = go (laterParts w)
     go [] = refl
     go (l ∷ ls) = refl
 
--- a span with the same heads and tail is the same
-pub ends-same : (s : ℕ) (H I T U : ℕ → Bool) → ((q : ℕ) → q < s → H q ≡ I q) → ((p : ℕ) → p < s → T p ≡ U p) → endedSpan s H T ≡ endedSpan s I U
-ends-same s H I T U f g = rw (word-ext s H I f, word-ext s T U g) refl
+-- a span with the same fields is the same
+pub ends-same : (s : ℕ) (H I T U : ℕ → Bool) {d e : Edges} → ((q : ℕ) → q < s → H q ≡ I q) → ((p : ℕ) → p < s → T p ≡ U p) → d ≡ e → endedSpan s H T d ≡ endedSpan s I U e
+ends-same s H I T U f g i = rw (word-ext s H I f, word-ext s T U g, i) refl
+
+pub open-same : (s : ℕ) {x y : List ℕ} {d e : Edges} → x ≡ y → d ≡ e → _≡_ {A = Span} (record { s = s; rows = x; ended = false; heads = 0; tail = 0; edges = d }) (record { s = s; rows = y; ended = false; heads = 0; tail = 0; edges = e })
+open-same s f g = rw (f, g) refl
 
 -- the empty run
 pub empty-span : (t : Query) → atomCount (t .tree) ≤ 29 → emptySpan (states t) ≡ span t []
 unfolding span
 empty-span t few =
     rw (later-none, states-all (states t) (omega arith))
-    (ap (λ (rows : List ℕ). record { s = states t; rows = rows; ended = false; heads = 0; tail = 0 })
-    (rows-same (states t) (λ q p. eqb q p) (λ q p. leads t q [] p) (λ q p h l. sym (leads-none t q p))))
+    (open-same (states t) (rows-same (states t) (λ q p. eqb q p) (λ q p. leads t q [] p) (λ q p h l. sym (leads-none t q p))) (edges-none t))
 
 pub closed-empty : (t : Query) → closedLines t [] ≡ 0
 unfolding closedLines

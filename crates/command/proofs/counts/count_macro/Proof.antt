@@ -1,4 +1,4 @@
--- `counts::count_macro`: what the count tells with 36,864 words.
+-- `counts::count_macro`: what the count tells with 38,912 words.
 use borrow.Author.Needs.{needs}
 use Rattle.command.proofs.InputLaws.{macro-told}
 use Rattle.command.proofs.counts.count_macro.Statement.{statement}

@@ -1,4 +1,4 @@
--- `counts::last_of`: what `last_in` tells with 36,864 words.
+-- `counts::last_of`: what `last_in` tells with 38,912 words.
 use borrow.Author.Needs.{needs}
 use Rattle.command.proofs.InputLaws.{last-told}
 use Rattle.command.proofs.counts.last_of.Statement.{statement}

@@ -1,6 +1,6 @@
--- `run::after_key`: a line end closes the line, another key goes on with it.
+-- `run::after_key`: a line end closes the line less a final CR, another key goes on with it.
 use native.Mathlib.Omega.{arith}
-use Rattle.lines.proofs.Tallying.{at-most-one, after-end, after-other}
+use Rattle.lines.proofs.Tallying.{at-most-one, after-end, after-return, after-other}
 use borrow.Author.Needs.{needs}
 use Rattle.lines.proofs.run.after_key.Statement.{statement}
 use Rattle.lines.proofs.run.after_key.Tie as tie
@@ -14,8 +14,8 @@ meets-requires c κs = search needs
 chosen-requires : tie.Need-chosen-requires
 chosen-requires c κs = search needs
 
-add-t11 : tie.Need-add-t11
-add-t11 c = omega (arith, at-most-one (c .before .before .meets .result) (c .before .chosen .ensures))
+add-t13 : tie.Need-add-t13
+add-t13 c = omega (arith, at-most-one (c .before .before .meets .result) (c .before .chosen .ensures))
 
 returns : tie.Need-returns
 returns c = search (after-end)
@@ -24,7 +24,10 @@ advance-requires : tie.Need-advance-requires
 advance-requires c κs = search needs
 
 returns-2 : tie.Need-returns-2
-returns-2 c = search (after-other, needs)
+returns-2 c = search (after-return, needs)
+
+returns-3 : tie.Need-returns-3
+returns-3 c = search (after-other, needs)
 
 pub after-key-spec : {M : Type 1} → statement M
 after-key-spec =
@@ -33,7 +36,8 @@ after-key-spec =
     set-requires
     meets-requires
     chosen-requires
-    add-t11
+    add-t13
     returns
     advance-requires
-    returns-2)
+    returns-2
+    returns-3)

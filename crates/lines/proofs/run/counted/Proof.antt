@@ -8,10 +8,10 @@ use Rattle.lines.proofs.run.counted.Statement.{statement}
 use Rattle.lines.proofs.run.counted.Tie as tie
 
 abbrev Inv-loop : tie.InvT-loop
-Inv-loop run keys enter a t₀ at₀ t at = RunSoFar keys enter a run t at
+Inv-loop run keys enter a start t₀ at₀ t at = RunSoFar keys enter a run t at
 
 abbrev μ-loop : tie.MeasureT-loop
-μ-loop run keys enter a t₀ at₀ t at = length run - at
+μ-loop run keys enter a start t₀ at₀ t at = length run - at
 
 set-requires : tie.Need-set-requires Inv-loop μ-loop
 set-requires c κs = search needs
@@ -43,8 +43,8 @@ meets-requires c κs = search needs
 chosen-requires : tie.Need-chosen-requires Inv-loop μ-loop
 chosen-requires c κs = search needs
 
-add-t17 : tie.Need-add-t17 Inv-loop μ-loop
-add-t17 c = omega (arith, last-small (c .before .before .before .before .before .loop .t .pending) (c .before .before .before .meets .result) (c .before .chosen .ensures))
+add-t18 : tie.Need-add-t18 Inv-loop μ-loop
+add-t18 c = omega (arith, last-small (c .before .before .before .before .before .loop .t .pending) (c .before .before .before .meets .result) (c .before .chosen .ensures))
 
 returns-2 : tie.Need-returns-2 Inv-loop μ-loop
 returns-2 c = search (run-done)
@@ -65,5 +65,5 @@ counted-spec =
     loop-again
     meets-requires
     chosen-requires
-    add-t17
+    add-t18
     returns-2)

@@ -4,6 +4,9 @@ use borrow.Author.Needs.{needs}
 use Rattle.reports.proofs.report.report_of.Statement.{statement}
 use Rattle.reports.proofs.report.report_of.Tie as tie
 
+edges-word-requires : tie.Need-edges-word-requires
+edges-word-requires c κs = search needs
+
 enum-known-closed : tie.Need-enum-known-closed
 enum-known-closed c = search needs
 
@@ -20,4 +23,6 @@ returns-3 : tie.Need-returns-3
 returns-3 c = search (flat-open)
 
 pub report-of-spec : {M : Type 1} → statement M
-report-of-spec = tie.close (tie.spec enum-known-closed enum-told returns returns-2 returns-3)
+report-of-spec =
+    tie.close
+    (tie.spec edges-word-requires enum-known-closed enum-told returns returns-2 returns-3)

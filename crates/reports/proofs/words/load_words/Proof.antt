@@ -1,6 +1,6 @@
--- `load_words`: the rows, then the four words behind them.
-use borrow.Author.Needs.{needs}
+-- `load_words`: the rows, then the words behind them.
 use Rattle.reports.proofs.WordLaws.{loaded-all}
+use borrow.Author.Needs.{needs}
 use Rattle.reports.proofs.words.load_words.Statement.{statement}
 use Rattle.reports.proofs.words.load_words.Tie as tie
 
@@ -43,6 +43,24 @@ mul-t19 c = search needs
 shared-slice-read-t21 : tie.Need-shared-slice-read-t21
 shared-slice-read-t21 c = search needs
 
+add-t22 : tie.Need-add-t22
+add-t22 c = search needs
+
+mul-t23 : tie.Need-mul-t23
+mul-t23 c = search needs
+
+shared-slice-read-t25 : tie.Need-shared-slice-read-t25
+shared-slice-read-t25 c = search needs
+
+add-t26 : tie.Need-add-t26
+add-t26 c = search needs
+
+mul-t27 : tie.Need-mul-t27
+mul-t27 c = search needs
+
+shared-slice-read-t29 : tie.Need-shared-slice-read-t29
+shared-slice-read-t29 c = search needs
+
 returns : tie.Need-returns
 returns c = search (loaded-all)
 
@@ -63,4 +81,10 @@ load-words-spec =
     add-t18
     mul-t19
     shared-slice-read-t21
+    add-t22
+    mul-t23
+    shared-slice-read-t25
+    add-t26
+    mul-t27
+    shared-slice-read-t29
     returns)

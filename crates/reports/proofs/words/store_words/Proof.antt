@@ -1,8 +1,8 @@
--- `store_words`: the rows, then the four words behind them.
-use borrow.Author.Needs.{needs}
+-- `store_words`: the rows, then the words behind them.
 use native.Mathlib.Omega.{arith}
 use lib.ListN.{length-set}
 use Rattle.reports.proofs.WordLaws.{stored-all}
+use borrow.Author.Needs.{needs}
 use Rattle.reports.proofs.words.store_words.Statement.{statement}
 use Rattle.reports.proofs.words.store_words.Tie as tie
 
@@ -45,6 +45,24 @@ mul-work-4 c = search needs
 slice-write-work-4 : tie.Need-slice-write-work-4
 slice-write-work-4 c = simp length-set (omega arith)
 
+add-work-4 : tie.Need-add-work-4
+add-work-4 c = search needs
+
+mul-work-5 : tie.Need-mul-work-5
+mul-work-5 c = search needs
+
+slice-write-work-5 : tie.Need-slice-write-work-5
+slice-write-work-5 c = simp length-set (omega arith)
+
+add-work-5 : tie.Need-add-work-5
+add-work-5 c = search needs
+
+mul-work-6 : tie.Need-mul-work-6
+mul-work-6 c = search needs
+
+slice-write-work-6 : tie.Need-slice-write-work-6
+slice-write-work-6 c = simp length-set (omega arith)
+
 same-length : tie.Need-same-length
 same-length c = search needs
 
@@ -68,5 +86,11 @@ store-words-spec =
     add-work-3
     mul-work-4
     slice-write-work-4
+    add-work-4
+    mul-work-5
+    slice-write-work-5
+    add-work-5
+    mul-work-6
+    slice-write-work-6
     same-length
     returns)

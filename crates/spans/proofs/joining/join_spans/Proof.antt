@@ -7,6 +7,9 @@ use Rattle.spans.proofs.joining.join_spans.Tie as tie
 state-count-requires : tie.Need-state-count-requires
 state-count-requires c κs = search needs
 
+joined-edges-requires : tie.Need-joined-edges-requires
+joined-edges-requires c κs = search needs
+
 within-requires : tie.Need-within-requires
 within-requires c κs = search needs
 
@@ -16,8 +19,8 @@ within-requires-2 c κs = search needs
 ended-span-requires : tie.Need-ended-span-requires
 ended-span-requires c κs = search needs
 
-meeting-requires : tie.Need-meeting-requires
-meeting-requires c κs = search needs
+closes-across-requires : tie.Need-closes-across-requires
+closes-across-requires c κs = search needs
 
 returns : tie.Need-returns
 returns c = search (join-both)
@@ -31,8 +34,8 @@ ended-span-requires-2 c κs = search needs
 returns-2 : tie.Need-returns-2
 returns-2 c = search (join-ending)
 
-heads-through-requires : tie.Need-heads-through-requires
-heads-through-requires c κs = search needs
+heads-across-requires : tie.Need-heads-across-requires
+heads-across-requires c κs = search needs
 
 within-requires-3 : tie.Need-within-requires-3
 within-requires-3 c κs = search needs
@@ -57,15 +60,16 @@ join-spans-spec =
     tie.close
     (tie.spec
     state-count-requires
+    joined-edges-requires
     within-requires
     within-requires-2
     ended-span-requires
-    meeting-requires
+    closes-across-requires
     returns
     onward-from-requires
     ended-span-requires-2
     returns-2
-    heads-through-requires
+    heads-across-requires
     within-requires-3
     ended-span-requires-3
     returns-3

@@ -4,11 +4,8 @@ use borrow.Author.Needs.{needs}
 use Rattle.spans.proofs.key.extended_span.Statement.{statement}
 use Rattle.spans.proofs.key.extended_span.Tie as tie
 
-set-requires : tie.Need-set-requires
-set-requires c κs = search needs
-
-ended-span-requires : tie.Need-ended-span-requires
-ended-span-requires c κs = search needs
+end-span-requires : tie.Need-end-span-requires
+end-span-requires c κs = search needs
 
 join-spans-requires : tie.Need-join-spans-requires
 join-spans-requires c κs = search needs
@@ -23,4 +20,6 @@ returns-2 : tie.Need-returns-2
 returns-2 c = search (extended-key)
 
 pub extended-span-spec : {M : Type 1} → statement M
-extended-span-spec = tie.close (tie.spec set-requires ended-span-requires join-spans-requires returns moved-span-requires returns-2)
+extended-span-spec =
+    tie.close
+    (tie.spec end-span-requires join-spans-requires returns moved-span-requires returns-2)

@@ -45,6 +45,9 @@ loop-again c =
     let k = c .before .before .before .state-count .result in
     building-more k (λ q p. eqb q p) (l .inv) (omega arith) few (own-row k (l .q) (omega arith) few (c .only .ensures))
 
+no-edges-requires : tie.Need-no-edges-requires Inv-loop μ-loop
+no-edges-requires c κs = search needs
+
 open-span-requires : tie.Need-open-span-requires Inv-loop μ-loop
 open-span-requires c κs = search needs
 
@@ -66,5 +69,6 @@ empty-span-spec =
     add-q
     loop-less
     loop-again
+    no-edges-requires
     open-span-requires
     returns)
