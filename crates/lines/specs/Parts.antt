@@ -1,4 +1,5 @@
--- The parts of a run between line ends.
+-- The parts of a run between line ends. A line end is here the key LF alone, also where a CR stands before it: `Lines.antt` takes that CR
+-- off.
 use Prim.Native.Nat.{ℕ}
 use mathlib.Core.Bool.{Bool, false, cond}
 use mathlib.Core.List.{List, [], _∷_}

@@ -98,10 +98,11 @@ movedWith s X true a = endedSpan s (bit (a .heads)) (X (a .tail)) (a .edges)
 abbrev pub movedStates : List ℕ → List ℕ → Accepting → Span → ℕ → Span
 movedStates keys enter p a k = movedWith (stateCount (a .s)) (keyed keys enter p k (stateCount (a .s))) (a .ended) a
 
--- one key more that is no line end
+-- the same span with other edges
 abbrev pub withEdges : Edges → Span → Span
 withEdges e a = record { s = a .s; rows = a .rows; ended = a .ended; heads = a .heads; tail = a .tail; edges = e }
 
+-- one key more that is no line end
 unfoldable pub movedSpan : List ℕ → List ℕ → Accepting → Span → ℕ → Span
 movedSpan keys enter p a k = withEdges (movedEdges (stateCount (a .s)) p a k) (movedStates keys enter p a k)
 
