@@ -104,13 +104,22 @@ pub expand-none : (called : ℕ → List ℕ) → expand called [] ≡ []
 unfolding expand
 expand-none called = refl
 
--- and one item more writes its keys behind
-pub expand-more : (called : ℕ → List ℕ) (is : List Item) (i : Item) → expand called (is ++ (i ∷ [])) ≡ expand called is ++ keysOf called i
+-- of one item its keys
+pub expand-one : (called : ℕ → List ℕ) (i : Item) → expand called (i ∷ []) ≡ keysOf called i
 unfolding expand
-expand-more called [] i = append-nil (keysOf called i)
-expand-more called (j ∷ is) i =
-    ap (λ (l : List ℕ). keysOf called j ++ l) (expand-more called is i)
-    ∙ sym (append-assoc (keysOf called j) (expand called is) (keysOf called i))
+expand-one called i = append-nil (keysOf called i)
+
+-- of some items after others what they write, one after the other
+pub expand-append : (called : ℕ → List ℕ) (is js : List Item) → expand called (is ++ js) ≡ expand called is ++ expand called js
+unfolding expand
+expand-append called [] js = refl
+expand-append called (i ∷ is) js =
+    ap (λ (l : List ℕ). keysOf called i ++ l) (expand-append called is js)
+    ∙ sym (append-assoc (keysOf called i) (expand called is) (expand called js))
+
+-- so one item more writes its keys behind
+pub expand-more : (called : ℕ → List ℕ) (is : List Item) (i : Item) → expand called (is ++ (i ∷ [])) ≡ expand called is ++ keysOf called i
+expand-more called is i = expand-append called is (i ∷ []) ∙ ap (λ (l : List ℕ). expand called is ++ l) (expand-one called i)
 
 -- something is written if there is an item, and each called run is not empty
 expand-nonempty : (f : ℕ → List ℕ) (is : List Item) → 1 ≤ length is → ((j : ℕ) → List·Memᴰ (Call j) is → 0 < length (f j)) → 0 < length (expand f is)

@@ -6,14 +6,16 @@ use mathlib.Core.Path.{_≡_, refl, sym, ap, _∙_}
 use mathlib.Core.Bool.{Bool, true, false, cond}
 use mathlib.Core.List.{List, [], _++_, append-assoc}
 use lib.Dec.{leb}
-use lib.ListN.{length, take, drop, length-append, length-drop}
+use lib.ListN.{length, take, drop, length-append}
 use lib.Seq.{paste, take-append-seam, drop-append-add, drop-drop, take-length, length-paste, take-paste, drop-paste}
 use borrow.Author.Tests.{le-leb, lt-leb, leb-true}
 use Rattle.io.specs.Digits.{Fewest}
 use Rattle.io.specs.Digits as io
 use Rattle.decimals.specs.Decimals.{numeral}
 use Rattle.decimals.proofs.NumeralLaws.{decimal-digits}
-use Rattle.decimals.specs.Texts.{putAt, placeAfter, over}
+use Rattle.runs.specs.Kept.{over}
+use Rattle.runs.proofs.KeptLaws.{over-length}
+use Rattle.decimals.specs.Texts.{putAt, placeAfter}
 
 -- What `put_text` answers, by the room there is.
 module _ (out : List ℕ) (at : ℕ) (w : List ℕ) where
@@ -85,9 +87,6 @@ pub record Put (old w new : List ℕ) (at : ℕ) : Type 0 where
 
 pub put-nothing : (old : List ℕ) → Put old [] old 0
 put-nothing old = record { front = refl; place = refl; room = omega arith }
-
-over-length : (w old : List ℕ) → length w ≤ length old → length (over w old) ≡ length old
-over-length w old h = rw (length-append w (drop (length w) old), length-drop (length w) old) (omega arith)
 
 -- one text more
 module _ {old w new : List ℕ} {at : ℕ} (p : Put old w new at) (v : List ℕ) (fits : length w + length v ≤ length old) where

@@ -4,9 +4,9 @@ use Prim.Native.Char.{code}
 use Prim.Native.String as string
 use Prim.Native.String.{String}
 use mathlib.Core.Bool.{Bool, cond}
-use mathlib.Core.List.{List, [], _∷_, _++_}
+use mathlib.Core.List.{List, [], _∷_}
 use lib.Dec.{leb}
-use lib.ListN.{length, drop}
+use lib.ListN.{length}
 use lib.Seq.{paste}
 
 -- the bytes of a text in ASCII
@@ -25,7 +25,3 @@ putAt out at w = cond (fits out at w) (paste out at w (length w)) out
 -- the place behind that text, or the same place
 unfoldable pub placeAfter : List ℕ → ℕ → List ℕ → ℕ
 placeAfter out at w = cond (fits out at w) (at + length w) at
-
--- a text at the front of a buffer, and what stood behind it
-abbrev pub over : List ℕ → List ℕ → List ℕ
-over w out = w ++ drop (length w) out

@@ -8,8 +8,9 @@ use lib.Dec.{eqb}
 use lib.ListN.{length, take}
 use Rattle.refusal.specs.Figures.{Figures}
 use Rattle.runs.specs.Keys.{lineEnd}
+use Rattle.runs.specs.Kept.{over}
 use Rattle.decimals.specs.Decimals.{numeral}
-use Rattle.decimals.specs.Texts.{ascii, over}
+use Rattle.decimals.specs.Texts.{ascii}
 use Rattle.command.specs.Input.{Told}
 use Rattle.survey.specs.declared.facts.Facts.{Facts}
 

@@ -1,5 +1,5 @@
--- Laws of what is kept for each macro of a book, in words one after another, and of repeated runs: stated once, over what is kept.
-use Prim.Native.Nat.{ℕ, zero, suc, _+_, _*_, _<_}
+-- Laws of what is written over the front of a list, of what is kept for each macro of a book, in words one after another, and of repeated runs: stated once, over what is kept.
+use Prim.Native.Nat.{ℕ, zero, suc, _+_, _-_, _*_, _<_, _≤_}
 use native.Mathlib.Omega.{arith}
 use native.Mathlib.Numerals.{add-one}
 use mathlib.Core.Path.{_≡_, refl, sym, ap, _∙_}
@@ -7,9 +7,19 @@ use mathlib.Core.Bool.{Bool, true, false}
 use mathlib.Core.List.{List, [], _++_, append-assoc}
 use lib.Dec.{ltb}
 use borrow.Author.Tests.{ltb-true, ltb-false}
-use lib.ListN.{length, getD, take, drop, replicate, length-append}
-use lib.Seq.{take-at, drop-at, drop-drop}
-use Rattle.runs.specs.Kept.{firstWords, wordsOver, times}
+use lib.ListN.{length, getD, take, drop, replicate, length-append, length-drop}
+use lib.Seq.{take-at, drop-at, drop-append-add, drop-drop}
+use Rattle.runs.specs.Kept.{over, firstWords, wordsOver, times}
+
+-- there is as much as before
+pub over-length : (front list : List ℕ) → length front ≤ length list → length (over front list) ≡ length list
+over-length front list h = rw (length-append front (drop (length front) list), length-drop (length front) list) (omega arith)
+
+-- and behind it nothing changes
+pub over-behind : (front list : List ℕ) (n : ℕ) → length front ≤ n → drop n (over front list) ≡ drop n list
+over-behind front list n h =
+    let split : n ≡ length front + (n - length front) = omega arith in
+    rw split (drop-append-add front (drop (length front) list) (n - length front) ∙ drop-drop (n - length front) (length front) list)
 
 pub words-none : (W : ℕ → List ℕ) → firstWords W 0 ≡ []
 unfolding firstWords

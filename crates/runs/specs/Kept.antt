@@ -1,7 +1,11 @@
--- What is kept for each macro of a book, in words one after another; and a run repeated.
+-- What is written over the front of a list; what is kept for each macro of a book, in words one after another; and a run repeated.
 use Prim.Native.Nat.{ℕ, zero, suc, _*_}
 use mathlib.Core.List.{List, [], _++_}
-use lib.ListN.{drop}
+use lib.ListN.{length, drop}
+
+-- some numbers over the front of a list, and what stood behind them
+abbrev pub over : List ℕ → List ℕ → List ℕ
+over front list = front ++ drop (length front) list
 
 -- the words of the first n macros, where W gives those of one
 unfoldable pub firstWords : (ℕ → List ℕ) → ℕ → List ℕ
