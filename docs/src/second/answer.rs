@@ -46,8 +46,7 @@ fn reach_answer(number: usize, count: usize, book: &[u8]) -> String {
     match reach(number, book, &mut entries) {
         Err(refusal) => format!("refused {refusal} rest {}", hash_entries(&entries)),
         Ok(reached) => {
-            let (written, rest) = entries.split_at_mut(reached);
-            written.sort_unstable();
+            let (written, rest) = entries.split_at(reached);
             let list: String = written.iter().map(|each| format!(" {each}")).collect();
             format!("reached {reached}:{list} rest {}", hash_entries(rest))
         }

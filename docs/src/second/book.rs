@@ -1,4 +1,4 @@
-//! The book reader, the body of a macro and the macros it reaches (document 01, "The book").
+//! The book reader and the body of a macro (document 01, "The book").
 
 use crate::refusal::*;
 
@@ -106,23 +106,5 @@ impl Book<'_> {
     pub fn body(&self, number: usize) -> &[u8] {
         let from = self.macros[number].from;
         &self.bytes[from..from + 2 * self.items(number).len()]
-    }
-
-    /// The macro itself and every macro it calls, directly or through others, each once.
-    pub fn reached(&self, number: usize) -> Vec<u16> {
-        let mut seen = vec![false; self.macros.len()];
-        let mut waiting = vec![number];
-        while let Some(next) = waiting.pop() {
-            if seen[next] {
-                continue;
-            }
-            seen[next] = true;
-            for &written in self.items(next) {
-                if let Item::Call(called) = item(written) {
-                    waiting.push(called);
-                }
-            }
-        }
-        (0..seen.len()).filter(|&each| seen[each]).map(|each| each as u16).collect()
     }
 }

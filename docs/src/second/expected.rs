@@ -5,7 +5,7 @@ use crate::refusal::Refusal;
 pub enum Expected {
     /// This line and its LF.
     Line(String),
-    /// These numbers, which ascend here, each on a line of its own; there in any order.
+    /// These numbers in this order, each on a line of its own.
     Numbers(Vec<usize>),
     /// No answer.
     Nothing,
@@ -39,28 +39,14 @@ impl Expected {
     pub fn is_met(&self, output: &[u8], status: Option<i32>) -> bool {
         let printed = match self {
             Expected::Line(line) => output == [line.as_bytes(), b"\n"].concat(),
-            Expected::Numbers(numbers) => sorted(output).as_ref() == Some(numbers),
+            Expected::Numbers(numbers) => output == lines(numbers).as_bytes(),
             Expected::Nothing => output.is_empty(),
         };
         printed && status == Some(self.status())
     }
 }
 
-/// The numbers printed, one a line, the last LF too; one that stands twice is there twice.
-fn sorted(output: &[u8]) -> Option<Vec<usize>> {
-    let text = std::str::from_utf8(output).ok()?;
-    let lines = text.strip_suffix('\n')?.split('\n');
-    let mut numbers = lines.map(plain_number).collect::<Option<Vec<usize>>>()?;
-    numbers.sort_unstable();
-    Some(numbers)
-}
-
-/// Digits alone, with no blank, sign or leading zero.
-fn plain_number(line: &str) -> Option<usize> {
-    let number: usize = line.parse().ok()?;
-    if number.to_string() == line {
-        Some(number)
-    } else {
-        None
-    }
+/// One number a line, the last LF too, with no blank, sign or leading zero.
+fn lines(numbers: &[usize]) -> String {
+    numbers.iter().map(|number| format!("{number}\n")).collect()
 }

@@ -10,6 +10,10 @@ use crate::fixed_letters::letters;
 use crate::fixed_letters_books::letters_in_books;
 use crate::fixed_lines::{BRACKETS, EXPRESSIONS, PAPER};
 use crate::fixed_parts::parts;
+use crate::fixed_reach::reaches;
+use crate::fixed_reach_large::large_reaches;
+use crate::fixed_reach_refused::refused_reaches;
+use crate::fixed_reach_wide::wide_reaches;
 use crate::fixed_returns::returns;
 use crate::fixed_returns_books::{returns_in_books, returns_in_words};
 use crate::fixed_returns_cuts::cuts;
@@ -50,11 +54,12 @@ impl Fixed {
 }
 
 /// Document 01's cases, the same with case ignored, those made for the choice of case, those about where
-/// brackets begin and end, and those about line ends.
+/// brackets begin and end, those about line ends, and those about the order of reach lists.
 pub fn all() -> Vec<Fixed> {
     let mut fixed = once();
     fixed.extend(again(&of_document_01()));
     fixed.extend([returns_in_words(), huge_returns(), cuts(), returns_joined()].concat());
+    fixed.extend(of_reach_lists());
     fixed
 }
 
@@ -69,6 +74,10 @@ pub fn once() -> Vec<Fixed> {
 
 fn of_line_ends() -> Vec<Fixed> {
     [returns(), returns_in_books(), huge_cuts()].concat()
+}
+
+pub fn of_reach_lists() -> Vec<Fixed> {
+    [reaches(), wide_reaches(), large_reaches(), refused_reaches()].concat()
 }
 
 fn of_document_01() -> Vec<Fixed> {

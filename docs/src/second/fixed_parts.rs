@@ -94,13 +94,13 @@ fn reaches() -> Vec<Fixed> {
     };
     let skipping: Macros = vec![keys(b"a"), keys(b"b"), vec![call(0), 98, call(0)]];
     vec![
-        reach(1, 2, &example(), "reached 2: 0 1 rest 7"),
-        reach(1, 3, &example(), "reached 2: 0 1 rest 65750"),
+        reach(1, 2, &example(), "reached 2: 1 0 rest 7"),
+        reach(1, 3, &example(), "reached 2: 1 0 rest 65750"),
         reach(0, 1, &example(), "reached 1: 0 rest 7"),
         reach(0, 0, &example(), "refused 11 rest 7"),
         reach(1, 1, &example(), "refused 11 rest 65752"),
         reach(2, 0, &example(), "refused 10 rest 7"),
-        reach(2, 3, &skipping, "reached 2: 0 2 rest 65750"),
+        reach(2, 3, &skipping, "reached 2: 2 0 rest 65750"),
         reach(2, 2, &skipping, "refused 11 rest 2103846"),
         reach(1, 2, &skipping, "reached 1: 1 rest 65751"),
         reach(3, 0, &[vec![0]], "refused 5 rest 7"),

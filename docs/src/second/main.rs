@@ -1,5 +1,5 @@
-//! A second program for document 01, and S-1, S-2 and S-4 of document 02, written apart from the first, to test
-//! it with. It works everything out by the definitions and prefers plainness to speed.
+//! A second program for document 01, and S-1, S-2, S-4 and S-5 of document 02, written apart from the first, to
+//! test it with. It works everything out by the definitions and prefers plainness to speed.
 
 mod answer;
 mod asked;
@@ -35,6 +35,10 @@ mod fixed_letters;
 mod fixed_letters_books;
 mod fixed_lines;
 mod fixed_parts;
+mod fixed_reach;
+mod fixed_reach_large;
+mod fixed_reach_refused;
+mod fixed_reach_wide;
 mod fixed_returns;
 mod fixed_returns_books;
 mod fixed_returns_cuts;
@@ -63,15 +67,18 @@ mod make_line;
 mod make_long;
 mod make_pattern;
 mod make_question;
+mod make_reach;
 mod make_report;
 mod make_returns;
 mod make_rows;
 mod make_share;
 mod make_tree;
 mod meaning;
+mod natural;
 mod operations;
 mod parser;
 mod question;
+mod reach;
 mod refusal;
 mod report;
 mod rng;
@@ -81,6 +88,9 @@ mod selftest_brackets;
 mod selftest_command;
 mod selftest_letters;
 mod selftest_patterns;
+mod selftest_reach;
+mod selftest_reach_made;
+mod selftest_reach_wrong;
 mod selftest_returns;
 mod selftest_returns_made;
 mod states;

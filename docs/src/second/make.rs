@@ -8,12 +8,16 @@ use crate::make_deep::{chain, deep, full};
 use crate::make_letters::mix_book;
 use crate::make_line;
 use crate::make_question::question;
+use crate::make_reach;
 use crate::make_report::pair;
 use crate::make_share;
 use crate::operations::COUNT_WORDS;
 use crate::question::Question;
 use crate::report::words_needed;
 use crate::rng::Rng;
+
+/// So many entries a case has at most.
+const MOST_ENTRIES: usize = 1_100;
 
 pub fn cases(seed: u64, count: u64) -> impl Iterator<Item = Case> {
     (0..count).map(move |number| match make_share::place(number) {
@@ -24,7 +28,8 @@ pub fn cases(seed: u64, count: u64) -> impl Iterator<Item = Case> {
 
 fn case(rng: &mut Rng) -> Case {
     match rng.below(100) {
-        0..=29 => line_case(rng),
+        0..=26 => line_case(rng),
+        27..=29 => make_reach::case(rng),
         30..=44 => run_case(rng),
         45..=71 => {
             let question = question(rng, 75);
@@ -97,7 +102,7 @@ fn plain_macros_for(rng: &mut Rng, question: &Question) -> Macros {
 }
 
 /// The last macro, another one, or none: also numbers that fall back into range if cut to 16 bits.
-fn number_near(rng: &mut Rng, count: usize) -> usize {
+pub fn number_near(rng: &mut Rng, count: usize) -> usize {
     match rng.below(20) {
         0..=11 => count - 1,
         12..=16 => rng.below(count),
@@ -161,16 +166,26 @@ fn body_case(rng: &mut Rng) -> Case {
     Case::Body { number, book }
 }
 
+/// Some have the books of counts, the others those made for their order.
 fn reach_case(rng: &mut Rng) -> Case {
+    if rng.chance(60) {
+        return make_reach::case(rng);
+    }
     let book = partly_sound(rng);
     let number = number_near(rng, macro_count(&book).max(1));
-    let entries = match rng.below(8) {
-        0 | 1 => number,
-        2 => 0,
-        3 => number + 2 + rng.below(20),
+    Case::Reach { number, entries: entries_near(rng, number), book }
+}
+
+/// Exactly as many entries as needed, one less, more, or none.
+pub fn entries_near(rng: &mut Rng, number: usize) -> usize {
+    let entries = match rng.below(10) {
+        0 => number,
+        1 => rng.below(number.min(MOST_ENTRIES) + 1),
+        2 => number + 2 + rng.below(20),
+        3 => MOST_ENTRIES,
         _ => number + 1,
     };
-    Case::Reach { number, entries: entries.min(1_100), book }
+    entries.min(MOST_ENTRIES)
 }
 
 pub fn partly_sound(rng: &mut Rng) -> Vec<u8> {

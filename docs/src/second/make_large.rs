@@ -6,6 +6,7 @@ use crate::make_book::{write, Macros};
 use crate::make_damage::damage_book;
 use crate::make_deep::{chain, full};
 use crate::make_letters::mix_book;
+use crate::make_reach::full_books;
 use crate::operations::COUNT_WORDS;
 use crate::question::Question;
 use crate::rng::Rng;
@@ -70,6 +71,11 @@ pub fn large_cases(seed: u64) -> Vec<Case> {
         let question = Question::new(Letters::Alike, &busy_upper());
         cases.push(count(1023, COUNT_WORDS, &question, &book));
         cases.push(count(1023, COUNT_WORDS - 1, &question, &book));
+    }
+    for book in full_books(&mut Rng::new(seed ^ 0x1A8)) {
+        for (number, entries) in [(1023, 1024), (1023, 1023), (800, 801)] {
+            cases.push(Case::Reach { number, entries, book: book.clone() });
+        }
     }
     cases
 }

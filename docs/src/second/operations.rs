@@ -5,6 +5,7 @@ use crate::count::count;
 use crate::letters::Letters;
 use crate::meaning::{line_matches, Tester};
 use crate::question::Question;
+use crate::reach::reached;
 use crate::refusal::*;
 use crate::report::words_needed;
 
@@ -58,7 +59,7 @@ pub fn body(number: usize, bytes: &[u8]) -> Result<Vec<u8>, Refusal> {
     Ok(book.body(number).to_vec())
 }
 
-/// The reach list: how many numbers were written to the first entries.
+/// The reach list in its order: how many numbers were written to the first entries.
 pub fn reach(number: usize, bytes: &[u8], entries: &mut [u16]) -> Result<usize, Refusal> {
     let book = book::read(bytes)?;
     if number >= book.macros.len() {
@@ -67,9 +68,9 @@ pub fn reach(number: usize, bytes: &[u8], entries: &mut [u16]) -> Result<usize, 
     if entries.len() < number + 1 {
         return Err(SHORT_WORK);
     }
-    let reached = book.reached(number);
-    entries[..reached.len()].copy_from_slice(&reached);
-    Ok(reached.len())
+    let list = reached(&book, number);
+    entries[..list.len()].copy_from_slice(&list);
+    Ok(list.len())
 }
 
 /// The same for the command, of the last macro if none is asked for; there are always entries enough.
@@ -79,7 +80,7 @@ pub fn reach_numbers(asked: Option<usize>, bytes: &[u8]) -> Result<Vec<usize>, R
     if number >= book.macros.len() {
         return Err(NO_SUCH_MACRO);
     }
-    Ok(book.reached(number).into_iter().map(usize::from).collect())
+    Ok(reached(&book, number).into_iter().map(usize::from).collect())
 }
 
 /// The count over a book: lines and steps; the first work words hold the reports afterwards, also

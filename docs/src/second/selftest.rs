@@ -1,9 +1,9 @@
 //! Checks this program with itself: stated answers, the two methods of counting, trees written down
-//! and read again, the meaning against a list of texts, joins against reports of longer runs; under both
-//! choices of case.
+//! and read again, the meaning against a list of texts, joins against reports of longer runs, reach lists; under
+//! both choices of case.
 
 use crate::answer::answer;
-use crate::book::{self, item, Book, Item};
+use crate::book;
 use crate::case::{Case, Stream};
 use crate::count::count_within;
 use crate::describe::describe;
@@ -27,10 +27,10 @@ use crate::selftest_brackets;
 use crate::selftest_command;
 use crate::selftest_letters;
 use crate::selftest_patterns;
+use crate::selftest_reach;
 use crate::selftest_returns;
 use crate::states::{States, LINE_START};
 use crate::written;
-use std::collections::BTreeSet;
 
 /// So many keys are written out for one count: fewer than for an answer, so that this stays quick.
 const LIMIT: u64 = 400_000;
@@ -63,6 +63,7 @@ pub fn selftest() -> bool {
     selftest_brackets::all(&mut checks);
     selftest_patterns::all(&mut checks);
     selftest_returns::all(&mut checks);
+    selftest_reach::all(&mut checks);
     for number in 0..2000 {
         let mut rng = Rng::for_case(0x5E1F, number);
         let letters = BOTH[number as usize % 2];
@@ -128,8 +129,7 @@ fn methods(rng: &mut Rng, letters: Letters, checks: &mut Checks) {
     let items: usize = (0..=last).map(|number| book.items(number).len()).sum();
     let s = tree.atoms() + 3;
     checks.check(one.steps <= (items * s * s) as u64, || format!("too many steps: {}", shown()));
-    let listed = reached_upwards(&book, last);
-    checks.check(book.reached(last) == listed, || format!("reach list: {}", shown()));
+    checks.check(selftest_reach::is_right(&book, last), || format!("reach list: {}", shown()));
     if letters == Letters::Alike {
         mix_book(rng, &mut macros);
         let mixed = write(&macros);
@@ -140,21 +140,6 @@ fn methods(rng: &mut Rng, letters: Letters, checks: &mut Checks) {
 
 fn shown_count(number: usize, question: &Question, book: &[u8]) -> String {
     describe(&Case::Count { number, words: 0, question: question.clone(), book: book.to_vec() })
-}
-
-/// What a macro reaches, from the lists of the macros it calls.
-pub fn reached_upwards(book: &Book, last: usize) -> Vec<u16> {
-    let mut lists: Vec<BTreeSet<u16>> = Vec::new();
-    for number in 0..=last {
-        let mut list = BTreeSet::from([number as u16]);
-        for &written in book.items(number) {
-            if let Item::Call(called) = item(written) {
-                list.extend(&lists[called]);
-            }
-        }
-        lists.push(list);
-    }
-    lists[last].iter().copied().collect()
 }
 
 /// The join of two runs' reports is the report of the runs one after the other.

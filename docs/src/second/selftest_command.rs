@@ -8,13 +8,35 @@ use crate::command_form::{in_turn, letters, ALIKE_FORMS};
 use crate::expected::Expected;
 use crate::letters::BOTH;
 use crate::operations::{check, reach_numbers};
-use crate::selftest::{reached_upwards, Checks};
+use crate::selftest::Checks;
+use crate::selftest_reach::reached_upwards;
 use crate::{compare_check, compare_count, compare_reach, count_edges, count_letters};
 
 const SEED: u64 = 0x5E1F;
 
+/// None of these is the list 11, 0, 2.
+const OTHER_LISTS: [&str; 16] = [
+    "0\n2\n11\n",
+    "2\n0\n11\n",
+    "11\n2\n0\n",
+    "11\n0\n2",
+    "11\n0\n2\n2\n",
+    "11\n0\n2\n0\n",
+    "11\n0\n",
+    "11\n0\n1\n2\n",
+    "11\n0\n2\n\n",
+    "\n11\n0\n2\n",
+    "11\n0\n02\n",
+    "11\n0\n+2\n",
+    "11\n0\n 2\n",
+    "11\r\n0\r\n2\r\n",
+    "11 0 2\n",
+    "",
+];
+
 pub fn all(checks: &mut Checks) {
     judged(checks);
+    judged_lists(checks);
     numbers(checks);
     forms(checks);
     stated(checks, &count_edges::runs(SEED), compare_count::own_answer);
@@ -32,7 +54,6 @@ pub fn all(checks: &mut Checks) {
 fn judged(checks: &mut Checks) {
     let lines = Expected::Line(String::from("lines 2 steps 17"));
     let refused = Expected::refused(4);
-    let numbers = Expected::Numbers(vec![0, 2, 11]);
     for (expected, output, status, met) in [
         (&lines, "lines 2 steps 17\n", Some(0), true),
         (&lines, "lines 2 steps 17\n", Some(1), false),
@@ -46,24 +67,24 @@ fn judged(checks: &mut Checks) {
         (&refused, "refused 4\n", Some(1), true),
         (&refused, "refused 4\n", Some(0), false),
         (&refused, "refused 5\n", Some(1), false),
-        (&numbers, "0\n2\n11\n", Some(0), true),
-        (&numbers, "11\n0\n2\n", Some(0), true),
-        (&numbers, "0\n2\n11\n", Some(1), false),
-        (&numbers, "0\n2\n11", Some(0), false),
-        (&numbers, "0\n2\n2\n11\n", Some(0), false),
-        (&numbers, "0\n11\n", Some(0), false),
-        (&numbers, "0\n1\n2\n11\n", Some(0), false),
-        (&numbers, "0\n2\n11\n\n", Some(0), false),
-        (&numbers, "0\n02\n11\n", Some(0), false),
-        (&numbers, "0\n+2\n11\n", Some(0), false),
-        (&numbers, "0 2 11\n", Some(0), false),
-        (&numbers, "", Some(0), false),
         (&Expected::Nothing, "", Some(2), true),
         (&Expected::Nothing, "", Some(1), false),
         (&Expected::Nothing, "\n", Some(2), false),
     ] {
         let holds = expected.is_met(output.as_bytes(), status) == met;
         checks.check(holds, || format!("judged wrongly: {output:?}, {status:?}"));
+    }
+}
+
+/// The numbers count with their order.
+fn judged_lists(checks: &mut Checks) {
+    let list = Expected::Numbers(vec![11, 0, 2]);
+    let printed = b"11\n0\n2\n";
+    let met = list.is_met(printed, Some(0)) && !list.is_met(printed, Some(1));
+    checks.check(met, || String::from("a list judged wrongly"));
+    for output in OTHER_LISTS {
+        let met = list.is_met(output.as_bytes(), Some(0));
+        checks.check(!met, || format!("a list judged wrongly: {output:?}"));
     }
 }
 
@@ -101,7 +122,7 @@ fn stated(checks: &mut Checks, runs: &[Run], own: fn(&Start) -> Expected) {
 }
 
 /// A sound book has 7 bytes, two for each macro and two for each item; a macro reaches what the macros it
-/// calls reach.
+/// calls reach, in that order.
 fn second_method(checks: &mut Checks, bytes: &[u8]) {
     let (book, told) = match (book::read(bytes), check(bytes)) {
         (Ok(book), Ok(told)) => (book, told),
