@@ -30,10 +30,9 @@ slowly() {
     tail -c +10 "$1"
 }
 
-# sorted COMMAND...: what it prints in order of numbers, because the order of a list is open.
-sorted() {
-    "$@" | sort -n
-    return "${PIPESTATUS[0]}"
+# listed NUMBER...: the lines of a reach list.
+listed() {
+    printf '%s\n' "$@"
 }
 
 # The first run builds the program if need be, and says so.
@@ -113,9 +112,10 @@ book one 'MBK\1\0\1\0\1\0B\0'
 expect 0 'sound version 1 macros 1 items 1 bytes 11' '' "$r" check "$room/one"
 
 # Reach.
-expect 0 "0${lf}1" '' sorted "$r" reach "$small"
-expect 0 "0${lf}1" '' sorted "$r" reach "$small" 01
+expect 0 "$(listed 1 0)" '' "$r" reach "$small"
+expect 0 "$(listed 1 0)" '' "$r" reach "$small" 01
 expect 0 0 '' "$r" reach "$small" 0
+expect 0 "$(listed 65 20 40 3 18)" '' "$r" reach "$arena" 65
 expect 0 254 '' bash -c 'set -o pipefail; "$@" | wc -l' - "$r" reach "$arena"
 {
     printf 'MBK\1\0\0\4\1\0x\0'
@@ -124,14 +124,24 @@ expect 0 254 '' bash -c 'set -o pipefail; "$@" | wc -l' - "$r" reach "$arena"
         printf '\1\0%b' "$call"
     done
 } >"$room/chain"
-expect 0 "$(seq 0 1023)" '' sorted "$r" reach "$room/chain"
-expect 0 "$(seq 0 511)" '' sorted "$r" reach "$room/chain" 511
+expect 0 "$(seq 1023 -1 0)" '' "$r" reach "$room/chain"
+expect 0 "$(seq 511 -1 0)" '' "$r" reach "$room/chain" 511
+# Macros 1 and 2 call macro 0, and 3 calls both: which of them it calls first decides. A second entry moves nothing.
+book diamond 'MBK\1\0\5\0\1\0a\0\2\0\0\1b\0\2\0c\0\0\1\2\0\1\1\2\1\3\0\2\1\1\1\0\1'
+expect 0 "$(listed 3 1 0 2)" '' "$r" reach "$room/diamond" 3
+expect 0 "$(listed 4 2 0 1)" '' "$r" reach "$room/diamond"
+expect 0 "$(listed 2 0)" '' "$r" reach "$room/diamond" 2
+# Macros 5, 4, 3, 1 are entered at the same key, the outer one first, and 0 behind two keys; nothing calls 2.
+book nested 'MBK\1\0\6\0\1\0a\0\1\0b\0\1\0c\0\1\0\1\1\2\0\3\1k\0\3\0\4\1\0\1\3\1'
+expect 0 "$(listed 5 4 3 1 0)" '' "$r" reach "$room/nested"
+expect 0 "$(listed 4 3 1)" '' "$r" reach "$room/nested" 4
+expect 0 2 '' "$r" reach "$room/nested" 2
 
 # A book on the standard input.
 expect 0 'lines 2 steps 17' '' "$r" count B - <"$small"
 expect 0 'lines 1 steps 11' '' "$r" count B - 0 < <(slowly "$small")
 expect 0 'sound version 1 macros 2 items 5 bytes 21' '' "$r" check - < <(slowly "$small")
-expect 0 "0${lf}1" '' sorted "$r" reach - 1 < <(slowly "$small")
+expect 0 "$(listed 1 0)" '' "$r" reach - 1 < <(slowly "$small")
 expect 1 'refused 1' '*begin with MBK*' "$r" check - </dev/null
 
 # Options, and operands that begin with -.
@@ -163,7 +173,22 @@ expect 0 'sound version 1 macros 1024 items 65536 bytes 133127' '' "${within[@]}
 expect 0 'lines 1 steps 5043200' '' "${within[@]}" count "$(many x 29)" "$room/longest" 1023
 expect 0 1023 '' "${within[@]}" reach "$room/longest"
 expect 0 1023 '' "${within[@]}" reach "$room/longest" "$(many 0 131000)1023"
-expect 0 "$(seq 0 1023)" '' sorted "${within[@]}" reach "$room/chain"
+# Macros one inside the other, with 1 MiB of stack beyond the program's buffers, which are less than 600 KiB.
+beyond=(bash -c 'ulimit -s 1600; exec "$@"' - "$r")
+expect 0 "$(seq 1023 -1 0)" '' "${beyond[@]}" reach "$room/chain"
+# 64 keys, and 1,023 macros of 64 calls: the first item of each calls the macro below, the others macro 0.
+{
+    printf 'MBK\1\0\0\4\100\0'
+    printf 'x\0%.0s' {1..64}
+    calls=$(printf '\\0\\1%.0s' {1..63})
+    for i in {0..1022}; do
+        printf -v call '\\x%02x\\x%02x' $((i % 256)) $((i / 256 + 1))
+        # shellcheck disable=SC2059
+        printf "\100\0%b$calls" "$call"
+    done
+} >"$room/full"
+expect 0 133127 '' stat -c %s "$room/full"
+expect 0 "$(seq 1023 -1 0)" '' "${beyond[@]}" reach "$room/full"
 cp "$room/longest" "$room/longer"
 printf '\0' >>"$room/longer"
 cp "$room/longest" "$room/much_longer"

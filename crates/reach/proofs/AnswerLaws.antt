@@ -11,6 +11,7 @@ use borrow.Author.Tests.{lt-ltb, le-ltb, ltb-true, ltb-false}
 use Rattle.refusal.specs.declared.Refusal.{Refusal}
 use Rattle.refusal.specs.declared.Refusal.the-variants.{NoSuchMacro, InsufficientSpace}
 use Rattle.refusal.specs.Figures.{Figures, answered, refusedFor}
+use Rattle.runs.specs.Kept.{over}
 use Rattle.book.specs.declared.layout.Checked.{Checked}
 use Rattle.book.specs.declared.layout.Layout.{Layout}
 use Rattle.book.specs.Format.{Macro}
@@ -19,7 +20,7 @@ use Rattle.book.specs.Answer.{layoutFigures, layoutResult, requireMacro}
 use Rattle.book.proofs.LayoutLaws.{layout-figures, layout-table, layout-refused, layout-sound, layout-count, macros-few}
 use Rattle.book.proofs.Requiring.{require-refused, require-out, require-in, require-alike}
 use Rattle.book.proofs.Refusals.{book-refusals}
-use Rattle.reach.specs.Reach.{ReachList}
+use Rattle.reach.specs.Entries.{reachList}
 use Rattle.reach.specs.Answer.{ReachAnswer, requireEntries}
 use Rattle.reach.specs.Promises.{MacroOf}
 
@@ -56,11 +57,11 @@ module _ (b before : List ℕ) (m : ℕ) (l : Layout) (e : layoutFigures l ≡ l
           rw (required b m l e f h, lt-ltb _ _ less) (refl, refl)
 
       module _ (g : m < length before) {k : ℕ} {after : List ℕ} where
-        pub list-written : ReachList (macrosIn b) m k before after → ReachAnswer (requireEntries m (length before) b) m (answered k) before after
+        pub list-written : k ≡ length (reachList (macrosIn b) m) → after ≡ over (reachList (macrosIn b) m) before → ReachAnswer (requireEntries m (length before) b) m (answered k) before after
         unfolding requireEntries
-        list-written w =
+        list-written c w =
             let enough : m + 1 ≤ length before = omega arith in
-            rw (required b m l e f h, le-ltb _ _ enough) (refl, w)
+            rw (required b m l e f h, le-ltb _ _ enough) (ap answered c, w)
 
 -- What is answered, for those who lend a list.
 
@@ -100,6 +101,6 @@ reached-refusals b before after m f long w = go (readBook b) refl
             let inside : m < length ms = ltb-true m (length ms) h in
             let few : length ms ≤ 1024 = rw e at (macros-few b) in
             let enough : m + 1 ≤ length before = omega arith in
-            let none : f .refusal ≡ 0 = rw (require-in m b e inside, le-ltb (length before) (m + 1) enough) at w .0 in
+            let none : f .refusal ≡ 0 = ap (λ (x : Figures ℕ). x .refusal) (rw (require-in m b e inside, le-ltb (length before) (m + 1) enough) at w .0) in
             inl (omega arith)
         split false h = inr (ap (λ (x : Figures ℕ). x .refusal) (rw (require-out m b e (ltb-false m (length ms) h)) at w .0))

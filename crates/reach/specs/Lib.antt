@@ -1,5 +1,6 @@
--- The reach list of document 01: what a macro reaches as a test, the list of it, what is answered, and what private functions promise
--- each other.
-pub mod Reach
+-- The reach list: the macros that a run enters and the list of them, the places where it enters them, what is answered, and what
+-- private functions promise each other.
+pub mod Entries
+pub mod Places
 pub mod Answer
 pub mod Promises

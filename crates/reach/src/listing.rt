@@ -1,4 +1,4 @@
-// The reach list of a macro: a walk from it down, with a mark for each macro that is called.
+// The reach list of a macro in running order: the walk that the run takes, with each macro entered once.
 use book::Checked;
 use book::Item;
 use book::item_of;
@@ -6,14 +6,13 @@ use book::items_of;
 use book::layout_of;
 use refusal::Refusal;
 ghost use mathlib.Core.Path.{_≡_};
-ghost use Prim.Native.Nat.{_<_};
-ghost use mathlib.Core.Bool.{true, false};
-ghost use lib.ListN.{length, replicate, set};
-ghost use Rattle.book.specs.MacroItems.{decoded, itemsFrom};
+ghost use Prim.Native.Nat.{_+_, _<_};
+ghost use lib.ListN.{length, set, take};
+ghost use Rattle.runs.specs.Kept.{over};
 ghost use Rattle.book.specs.Reading.{macrosIn};
-ghost use Rattle.reach.specs.Reach.{ReachList};
+ghost use Rattle.reach.specs.Entries.{entries, reachList};
 ghost use Rattle.reach.specs.Answer.{ReachAnswer, reachedFigures, requireEntries};
-ghost use Rattle.reach.specs.Promises.{MacroOf, markCalls, markItem};
+ghost use Rattle.reach.specs.Promises.{Entered, Entering, MacroOf, Walk, calledBy, extend};
 
 // How many numbers were written, or why none was.
 pub enum Reached {
@@ -21,60 +20,72 @@ pub enum Reached {
     Refused(Refusal),
 }
 
-// Marks the macro that an item calls.
-fn mark_item(item: Item, marks: &mut [bool; 1024])
-    ensures { λ _. ⌜ now (marks .exit) ≡ markItem item (now (marks .entry)) ⌝ }
+// Lists macro i behind n numbers; answers how many there are then.
+fn put(list: &mut [u16], n: usize, i: usize) -> usize
+    requires { ⌜ (n < length (now list)) × (n < 1024) × (i < 1024) ⌝ }
+    ensures count { λ r. ⌜ r ≡ n + 1 ⌝ }
+    ensures written { λ _. ⌜ now (list .exit) ≡ set (now (list .entry)) n i ⌝ }
 {
-    if let Item::Call(j) = item {
-        let j = j as usize;
-        if j < 1024 {
-            marks[j] = true;
-        }
-    }
+    list[n] = i as u16;
+    n + 1
 }
 
-// Marks the macros that macro i calls.
-fn mark_calls(book: &[u8], offsets: &[usize; 1025], i: usize, marks: &mut [bool; 1024])
-    ensures { λ _. ⌜ now (marks .exit) ≡ markCalls (decoded (itemsFrom (now (book .entry)) (now (offsets .entry)) i)) (now (marks .entry)) ⌝ }
+// Enters macro i, behind n numbers that are listed: unless it is one of them, it is listed, and behind it what its items enter. Calls
+// go to lower macros, so a listed macro that is called has been left, and nothing in it is new.
+fn enter(
+    book: &[u8],
+    offsets: &[usize; 1025],
+    i: usize,
+    n: usize,
+    marks: &mut [bool; 1024],
+    list: &mut [u16],
+) -> usize
+    requires { ⌜ Entering (now book) (now offsets) i n (now marks) (now list) ⌝ }
+    ensures { λ r. ⌜ Walk (extend (take n (now (list .entry))) (entries (macrosIn (now (book .entry))) i)) (now (list .entry)) (now (list .exit)) (now (marks .exit)) r ⌝ }
+{
+    if marks[i] {
+        return n;
+    }
+    marks[i] = true;
+    let listed = put(list, n, i);
+    enter_items(book, offsets, i, listed, marks, list)
+}
+
+// Enters each macro that the items of macro i call, in order.
+fn enter_items(
+    book: &[u8],
+    offsets: &[usize; 1025],
+    i: usize,
+    n: usize,
+    marks: &mut [bool; 1024],
+    list: &mut [u16],
+) -> usize
+    requires { ⌜ Entered (now book) (now offsets) i n (now marks) (now list) ⌝ }
+    ensures { λ r. ⌜ Walk (extend (take n (now (list .entry))) (calledBy (macrosIn (now (book .entry))) i)) (now (list .entry)) (now (list .exit)) (now (marks .exit)) r ⌝ }
 {
     let items = items_of(book, offsets, i);
     let count = items.count;
+    let mut listed = n;
     for k in 0..count {
-        mark_item(item_of(items.codes[k]), marks);
+        if let Item::Call(j) = item_of(items.codes[k]) {
+            listed = enter(book, offsets, j as usize, listed, marks, list);
+        }
     }
+    listed
 }
 
-// The marks before any macro was looked at: m alone.
-fn first_mark(m: usize) -> [bool; 1024]
-    requires { ⌜ m < 1024 ⌝ }
-    ensures { λ r. ⌜ r ≡ set (replicate 1024 false) m true ⌝ }
-{
-    let mut marks = [false; 1024];
-    marks[m] = true;
-    marks
-}
-
-// Calls go to lower macros, so a walk from m down meets a macro after all that call it.
+// The macros that m reaches, in running order, from the front of the list.
 fn list_reached(book: &[u8], offsets: &[usize; 1025], m: usize, list: &mut [u16]) -> usize
     requires { ⌜ MacroOf (now book) (now offsets) m ⌝ }
     requires { ⌜ m < length (now list) ⌝ }
-    ensures { λ n. ⌜ ReachList (macrosIn (now (book .entry))) m n (now (list .entry)) (now (list .exit)) ⌝ }
+    ensures count { λ n. ⌜ n ≡ length (reachList (macrosIn (now (book .entry))) m) ⌝ }
+    ensures written { λ _. ⌜ now (list .exit) ≡ over (reachList (macrosIn (now (book .entry))) m) (now (list .entry)) ⌝ }
 {
-    let mut marks = first_mark(m);
-    let mut n = 0;
-    let mut i = m + 1;
-    while 0 < i {
-        i -= 1;
-        if marks[i] {
-            list[n] = i as u16;
-            n += 1;
-            mark_calls(book, offsets, i, &mut marks);
-        }
-    }
-    n
+    let mut marks = [false; 1024];
+    enter(book, offsets, m, 0, &mut marks, list)
 }
 
-// The reach list of macro m (document 01, "The book"), from the front of a lent list of m + 1 entries or more.
+// The reach list of macro m (document 02, S-5), from the front of a lent list of m + 1 entries or more.
 pub fn reach_list(book: &[u8], m: usize, list: &mut [u16]) -> Reached
     ensures { λ r. ⌜ ReachAnswer (requireEntries m (length (now (list .entry))) (now (book .entry))) m (reachedFigures r) (now (list .entry)) (now (list .exit)) ⌝ }
 {
