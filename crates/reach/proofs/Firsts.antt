@@ -3,7 +3,7 @@ use Prim.Native.Nat.{ℕ, zero, suc, _+_, _<_, _≤_}
 use native.Mathlib.Omega.{arith}
 use mathlib.Core.Path.{_≡_, refl, sym, ap, _∙_}
 use mathlib.Core.Logic.{⊎-elim}
-use mathlib.Core.Bool.{Bool, true, false, not, _||_, cond, or-true}
+use mathlib.Core.Bool.{Bool, true, false, not, _||_, cond, or-assoc, or-false, or-true}
 use mathlib.Core.List.{List, [], _∷_, _++_, append-assoc, append-nil}
 use lib.Dec.{eqb}
 use lib.ListN.{length, getD, length-append}
@@ -20,14 +20,6 @@ use Rattle.reach.specs.Promises.{extend, once}
 pub by-test : {P : Type 0} (t : Bool) → (t ≡ true → P) → (t ≡ false → P) → P
 by-test true f g = f refl
 by-test false f g = g refl
-
-pub or-none : (t : Bool) → t ≡ t || false
-or-none true = refl
-or-none false = refl
-
-or-assoc : (a b c : Bool) → (a || b) || c ≡ a || (b || c)
-or-assoc true b c = refl
-or-assoc false b c = refl
 
 -- what two lists have, one behind the other
 pub member-append : (k : ℕ) (l r : List ℕ) → member k (l ++ r) ≡ member k l || member k r
@@ -63,7 +55,7 @@ extend-all listed (j ∷ js) h =
 
 -- what is listed then: what was, and these
 pub extend-has : (listed js : List ℕ) (k : ℕ) → member k (extend listed js) ≡ member k listed || member k js
-extend-has listed [] k = rw (extend-none listed) (or-none (member k listed))
+extend-has listed [] k = rw (extend-none listed) (sym (or-false (member k listed)))
 extend-has listed (j ∷ js) k =
     by-test (member j listed)
     (λ h. rw (extend-old listed j js h, extend-has listed js k) (by-test (eqb k j) (λ e. rw (rw (← eqb-true k j e) at h)) (λ e. rw e)))

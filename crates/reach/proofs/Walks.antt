@@ -4,11 +4,11 @@ use native.Mathlib.Omega.{arith}
 use native.Mathlib.Numerals.{add-one}
 use mathlib.Core.Path.{_≡_, refl, sym, ap, _∙_}
 use mathlib.Core.Logic.{_⊎_, ⊎-elim}
-use mathlib.Core.Bool.{Bool, true, false, or-true}
+use mathlib.Core.Bool.{Bool, true, false, or-false, or-true}
 use mathlib.Core.List.{List, [], _∷_, _++_, List·Memᴰ, List·Memᴰ·head, Memᴰ·append-left, Memᴰ·append-right}
 use lib.Dec.{eqb}
 use lib.ListN.{length, getD, set, take, drop, replicate, length-append, length-set, length-replicate, getD-replicate, take-append-drop}
-use lib.Seq.{drop-at, drop-set-lt, getD-set-same, getD-set-other, take-all, take-at, take-suc-set}
+use lib.Seq.{drop-set-lt, getD-set-same, getD-set-other, take-all, take-at, take-suc-set}
 use borrow.Author.Tests.{eqb-true, eqb-false}
 use Rattle.runs.specs.Keys.{member}
 use Rattle.runs.specs.Kept.{over}
@@ -26,54 +26,38 @@ use Rattle.book.proofs.LayoutLaws.{macros-few, well-in}
 use Rattle.book.proofs.MacroItems.{items-sound, count-few, count-fits, decoded-length, decoded-more}
 use Rattle.reach.specs.Entries.{entriesOf, entries, reachList}
 use Rattle.reach.specs.Promises.{MacroOf, Entering, Entered, calledBy, extend, Walk, Closed}
-use Rattle.reach.proofs.Firsts.{by-test, or-none, member-append, extend-none, extend-new, extend-append, extend-all, extend-has, extend-longer, extend-firsts, once-none, once-more, once-room}
+use Rattle.reach.proofs.Firsts.{by-test, member-append, extend-none, extend-new, extend-append, extend-all, extend-has, extend-longer, extend-firsts, once-none, once-more, once-room}
 use Rattle.reach.proofs.Entries.{entriesOf-none, entriesOf-key, entriesOf-call, entries-law, entries-iff}
+
+-- what stood under the listed numbers is no matter
+walk-under : {listed before list : List ℕ} {marks : List Bool} {n : ℕ} (other : List ℕ) → Walk listed before list marks n → length before ≡ length other → drop (length listed) before ≡ drop (length listed) other → Walk listed other list marks n
+walk-under {listed} other w long same =
+    record {
+      count = w .count;
+      written = w .written ∙ ap (λ (l : List ℕ). listed ++ l) same;
+      fits = rw (← long) (w .fits);
+      wide = w .wide;
+      marked = w .marked;
+      single = w .single;
+      low = λ j h. (w .low j h .0, rw (← long) (w .low j h .1));
+    }
 
 -- the walk as the next macro finds it, and what it makes of it
 module _ {listed before list : List ℕ} {marks : List Bool} {n : ℕ} (w : Walk listed before list marks n) where
   walk-long : length list ≡ length before
   walk-long = rw (w .written) (over-length listed before (omega (arith, w .count, w .fits)))
 
+  walk-behind : (k : ℕ) → length listed ≤ k → drop k list ≡ drop k before
+  walk-behind k h = rw (w .written) (over-behind listed before k h)
+
   walk-front : take n list ≡ listed
   walk-front = rw (w .written) (take-at listed (drop (length listed) before) n (sym (w .count)))
 
   walk-found : Walk (take n list) list list marks n
-  walk-found =
-      rw walk-front
-      (record {
-        count = w .count;
-        written = w .written ∙ ap (λ (l : List ℕ). listed ++ l) (sym (rw (w .written) (drop-at listed (drop (length listed) before) (length listed) refl)));
-        fits = omega (arith, walk-long, w .fits);
-        wide = w .wide;
-        marked = w .marked;
-        single = w .single;
-        low = λ j h. (w .low j h .0, rw walk-long (w .low j h .1));
-      })
+  walk-found = rw walk-front (walk-under list w (sym walk-long) (sym (walk-behind (length listed) (omega arith))))
 
   walk-made : {more after : List ℕ} {new : List Bool} {r : ℕ} → length listed ≤ length more → Walk more list after new r → Walk more before after new r
-  walk-made {more} long v =
-      record {
-        count = v .count;
-        written = v .written ∙ ap (λ (l : List ℕ). more ++ l) (rw (w .written) (over-behind listed before (length more) long));
-        fits = omega (arith, walk-long, v .fits);
-        wide = v .wide;
-        marked = v .marked;
-        single = v .single;
-        low = λ j h. (v .low j h .0, rw (← walk-long) (v .low j h .1));
-      }
-
--- what stands under the listed numbers is no matter
-walk-unset : (listed list : List ℕ) (n x : ℕ) {after : List ℕ} {marks : List Bool} {r : ℕ} → n < length listed → Walk listed (set list n x) after marks r → Walk listed list after marks r
-walk-unset listed list n x h w =
-    record {
-      count = w .count;
-      written = w .written ∙ ap (λ (l : List ℕ). listed ++ l) (drop-set-lt (length listed) list n x h);
-      fits = omega (arith, w .fits, length-set list n x);
-      wide = w .wide;
-      marked = w .marked;
-      single = w .single;
-      low = λ j m. (w .low j m .0, omega (arith, w .low j m .1, length-set list n x));
-    }
+  walk-made {more} long v = walk-under before v walk-long (walk-behind (length more) long)
 
 -- what is listed stays left where the entries of one macro more are listed
 closed-more : (ms : List Macro) → wellFormed ms ≡ true → (a : ℕ) (listed : List ℕ) (j : ℕ) → Closed ms a listed → Closed ms a (extend listed (entries ms j))
@@ -86,7 +70,7 @@ closed-more ms well a listed j c i k h m r =
 
 -- a number of a list with one more at its end is one of the list, or that one
 member-last : (k : ℕ) (l : List ℕ) (x : ℕ) → member k (l ++ (x ∷ [])) ≡ true → (member k l ≡ true) ⊎ (eqb k x ≡ true)
-member-last k l x h = or-cases (member k l) (eqb k x) (rw (member-append k l (x ∷ []), ← (or-none (eqb k x))) at h)
+member-last k l x h = or-cases (member k l) (eqb k x) (rw (member-append k l (x ∷ []), or-false (eqb k x)) at h)
 
 -- In the items of macro i: `front` is listed before them, and then what the first k of them enter.
 abbrev listedBy : List Macro → List ℕ → Macro → List ℕ
@@ -128,7 +112,7 @@ module _ (b offsets : List ℕ) (i n : ℕ) (marks : List Bool) (list : List ℕ
         rw (member-append j (take n list) (i ∷ []))
         (by-test (eqb j i)
         (λ e. rw (e, or-true (member j (take n list)), eqb-true j i e) (getD-set-same marks i true false (rw (x .walk .wide) enter-macro)))
-        (λ e. rw (e, getD-set-other marks i j true false (eqb-false j i e), x .walk .marked j l) (or-none (member j (take n list)))))
+        (λ e. rw (e, getD-set-other marks i j true false (eqb-false j i e), x .walk .marked j l) (sym (or-false (member j (take n list))))))
 
     walk-more : Walk (take n list ++ (i ∷ [])) (set list n i) (set list n i) (set marks i true) (n + 1)
     walk-more =
@@ -170,7 +154,8 @@ module _ (b offsets : List ℕ) (i n : ℕ) (marks : List Bool) (list : List ℕ
           let whole : extend (L ++ (i ∷ [])) (calledBy (macrosIn b) i) ≡ extend L (entries (macrosIn b) i) = sym (extend-new L i (calledBy (macrosIn b) i) new) ∙ ap (extend L) (sym (entries-law (macrosIn b) well i)) in
           let done : Walk (extend L (entries (macrosIn b) i)) (set list n i) after made r = rw (front-next, whole, e) at v in
           let long = extend-longer (L ++ (i ∷ [])) (calledBy (macrosIn b) i) in
-          walk-unset (extend L (entries (macrosIn b) i)) list n i (rw (← whole) (omega (arith, long, length-append L (i ∷ []), x .walk .count))) done
+          let behind : n < length (extend L (entries (macrosIn b) i)) = rw (← whole) (omega (arith, long, length-append L (i ∷ []), x .walk .count)) in
+          walk-under list done (length-set list n i) (drop-set-lt (length (extend L (entries (macrosIn b) i))) list n i behind)
 
 -- In the items of a macro.
 module _ {ms : List Macro} {i : ℕ} {front before : List ℕ} {is : Macro} {k : ℕ} {list : List ℕ} {marks : List Bool} {n : ℕ} (x : Within ms i front before is k list marks n) where
