@@ -1,4 +1,4 @@
--- Laws of the book's definitions. Other crates cite LayoutLaws, MacroItems, Requiring, Expansion, Reach, Coding,
+-- Laws of the book's definitions. Other crates cite LayoutLaws, StepLaws, MacroItems, Requiring, Expansion, Reach, Coding,
 -- Sizes, Prefix and Refusals.
 pub mod Readings
 pub mod Items
@@ -8,6 +8,7 @@ pub mod Offsets
 pub mod Coding
 pub mod Laid
 pub mod LayoutLaws
+pub mod StepLaws
 pub mod Bodies
 pub mod MacroItems
 pub mod Requiring

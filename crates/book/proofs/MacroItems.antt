@@ -4,9 +4,9 @@ use native.Mathlib.Nat.{suc-add}
 use native.Mathlib.Omega.{arith}
 use native.Mathlib.Numerals.{add-one}
 use mathlib.Core.Path.{_≡_, refl, sym, ap, _∙_}
-use mathlib.Core.List.{List, [], _∷_, _++_, map}
-use lib.ListN.{length, drop, getD, set, take, replicate, length-append, length-drop, length-map, length-replicate, length-take, List·getD-map}
-use lib.Seq.{append-snoc, drop-drop, getD-take, set-at, take-at, take-nil, take-suc}
+use mathlib.Core.List.{List, [], _∷_, _++_, map, List·Memᴰ, List·Memᴰ·head, Memᴰ·append-left, Memᴰ·append-right}
+use lib.ListN.{length, drop, getD, set, take, replicate, length-append, length-drop, length-map, length-replicate, length-take, List·getD-map, take-append-drop}
+use lib.Seq.{append-snoc, drop-drop, getD-take, set-at, take-all, take-at, take-nil, take-suc}
 use Rattle.book.specs.declared.item.Item.{Item}
 use Rattle.book.specs.declared.item.ItemRead.{ItemRead}
 use Rattle.book.specs.declared.item.ItemRead.the-variants.{Found, Short}
@@ -127,6 +127,13 @@ decoded-more r k h l =
     let this : getD items k (itemOf 0) ≡ itemOf (getD (r .codes) k 0) = List·getD-map itemOf (take (r .count) (r .codes)) k 0 ∙ ap itemOf (getD-take (r .count) (r .codes) k 0 h) in
     rw (add-one k) (take-suc items k (itemOf 0) inside ∙ ap (λ (x : Item). take k items ++ (x ∷ [])) this)
 
+-- and it is one of them
+pub decoded-in : (r : Items) (k : ℕ) → k < r .count → r .count ≤ length (r .codes) → List·Memᴰ (itemOf (getD (r .codes) k 0)) (decoded r)
+decoded-in r k h l = rw (take-append-drop (k + 1) (decoded r)) at (Memᴰ·append-left (drop (k + 1) (decoded r)) front)
+  where
+    front : List·Memᴰ (itemOf (getD (r .codes) k 0)) (take (k + 1) (decoded r))
+    front = rw (decoded-more r k h l) (Memᴰ·append-right (take k (decoded r)) (List·Memᴰ·head refl))
+
 -- the items of bytes that are just enough for k items
 exact-items : (k : ℕ) (b : List ℕ) → k ≤ 64 → width * k ≤ length b → decoded (itemsIn (take (width * k) b)) ≡ map itemOf (codesIn k b)
 unfolding decoded itemsIn
@@ -147,3 +154,18 @@ items-sound b i h =
     let room : width * length m ≤ length (drop (offset (macrosIn b) i + 2) b) = rw length-drop (omega (arith, p .from, p .to, p .fits)) in
     rw (part-is b i h) (exact-items (length m) (drop (offset (macrosIn b) i + 2) b) (book-few b (macrosIn b) rest e i h) room)
     ∙ book-decoded b (macrosIn b) rest e i h
+
+-- the same where a place holds the answer for a macro of the book
+module _ (b offsets : List ℕ) (i : ℕ) (table : offsets ≡ layout b .offsets) (inside : i < length (macrosIn b)) {r : Items} (e : r ≡ itemsFrom b offsets i) where
+  pub items-are : decoded r ≡ getD (macrosIn b) i []
+  items-are = rw (e, table) (items-sound b i inside)
+
+  pub items-all : (k : ℕ) → r .count ≤ k → take k (decoded r) ≡ getD (macrosIn b) i []
+  items-all k h = take-all k (decoded r) (rw (decoded-length r (count-fits b offsets i e)) h) ∙ items-are
+
+  module _ (k : ℕ) (h : k < r .count) {item : Item} (f : item ≡ itemOf (getD (r .codes) k 0)) where
+    pub items-more : take (k + 1) (decoded r) ≡ take k (decoded r) ++ (item ∷ [])
+    items-more = rw f (decoded-more r k h (count-fits b offsets i e))
+
+    pub item-among : List·Memᴰ item (getD (macrosIn b) i [])
+    item-among = rw (f, ← items-are) (decoded-in r k h (count-fits b offsets i e))

@@ -8,7 +8,7 @@ use mathlib.Core.List.{List, []}
 use lib.ListN.{getD}
 use Rattle.book.specs.Format.{Macro, wellFormed}
 use Rattle.book.specs.Expansion.{expand, expandTo, expansion}
-use Rattle.book.specs.Reach.{Calls, Reaches, Alike}
+use Rattle.book.specs.Reach.{Calls, Reaches, AlikeReached}
 use Rattle.book.specs.Reach.Reaches.{itself, through}
 use Rattle.book.proofs.Expansion.{expand-same, calls-lower}
 
@@ -34,7 +34,7 @@ reach-lower ms well itself = omega arith
 reach-lower ms well (through c r) = omega (arith, calls-lower ms well c, reach-lower ms well r)
 
 -- down to any depth, a macro runs the same in two books that are alike in each macro that it reaches
-expandTo-alike : (ms ns : List Macro) (d m : ℕ) → ((j : ℕ) → Reaches ms m j → Alike ms ns j) → expandTo d ms m ≡ expandTo d ns m
+expandTo-alike : (ms ns : List Macro) (d m : ℕ) → AlikeReached ms ns m → expandTo d ms m ≡ expandTo d ns m
 unfolding expandTo
 expandTo-alike ms ns zero m e = refl
 expandTo-alike ms ns (suc d) m e =
@@ -42,6 +42,6 @@ expandTo-alike ms ns (suc d) m e =
     ∙ ap (expand (λ j. expandTo d ns j)) (e m itself .same)
 
 -- so its whole run is the same
-pub expansion-alike : (ms ns : List Macro) (m : ℕ) → ((j : ℕ) → Reaches ms m j → Alike ms ns j) → expansion ms m ≡ expansion ns m
+pub expansion-alike : (ms ns : List Macro) (m : ℕ) → AlikeReached ms ns m → expansion ms m ≡ expansion ns m
 unfolding expansion
 expansion-alike ms ns m e = expandTo-alike ms ns (suc m) m e

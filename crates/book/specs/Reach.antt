@@ -20,3 +20,7 @@ pub record Alike (ms ns : List Macro) (m : ℕ) : Type 0 where
   pub first : m < length ms
   pub second : m < length ns
   pub same : getD ms m [] ≡ getD ns m []
+
+-- "alike in every macro that the one named reaches"
+abbrev pub AlikeReached : List Macro → List Macro → ℕ → Type 0
+AlikeReached ms ns m = (j : ℕ) → Reaches ms m j → Alike ms ns j

@@ -1,8 +1,10 @@
-// The macro book of document 01: its check, where its macros stand, their items, and a macro's body.
+// The macro book of document 01: its check, where its macros stand, their items, a macro's body, and whether an operation has its macro
+// and its work words.
 mod answers;
 mod item;
 mod layout;
 mod macro_items;
+mod space;
 
 pub use answers::body;
 pub use answers::check;
@@ -14,3 +16,5 @@ pub use layout::Layout;
 pub use layout::layout_of;
 pub use macro_items::Items;
 pub use macro_items::items_of;
+pub use space::Space;
+pub use space::space_for;

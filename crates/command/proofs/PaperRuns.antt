@@ -22,7 +22,7 @@ use Rattle.pattern.specs.Moves.{enters, target, move, leads}
 use Rattle.pattern.specs.Reader.{Read, accepted, refused, readRepeat, readExpr, readBranch, readBranches, readPattern}
 use Rattle.brackets.specs.Brackets.{sameBytes, findClass, readElement, readElements, readBracket, readAtom}
 use Rattle.lines.specs.Lines.{trimmed, lines, countIn, matching}
-use Rattle.counter.specs.Front.{spaceStep}
+use Rattle.book.specs.Steps.{spaceStep}
 use Rattle.counter.specs.Counting.{Outcome, itemSteps, steps, countResult}
 use Rattle.spans.specs.Pairs.{pairs}
 use Rattle.lines.specs.Answers.{lineOf, runOf, lineResult, runResult}

@@ -15,7 +15,10 @@ use Rattle.book.specs.Reading.{Reading, readBook, macrosIn}
 use Rattle.book.specs.Answer.{layoutFigures, layoutResult}
 use Rattle.book.specs.declared.layout.Checked.{Checked}
 use Rattle.book.specs.declared.layout.Layout.{Layout}
+use Rattle.book.specs.declared.space.Space.{Space}
+use Rattle.book.specs.Steps.{refused, settled, spaceStep, InBook, settledBy}
 use Rattle.book.proofs.LayoutLaws.{well-in}
+use Rattle.book.proofs.StepLaws.{book-refuses, space-inside, space-room}
 use Rattle.book.proofs.Expansion.{expansion-run}
 use Rattle.pattern.specs.Meaning.{Query, query}
 use Rattle.letters.specs.declared.Case.{Case}
@@ -33,12 +36,11 @@ use Rattle.reports.specs.Reports.{report, inReport, totalIn}
 use Rattle.reports.specs.Words.{behindRows, loadedAt}
 use Rattle.reports.proofs.ReportLaws.{in-report, total-run}
 use Rattle.counter.specs.declared.counting.BookCount.{BookCount}
-use Rattle.counter.specs.declared.front.Space.{Space}
-use Rattle.counter.specs.Front.{refused, settled, spaceStep, front, InBook, InPattern, settledBy}
+use Rattle.counter.specs.Front.{front, InPattern}
 use Rattle.counter.specs.Counting.{stopped, finishedBy, matchingLines, needed, countOf, countResult, bookResult}
 use Rattle.counter.specs.Answers.{outcome}
 use Rattle.counter.specs.Promises.{placeOf, MacroFits, Filled, BookCounted}
-use Rattle.counter.proofs.FrontLaws.{book-refuses, pattern-refuses, pattern-in, space-inside, space-room, front-book, front-pattern, front-refuses, front-settles}
+use Rattle.counter.proofs.FrontLaws.{pattern-refuses, pattern-in, front-book, front-pattern, front-refuses, front-settles}
 use Rattle.counter.proofs.FillLaws.{reports-at}
 
 -- Macro m.

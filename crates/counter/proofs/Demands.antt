@@ -13,7 +13,7 @@ use borrow.Author.Tests.{leb-true, leb-false, lt-ltb, le-ltb}
 use Rattle.refusal.specs.declared.Refusal.the-variants.{NoSuchMacro, InsufficientSpace, CountOverflow}
 use Rattle.book.specs.Format.{Macro, wellFormed, encode}
 use Rattle.book.specs.Expansion.{expand, expansion}
-use Rattle.book.specs.Reach.{Reaches, Alike}
+use Rattle.book.specs.Reach.{AlikeReached}
 use Rattle.book.specs.Reading.{Reading, got, refused, readBook, macrosIn}
 use Rattle.book.proofs.Coding.{encode-read}
 use Rattle.book.proofs.Reach.{expansion-alike}
@@ -64,10 +64,6 @@ module _ {c : Case} {b p work : List ℕ} {ms : List Macro} {t : Pattern} {m : �
       go : (x : Bool) → leb (matchingLines (query c t) ms m) most ≡ x → 0 < bookResult c b p m work .refusal → most < matchingLines (query c t) ms m
       go true e h = absurd (omega (arith, h, ap (λ (o : Outcome). o .refusal) (count-equals (leb-true (matchingLines (query c t) ms m) most e))))
       go false e h = leb-false (matchingLines (query c t) ms m) most e
-
--- "alike in every macro that the one named reaches"
-abbrev pub AlikeReached : List Macro → List Macro → ℕ → Type 0
-AlikeReached ms ns m = (j : ℕ) → Reaches ms m j → Alike ms ns j
 
 -- "give the same count .. or are both refused", and for the same reason
 abbrev pub SameCount : Outcome → Outcome → Type 0

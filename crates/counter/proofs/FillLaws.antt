@@ -19,7 +19,7 @@ use Rattle.book.specs.Format.{Macro, wellFormed}
 use Rattle.book.specs.Expansion.{expansion}
 use Rattle.book.specs.Reading.{macrosIn}
 use Rattle.book.specs.MacroItems.{itemsFrom, decoded}
-use Rattle.book.proofs.MacroItems.{count-few, count-fits, items-sound}
+use Rattle.book.proofs.MacroItems.{count-few, count-fits, items-are}
 use Rattle.book.proofs.LayoutLaws.{well-in, macros-few}
 use Rattle.book.proofs.Expansion.{calls-lower, expansion-law, expansion-run, well-key}
 use Rattle.pattern.specs.Meaning.{Query}
@@ -123,7 +123,7 @@ module _ {keys enter : List ℕ} {p : Accepting} {book : List ℕ} {m : ℕ} {be
           well = well-in book (g .inside)
 
           its : decoded items ≡ getD ms i []
-          its = ap decoded (f ∙ ap (λ (o : List ℕ). itemsFrom book o i) (g .table)) ∙ items-sound book i (lt-of-le-of-lt below (g .inside))
+          its = items-are book offsets i (g .table) (lt-of-le-of-lt below (g .inside)) f
 
           next : (t : Query) → Automaton t keys enter p → work ≡ reportsOver t ms i before → a .report ≡ report t (expansion ms i) → after ≡ reportsOver t ms (i + 1) before
           next t d j w =

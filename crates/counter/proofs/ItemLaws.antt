@@ -4,10 +4,10 @@ use native.Mathlib.Omega.{arith}
 use native.Mathlib.Nat.{mul-le-mul-left}
 use mir.Val.{Fits}
 use mir.Syntax.{w64}
-use mathlib.Core.Path.{_≡_, refl, sym, ap, _∙_}
+use mathlib.Core.Path.{_≡_, sym, ap, _∙_}
 use mathlib.Core.Bool.{true}
-use mathlib.Core.List.{List, [], _∷_, _++_, List·Memᴰ, List·Memᴰ·head, Memᴰ·append-right, Memᴰ·append-left}
-use lib.ListN.{length, getD, take, drop, length-append, take-append-drop}
+use mathlib.Core.List.{List, [], _∷_, _++_, List·Memᴰ}
+use lib.ListN.{length, getD, take, length-append}
 use lib.Seq.{take-append-le, take-append-seam, take-all}
 use Rattle.runs.specs.Keys.{isRun}
 use Rattle.runs.specs.Counts.{sumBelow}
@@ -19,7 +19,7 @@ use Rattle.book.specs.declared.macro_items.Items.{Items}
 use Rattle.book.specs.Expansion.{keysOf, expand}
 use Rattle.book.specs.Reading.{itemOf}
 use Rattle.book.specs.MacroItems.{decoded}
-use Rattle.book.proofs.MacroItems.{decoded-length, decoded-more}
+use Rattle.book.proofs.MacroItems.{decoded-length, decoded-more, decoded-in}
 use Rattle.book.proofs.Expansion.{expand-none, expand-more}
 use Rattle.pattern.specs.Meaning.{Query}
 use Rattle.pattern.specs.Moves.{states}
@@ -119,10 +119,7 @@ module _ {keys enter : List ℕ} {p : Accepting} {work : List ℕ} {items : Item
       next = rw e (decoded-more items k h (fits .there))
 
       among : List·Memᴰ i (decoded items)
-      among = rw (take-append-drop (k + 1) (decoded items)) at (Memᴰ·append-left (drop (k + 1) (decoded items)) front)
-        where
-          front : List·Memᴰ i (take (k + 1) (decoded items))
-          front = rw next (Memᴰ·append-right (take k (decoded items)) (List·Memᴰ·head refl))
+      among = rw e (decoded-in items k h (fits .there))
 
       pub items-on : {s : ℕ} {b : SpanCount} → s ≡ pairsIn (a .span) → AfterItem keys enter p work a i b → ItemsSoFar keys enter p work items b (n + s) (k + 1)
       items-on {s} {b} f g =

@@ -8,6 +8,7 @@ use Rattle.refusal.specs.Number.{number}
 use Rattle.book.specs.Format.{Macro}
 use Rattle.book.specs.Expansion.{expand, expansion}
 use Rattle.book.specs.Reading.{Reading, readBook}
+use Rattle.book.specs.Steps.{answerBy}
 use Rattle.letters.specs.declared.Case.{Case}
 use Rattle.pattern.specs.Meaning.{Query, query}
 use Rattle.pattern.specs.Moves.{states}
@@ -20,7 +21,7 @@ use Rattle.reports.specs.Reports.{report}
 use Rattle.reports.specs.Words.{behindRows, reportWords}
 use Rattle.runs.specs.Kept.{wordsOver}
 use Rattle.runs.specs.Counts.{sumBelow}
-use Rattle.counter.specs.Front.{answerBy, front}
+use Rattle.counter.specs.Front.{front}
 
 -- Steps.
 

@@ -1,10 +1,10 @@
 // The count over a book.
-use crate::front::Space;
-use crate::front::space_for;
 use crate::items::items_report;
 use book::Checked;
+use book::Space;
 use book::items_of;
 use book::layout_of;
+use book::space_for;
 use letters::Case;
 use pattern::Accepting;
 use pattern::Verdict;
@@ -18,10 +18,10 @@ use reports::store;
 use reports::total_in;
 ghost use mathlib.Core.Path.{_≡_};
 ghost use Rattle.book.specs.Reading.{macrosIn, readBook};
+ghost use Rattle.book.specs.Steps.{InBook};
 ghost use Rattle.pattern.specs.Reader.{readPattern};
 ghost use Rattle.counter.specs.Answers.{outcome};
 ghost use Rattle.counter.specs.Counting.{countResult};
-ghost use Rattle.counter.specs.Front.{InBook};
 ghost use Rattle.counter.specs.Promises.{BookCounted, Filled, MacroFits};
 
 // Work words that are enough for every book and pattern: the reports of 1,024 macros with 32 states.

@@ -1,7 +1,5 @@
-// The count over a book, and the last of the steps before any work, which operations share; and, for whoever links the counter, the
-// operations of document 01 from the crates below.
+// The count over a book; and, for whoever links the counter, the operations of document 01 from the crates below.
 mod counting;
-mod front;
 mod items;
 
 pub use book::Checked;
@@ -10,8 +8,6 @@ pub use book::check;
 pub use counting::BookCount;
 pub use counting::MOST_WORDS;
 pub use counting::count_book;
-pub use front::Space;
-pub use front::space_for;
 pub use letters::Case;
 pub use lines::LineTest;
 pub use lines::RunCount;

@@ -5,10 +5,10 @@ use native.Mathlib.Numerals.{add-one}
 use mathlib.Core.Path.{_≡_, refl, sym, ap, _∙_}
 use mathlib.Core.Logic.{_⊎_, ⊎-elim}
 use mathlib.Core.Bool.{Bool, true, false, or-false, or-true}
-use mathlib.Core.List.{List, [], _∷_, _++_, List·Memᴰ, List·Memᴰ·head, Memᴰ·append-left, Memᴰ·append-right}
+use mathlib.Core.List.{List, [], _∷_, _++_}
 use lib.Dec.{eqb}
 use lib.ListN.{length, getD, set, take, drop, replicate, length-append, length-set, length-replicate, getD-replicate, take-append-drop}
-use lib.Seq.{drop-set-lt, getD-set-same, getD-set-other, take-all, take-at, take-suc-set}
+use lib.Seq.{drop-set-lt, getD-set-same, getD-set-other, take-at, take-suc-set}
 use borrow.Author.Tests.{eqb-true, eqb-false}
 use Rattle.runs.specs.Keys.{member}
 use Rattle.runs.specs.Kept.{over}
@@ -23,7 +23,7 @@ use Rattle.book.specs.Reading.{macrosIn, itemOf}
 use Rattle.book.proofs.Expansion.{calls-lower}
 use Rattle.book.proofs.Reach.{reach-trans}
 use Rattle.book.proofs.LayoutLaws.{macros-few, well-in}
-use Rattle.book.proofs.MacroItems.{items-sound, count-few, count-fits, decoded-length, decoded-more}
+use Rattle.book.proofs.MacroItems.{count-few, items-all, items-more, item-among}
 use Rattle.reach.specs.Entries.{entriesOf, entries, reachList}
 use Rattle.reach.specs.Promises.{MacroOf, Entering, Entered, calledBy, extend, Walk, Closed}
 use Rattle.reach.proofs.Firsts.{by-test, member-append, extend-none, extend-new, extend-append, extend-all, extend-has, extend-longer, extend-firsts, once-none, once-more, once-room}
@@ -184,24 +184,7 @@ module _ {ms : List Macro} {i : ℕ} {front before : List ℕ} {is : Macro} {k :
         closed = rw same (closed-more ms sound i (listedBy ms front (take k is)) j (x .closed));
       }
 
--- The items that the walk reads.
-module _ (b offsets : List ℕ) (i : ℕ) (place : MacroOf b offsets i) (r : Items) (e : r ≡ itemsFrom b offsets i) where
-  items-are : decoded r ≡ getD (macrosIn b) i []
-  items-are = rw (e, place .table) (items-sound b i (place .inside))
-
-  items-all : (k : ℕ) → r .count ≤ k → length (decoded r) ≤ k
-  items-all k h = rw (decoded-length r (count-fits b offsets i e)) h
-
-  module _ (k : ℕ) (h : k < r .count) (item : Item) (f : item ≡ itemOf (getD (r .codes) k 0)) where
-    items-more : take (k + 1) (decoded r) ≡ take k (decoded r) ++ (item ∷ [])
-    items-more = rw f (decoded-more r k h (count-fits b offsets i e))
-
-    item-lower : (j : ℕ) → item ≡ Call j → j < i
-    item-lower j g =
-        let calls : List·Memᴰ (Call j) (decoded r) = rw (← (take-append-drop (k + 1) (decoded r)), items-more, g) (Memᴰ·append-left (drop (k + 1) (decoded r)) (Memᴰ·append-right (take k (decoded r)) (List·Memᴰ·head refl))) in
-        calls-lower (macrosIn b) (well-in b (place .inside)) {m = i} (rw items-are at calls)
-
--- The turns of the loop over them.
+-- The turns of the loop over a macro's items.
 module _ (b offsets : List ℕ) (i n : ℕ) (marks : List Bool) (list : List ℕ) (x : Entered b offsets i n marks list) (r : Items) (e : r ≡ itemsFrom b offsets i) where
   abbrev Turn : ℕ → List ℕ → List Bool → ℕ → Type 0
   Turn k now made listed = Within (macrosIn b) i (take n list) list (decoded r) k now made listed
@@ -219,15 +202,15 @@ module _ (b offsets : List ℕ) (i n : ℕ) (marks : List Bool) (list : List ℕ
     turn-long = walk-long (v .walk)
 
     pub turn-end : r .count ≤ k → Walk (extend (take n list) (calledBy (macrosIn b) i)) list now made listed
-    turn-end l = rw (← (items-are b offsets i (x .place) r e), ← (take-all k (decoded r) (items-all b offsets i (x .place) r e k l))) (v .walk)
+    turn-end l = rw (← items-all b offsets i (x .place .table) (x .place .inside) e k l) (v .walk)
 
     module _ (l : k < r .count) (item : Item) (f : item ≡ itemOf (getD (r .codes) k 0)) where
       pub turn-key : (c : ℕ) → item ≡ Key c → Turn (k + 1) now made listed
-      turn-key c g = within-key v c (rw g at (items-more b offsets i (x .place) r e k l item f))
+      turn-key c g = within-key v c (rw g at (items-more b offsets i (x .place .table) (x .place .inside) e k l f))
 
       module _ (j : ℕ) (g : item ≡ Call j) where
         pub turn-lower : j < i
-        turn-lower = item-lower b offsets i (x .place) r e k l item f j g
+        turn-lower = calls-lower (macrosIn b) (well-in b (x .place .inside)) {m = i} (rw g at (item-among b offsets i (x .place .table) (x .place .inside) e k l f))
 
         pub turn-enters : Entering b offsets j listed made now
         turn-enters =
@@ -239,7 +222,7 @@ module _ (b offsets : List ℕ) (i n : ℕ) (marks : List Bool) (list : List ℕ
             }
 
         pub turn-call : {after : List ℕ} {more : List Bool} {t : ℕ} → Walk (extend (take listed now) (entries (macrosIn b) j)) now after more t → Turn (k + 1) after more t
-        turn-call w = within-call v (well-in b (x .place .inside)) j (rw g at (items-more b offsets i (x .place) r e k l item f)) w
+        turn-call w = within-call v (well-in b (x .place .inside)) j (rw g at (items-more b offsets i (x .place .table) (x .place .inside) e k l f)) w
 
 -- The whole walk.
 

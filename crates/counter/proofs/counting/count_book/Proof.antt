@@ -1,5 +1,5 @@
 -- `counting::count_book`: a refused book is passed on, and leaves the work words.
-use Rattle.counter.proofs.FrontLaws.{book-in}
+use Rattle.book.proofs.StepLaws.{book-in}
 use Rattle.counter.proofs.BookLaws.{book-refused}
 use borrow.Author.Needs.{needs}
 use Rattle.counter.proofs.counting.count_book.Statement.{statement}

@@ -1,8 +1,8 @@
-// What is refused before any work, after a sound book and an accepted pattern: the macro's number and the work words.
+// What is refused of a sound book before any work: the macro's number and the work words.
 use refusal::Refusal;
 ghost use mathlib.Core.Path.{_≡_};
 ghost use Prim.Native.Nat.{suc, _*_};
-ghost use Rattle.counter.specs.Front.{settledBy, spaceStep};
+ghost use Rattle.book.specs.Steps.{settledBy, spaceStep};
 
 // Whether an operation has its macro and its work words.
 pub enum Space {

@@ -1,10 +1,10 @@
--- `front::space_for`: the quotient says the same as the product.
+-- `space::space_for`: the quotient says the same as the product.
 use Prim.Native.Nat.{suc, _*_}
 use native.Mathlib.Omega.{arith}
-use Rattle.counter.proofs.FrontLaws.{no-macro, none-needed, quotient-short, quotient-enough}
+use Rattle.book.proofs.StepLaws.{no-macro, none-needed, quotient-short, quotient-enough}
 use borrow.Author.Needs.{needs}
-use Rattle.counter.proofs.front.space_for.Statement.{statement}
-use Rattle.counter.proofs.front.space_for.Tie as tie
+use Rattle.book.proofs.space.space_for.Statement.{statement}
+use Rattle.book.proofs.space.space_for.Tie as tie
 
 returns : tie.Need-returns
 returns c = let a = c .before .args in no-macro (a .macros) (a .m) (suc (a .m) * a .width) (a .words) (omega arith)
