@@ -57,7 +57,7 @@ toldBy r = told (outcome r [])
 unfoldable pub programAnswer : List ℕ → Told
 programAnswer w = told (programResult w (replicate 4096 0))
 
--- the command for people, with case ignored or not, and 36 words for each of 1,024 macros
+-- the command for people, with case ignored or not, and 38 words for each of 1,024 macros
 unfoldable pub macroAnswer : Case → List ℕ → List ℕ → ℕ → Told
 macroAnswer c book pattern m = told (countResult c (readBook book) (readPattern pattern) m (replicate mostWords 0))
 
