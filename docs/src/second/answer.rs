@@ -1,6 +1,7 @@
 //! The answer line to a case.
 
 use crate::case::Case;
+use crate::depth::{book_depths, depth_line, Keys};
 use crate::hash::hash;
 use crate::join::join;
 use crate::operations::*;
@@ -18,6 +19,7 @@ pub fn answer(case: &Case) -> String {
         Case::Sound { book } => or_refused(sound(book).map(|count| format!("sound {count}"))),
         Case::Body { number, book } => or_refused(body(*number, book).map(|body| body_answer(&body))),
         Case::Reach { number, entries, book } => reach_answer(*number, *entries, book),
+        Case::Depth { number, words, keys, book } => depth_answer(*number, *words, *keys, book),
         Case::Join { left, right } => or_refused(join(left, right).map(|report| report_answer(&report))),
     }
 }
@@ -35,8 +37,18 @@ fn body_answer(body: &[u8]) -> String {
 }
 
 /// The work words are filled before, so that words which must stay are seen in the hash.
+pub fn work_words(words: usize) -> Vec<u64> {
+    (1..=words as u64).map(|place| 1_000_003 * place).collect()
+}
+
+fn depth_answer(number: usize, words: usize, keys: Keys, book: &[u8]) -> String {
+    let mut work = work_words(words);
+    let line = depth_line(book_depths(number, keys, book, &mut work));
+    format!("{line} work {}", hash(work.into_iter()))
+}
+
 fn count_answer(number: usize, words: usize, question: &Question, book: &[u8]) -> String {
-    let mut work: Vec<u64> = (1..=words as u64).map(|place| 1_000_003 * place).collect();
+    let mut work = work_words(words);
     let line = count_line(book_count(number, question, book, &mut work));
     format!("{line} work {}", hash(work.into_iter()))
 }

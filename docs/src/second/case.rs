@@ -1,6 +1,7 @@
 //! A case, and how it stands in a stream: a byte for its kind, then numbers of three bytes (reports:
 //! of eight), low byte first, then the texts.
 
+use crate::depth::Keys;
 use crate::letters::Letters;
 use crate::question::Question;
 use crate::report::{Report, MOST_STATES};
@@ -13,6 +14,7 @@ pub enum Case {
     Sound { book: Vec<u8> },
     Body { number: usize, book: Vec<u8> },
     Reach { number: usize, entries: usize, book: Vec<u8> },
+    Depth { number: usize, words: usize, keys: Keys, book: Vec<u8> },
     Join { left: Report, right: Report },
 }
 
@@ -25,6 +27,7 @@ impl Case {
             Case::Sound { .. } => b'K',
             Case::Body { .. } => b'B',
             Case::Reach { .. } => b'H',
+            Case::Depth { .. } => b'D',
             Case::Join { .. } => b'J',
         }
     }
@@ -40,6 +43,10 @@ impl Case {
             Case::Sound { book } => write_parts(stream, &[], &[book]),
             Case::Body { number, book } => write_parts(stream, &[*number], &[book]),
             Case::Reach { number, entries, book } => write_parts(stream, &[*number, *entries], &[book]),
+            Case::Depth { number, words, keys, book } => {
+                let [opening, closing] = [keys.opening, keys.closing].map(usize::from);
+                write_parts(stream, &[*number, *words, opening, closing], &[book])
+            }
             Case::Join { left, right } => {
                 write_report(stream, left);
                 write_report(stream, right);
@@ -104,6 +111,7 @@ impl Stream<'_> {
                 let (number, entries) = (self.number()?, self.number()?);
                 self.one_text().map(|book| Case::Reach { number, entries, book })
             }
+            b'D' => self.depth(),
             b'J' => {
                 let left = self.report()?;
                 self.report().map(|right| Case::Join { left, right })
@@ -124,6 +132,17 @@ impl Stream<'_> {
         let (number, words) = (self.number()?, self.number()?);
         let (question, book) = self.question(letters)?;
         Some(Case::Count { number, words, question, book })
+    }
+
+    /// A key is a number below 256; with another the stream holds no case.
+    fn depth(&mut self) -> Option<Case> {
+        let (number, words) = (self.number()?, self.number()?);
+        let (opening, closing) = (self.key()?, self.key()?);
+        self.one_text().map(|book| Case::Depth { number, words, keys: Keys { opening, closing }, book })
+    }
+
+    fn key(&mut self) -> Option<u8> {
+        u8::try_from(self.number()?).ok()
     }
 
     /// A pattern, and the text that it is asked of.

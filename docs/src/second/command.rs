@@ -3,12 +3,13 @@
 use crate::book_file::BookFile;
 use crate::child::{self, Outcome};
 use crate::command_form::{self, Form};
-use crate::describe::{hex_of_long, pattern_lines};
+use crate::describe::{hex, hex_of_long, pattern_lines};
 use crate::expected::Expected;
 use crate::question::Question;
 use crate::rng::Rng;
 use crate::tally::Tally;
-use std::ffi::OsString;
+use std::ffi::{OsStr, OsString};
+use std::os::unix::ffi::OsStrExt;
 use std::time::Duration;
 
 /// Longer than the command needs to start, so that it meets the book's first piece alone.
@@ -25,6 +26,8 @@ pub struct Start {
     pub verb: &'static str,
     /// For a count alone; the form tells the choice of case.
     pub pattern: Option<(Form, Vec<u8>)>,
+    /// For depths alone: the words in the places of the two keys.
+    pub keys: Option<[Vec<u8>; 2]>,
     pub way: Way,
     pub book: Vec<u8>,
     pub asked: Option<String>,
@@ -53,6 +56,9 @@ impl Start {
         let mut arguments = vec![OsString::from(self.verb)];
         if let Some((form, pattern)) = &self.pattern {
             arguments.extend(command_form::words(form, pattern));
+        }
+        for word in self.keys.iter().flatten() {
+            arguments.push(OsStr::from_bytes(word).to_os_string());
         }
         arguments.push(book);
         arguments.extend(self.asked.iter().map(OsString::from));
@@ -91,10 +97,12 @@ impl Start {
         let asked = self.asked.as_deref().unwrap_or("(none)");
         let lengths: Vec<usize> = self.pieces().iter().map(Vec::len).collect();
         let pattern = self.pattern.as_ref().map_or(String::new(), |(_, pattern)| pattern_lines(pattern));
+        let keys = self.keys.iter().flatten().map(|word| format!("key in hex: {}\n", hex(word)));
         format!(
-            "kind: {}, {}, pieces {lengths:?}\nmacro: {asked}\n{pattern}book in hex: {}",
+            "kind: {}, {}, pieces {lengths:?}\nmacro: {asked}\n{pattern}{}book in hex: {}",
             self.verb,
             self.kind(),
+            keys.collect::<String>(),
             hex_of_long(&self.book)
         )
     }

@@ -2,7 +2,7 @@
 
 use crate::tally::Tally;
 use crate::{compare_cases, compare_check, compare_count, compare_cuecount};
-use crate::{compare_patterns, compare_reach, compare_usage};
+use crate::{compare_depth, compare_patterns, compare_reach, compare_usage};
 use std::process::exit;
 
 /// Paths of the three programs, the seed, how many seeded cases go through the first, and patterns that are
@@ -36,6 +36,7 @@ fn compare_all(
     done("runs of count", compare_count::compare(command, seed)?);
     done("runs of check", compare_check::compare(command, seed)?);
     done("runs of reach", compare_reach::compare(command, seed)?);
+    done("runs of depth", compare_depth::compare(command, seed)?);
     done("runs with no answer", compare_usage::compare(command)?);
     Ok(passed)
 }

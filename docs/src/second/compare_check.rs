@@ -38,7 +38,10 @@ pub fn own_answer(start: &Start) -> Expected {
 }
 
 fn run(book: Vec<u8>, stated: Option<&str>) -> Run {
-    (Start { verb: "check", pattern: None, way: Way::Path, book, asked: None }, stated.map(String::from))
+    (
+        Start { verb: "check", pattern: None, keys: None, way: Way::Path, book, asked: None },
+        stated.map(String::from),
+    )
 }
 
 /// Document 01's own books, limits and faults.

@@ -49,7 +49,10 @@ pub fn own_answer(start: &Start) -> Expected {
 
 fn run(book: Vec<u8>, asked: Option<&str>, stated: Option<&str>) -> Run {
     let asked = asked.map(String::from);
-    (Start { verb: "reach", pattern: None, way: Way::Path, book, asked }, stated.map(String::from))
+    (
+        Start { verb: "reach", pattern: None, keys: None, way: Way::Path, book, asked },
+        stated.map(String::from),
+    )
 }
 
 /// Calls that stand twice, macros left out, and the order of the refusals.

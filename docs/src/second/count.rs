@@ -49,7 +49,7 @@ pub fn count_within(book: &Book, pattern: &Pattern, last: usize, limit: u64) -> 
 
 /// Which macros are written out: in order, each that the rest of the limit still holds. The asked
 /// macro comes first, so that its lines are tested one by one even if others are too long.
-fn within(lengths: &[u64], limit: u64) -> Vec<bool> {
+pub fn within(lengths: &[u64], limit: u64) -> Vec<bool> {
     let mut chosen = vec![false; lengths.len()];
     let mut left = limit;
     let last = lengths.len() - 1;

@@ -18,7 +18,7 @@ pub fn runs(seed: u64) -> Vec<Run> {
 
 pub fn run(form: Form, pattern: &[u8], way: Way, book: &[u8], stated: &str) -> Run {
     let pattern = Some((form, pattern.to_vec()));
-    let start = Start { verb: "count", pattern, way, book: book.to_vec(), asked: None };
+    let start = Start { verb: "count", pattern, keys: None, way, book: book.to_vec(), asked: None };
     (start, Some(String::from(stated)))
 }
 

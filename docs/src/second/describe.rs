@@ -44,6 +44,9 @@ pub fn describe(case: &Case) -> String {
         Case::Reach { number, entries, book } => {
             format!("macro {number}, entries {entries}\nbook in hex: {}", hex(book))
         }
+        Case::Depth { number, words, keys, book } => {
+            format!("macro {number}, work words {words}, {keys:?}\nbook in hex: {}", hex(book))
+        }
         Case::Join { left, right } => format!("left {}\nright {}", numbers(left), numbers(right)),
     };
     format!("kind: {kind}\n{rest}")

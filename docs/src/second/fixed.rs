@@ -4,6 +4,11 @@
 use crate::case::Case;
 use crate::fixed_again::again;
 use crate::fixed_books::counts;
+use crate::fixed_depth::depths;
+use crate::fixed_depth_deep::deep_depths;
+use crate::fixed_depth_long::long_depths;
+use crate::fixed_depth_refused::refused_depths;
+use crate::fixed_depth_sums::long_sums;
 use crate::fixed_ends::ends;
 use crate::fixed_fronts::fronts;
 use crate::fixed_letters::letters;
@@ -45,21 +50,22 @@ impl Fixed {
         Fixed::new(Case::Run { question: Question::new(letters, pattern), run: run.to_vec() }, stated)
     }
 
-    /// Whether an answer begins with the words stated; only a count may say more.
+    /// Whether an answer begins with the words stated; only a count, and the depths of a run, may say more.
     pub fn agrees(&self, answer: &str) -> bool {
-        let more =
-            matches!(self.case, Case::Count { .. }) && answer.starts_with(&format!("{} ", self.stated));
+        let open = matches!(self.case, Case::Count { .. } | Case::Depth { .. });
+        let more = open && answer.starts_with(&format!("{} ", self.stated));
         more || answer == self.stated
     }
 }
 
 /// Document 01's cases, the same with case ignored, those made for the choice of case, those about where
-/// brackets begin and end, those about line ends, and those about the order of reach lists.
+/// brackets begin and end, those about line ends, those about the order of reach lists, and those about depths.
 pub fn all() -> Vec<Fixed> {
     let mut fixed = once();
     fixed.extend(again(&of_document_01()));
     fixed.extend([returns_in_words(), huge_returns(), cuts(), returns_joined()].concat());
     fixed.extend(of_reach_lists());
+    fixed.extend(of_depths());
     fixed
 }
 
@@ -78,6 +84,10 @@ fn of_line_ends() -> Vec<Fixed> {
 
 pub fn of_reach_lists() -> Vec<Fixed> {
     [reaches(), wide_reaches(), large_reaches(), refused_reaches()].concat()
+}
+
+pub fn of_depths() -> Vec<Fixed> {
+    [depths(), deep_depths(), long_depths(), long_sums(), refused_depths()].concat()
 }
 
 fn of_document_01() -> Vec<Fixed> {

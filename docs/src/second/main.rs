@@ -1,5 +1,5 @@
-//! A second program for document 01, and S-1, S-2, S-4 and S-5 of document 02, written apart from the first, to
-//! test it with. It works everything out by the definitions and prefers plainness to speed.
+//! A second program for document 01, and S-1, S-2, S-4, S-5 and S-6 of document 02, written apart from the first,
+//! to test it with. It works everything out by the definitions and prefers plainness to speed.
 
 mod answer;
 mod asked;
@@ -12,23 +12,34 @@ mod child;
 mod classes;
 mod command;
 mod command_form;
+mod command_key;
 mod compare;
 mod compare_cases;
 mod compare_check;
 mod compare_count;
 mod compare_cuecount;
+mod compare_depth;
+mod compare_depth_words;
 mod compare_patterns;
 mod compare_reach;
 mod compare_usage;
 mod count;
 mod count_edges;
 mod count_letters;
+mod depth;
+mod depth_figures;
+mod depth_paired;
 mod describe;
 mod enumerate;
 mod expected;
 mod fixed;
 mod fixed_again;
 mod fixed_books;
+mod fixed_depth;
+mod fixed_depth_deep;
+mod fixed_depth_long;
+mod fixed_depth_refused;
+mod fixed_depth_sums;
 mod fixed_ends;
 mod fixed_fronts;
 mod fixed_letters;
@@ -60,6 +71,8 @@ mod make_book;
 mod make_bracket;
 mod make_damage;
 mod make_deep;
+mod make_depth;
+mod make_depth_long;
 mod make_ends;
 mod make_large;
 mod make_letters;
@@ -86,6 +99,10 @@ mod scan;
 mod selftest;
 mod selftest_brackets;
 mod selftest_command;
+mod selftest_depth;
+mod selftest_depth_made;
+mod selftest_depth_told;
+mod selftest_depth_wrong;
 mod selftest_letters;
 mod selftest_patterns;
 mod selftest_reach;
@@ -104,6 +121,7 @@ use std::process::exit;
 
 const USAGE: &str = "second answer < cases > answers
 second make SEED COUNT > cases
+second depths SEED COUNT > cases
 second compare CASES CUECOUNT RAKVINJE SEED N [PATTERNS]
 second selftest";
 
@@ -113,6 +131,7 @@ fn main() {
     let done = match words[..] {
         ["answer"] => answer_stream(),
         ["make", seed, count] => make_stream(seed, count),
+        ["depths", seed, count] => depths_stream(seed, count),
         ["compare", cases, cuecount, command, seed, cases_wanted] => {
             compare_programs([cases, cuecount, command], seed, cases_wanted, None)
         }
@@ -146,8 +165,18 @@ fn answer_stream() -> Result<(), String> {
 }
 
 fn make_stream(seed: &str, count: &str) -> Result<(), String> {
+    print_cases(make::cases(number(seed)?, number(count)?))
+}
+
+/// The fixed ones, and behind them the seeded ones.
+fn depths_stream(seed: &str, count: &str) -> Result<(), String> {
+    let seeded = make_depth::cases(number(seed)?, number(count)?);
+    print_cases(fixed::of_depths().into_iter().map(|fixed| fixed.case).chain(seeded))
+}
+
+fn print_cases(cases: impl Iterator<Item = case::Case>) -> Result<(), String> {
     let mut stream = Vec::new();
-    for case in make::cases(number(seed)?, number(count)?) {
+    for case in cases {
         case.write(&mut stream);
     }
     io::stdout().write_all(&stream).map_err(|error| error.to_string())

@@ -5,12 +5,13 @@ use crate::letters::Letters;
 use crate::make_book::{shallow, write, Macros};
 use crate::make_damage::damage_book;
 use crate::make_deep::{chain, deep, full};
+use crate::make_depth;
 use crate::make_letters::mix_book;
 use crate::make_line;
 use crate::make_question::question;
 use crate::make_reach;
 use crate::make_report::pair;
-use crate::make_share;
+use crate::make_share::{self, Share};
 use crate::operations::COUNT_WORDS;
 use crate::question::Question;
 use crate::report::words_needed;
@@ -20,9 +21,10 @@ use crate::rng::Rng;
 const MOST_ENTRIES: usize = 1_100;
 
 pub fn cases(seed: u64, count: u64) -> impl Iterator<Item = Case> {
-    (0..count).map(move |number| match make_share::place(number) {
-        (true, _) => make_share::case(&mut Rng::for_case(seed ^ 0xB2AC, number)),
-        (false, place) => case(&mut Rng::for_case(seed, place)),
+    (0..count).map(move |number| match make_share::of(number) {
+        Share::Brackets => make_share::case(&mut Rng::for_case(seed ^ 0xB2AC, number)),
+        Share::Depths => make_depth::case(&mut Rng::for_case(seed ^ 0xDE97, number)),
+        Share::Others(place) => case(&mut Rng::for_case(seed, place)),
     })
 }
 

@@ -1,6 +1,7 @@
 //! The largest and the deepest sound books, and cases over them.
 
 use crate::case::Case;
+use crate::depth::{Keys, DEPTH_WORDS};
 use crate::letters::Letters;
 use crate::make_book::{write, Macros};
 use crate::make_damage::damage_book;
@@ -63,6 +64,10 @@ pub fn large_cases(seed: u64) -> Vec<Case> {
         cases.push(Case::Reach { number: 1023, entries: 1024, book: book.clone() });
         cases.push(Case::Reach { number: 1023, entries: 1023, book: book.clone() });
         cases.push(Case::Reach { number: 700, entries: 1100, book: book.clone() });
+        for (number, words) in [(1023, DEPTH_WORDS), (1023, DEPTH_WORDS - 1), (600, 4_096)] {
+            let keys = Keys { opening: b'a', closing: b'b' };
+            cases.push(Case::Depth { number, words, keys, book: book.clone() });
+        }
         cases.push(Case::Body { number: 1023, book: book.clone() });
         cases.push(Case::Body { number: 1024, book: book.clone() });
         cases.push(Case::Sound { book });

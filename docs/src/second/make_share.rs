@@ -1,4 +1,5 @@
-//! The share of the seeded cases that asks where brackets begin and end (document 02, S-2): every eighth.
+//! The shares of the seeded cases that ask where brackets begin and end (document 02, S-2) and for depths (S-6):
+//! every eighth each. The others are the same one behind the other, whatever stands between them.
 
 use crate::case::Case;
 use crate::make::count_case;
@@ -11,16 +12,32 @@ use crate::rng::Rng;
 
 const SHARE: u64 = 8;
 
-/// So many cases are made where `count` are wanted besides the share.
+/// Which place of eight has which share.
+const DEPTHS: u64 = 3;
+const BRACKETS: u64 = 7;
+
+pub enum Share {
+    Brackets,
+    Depths,
+    /// The number among those that belong to neither.
+    Others(u64),
+}
+
+/// So many cases are made where `count` are wanted besides those about brackets.
 pub fn with_share(count: u64) -> u64 {
     count + count / (SHARE - 1)
 }
 
-/// Whether a case belongs to the share, and its number among those that do not.
-pub fn place(number: u64) -> (bool, u64) {
-    (number % SHARE == SHARE - 1, number - number / SHARE)
+pub fn of(number: u64) -> Share {
+    let (before, place) = (number / SHARE * (SHARE - 2), number % SHARE);
+    match place {
+        BRACKETS => Share::Brackets,
+        DEPTHS => Share::Depths,
+        _ => Share::Others(before + place - u64::from(place > DEPTHS)),
+    }
 }
 
+/// One about brackets.
 pub fn case(rng: &mut Rng) -> Case {
     let question = question(rng);
     match rng.below(100) {

@@ -14,7 +14,7 @@ pub fn reached(book: &Book, number: usize) -> Vec<u16> {
 }
 
 /// How many keys the run of each macro from 0 to `last` has.
-fn lengths(book: &Book, last: usize) -> Vec<Natural> {
+pub fn lengths(book: &Book, last: usize) -> Vec<Natural> {
     let one = Natural::one();
     let mut lengths: Vec<Natural> = Vec::new();
     for number in 0..=last {

@@ -1,4 +1,4 @@
-//! The refusal numbers of document 01, "Refused", under their trade's words.
+//! The refusal numbers of document 01, "Refused", under their trade's words, and those of document 02.
 
 pub type Refusal = u8;
 
@@ -16,3 +16,6 @@ pub const SHORT_WORK: Refusal = 11;
 pub const COUNT_TOO_HIGH: Refusal = 12;
 pub const UNLIKE_REPORTS: Refusal = 13;
 pub const LONG_INPUT: Refusal = 14;
+/// Document 02, S-6.
+pub const BAD_KEYS: Refusal = 18;
+pub const LONG_RUN: Refusal = 19;

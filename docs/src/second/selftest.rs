@@ -1,6 +1,6 @@
 //! Checks this program with itself: stated answers, the two methods of counting, trees written down
-//! and read again, the meaning against a list of texts, joins against reports of longer runs, reach lists; under
-//! both choices of case.
+//! and read again, the meaning against a list of texts, joins against reports of longer runs, reach lists,
+//! depths; under both choices of case.
 
 use crate::answer::answer;
 use crate::book;
@@ -25,6 +25,7 @@ use crate::question::Question;
 use crate::rng::Rng;
 use crate::selftest_brackets;
 use crate::selftest_command;
+use crate::selftest_depth;
 use crate::selftest_letters;
 use crate::selftest_patterns;
 use crate::selftest_reach;
@@ -64,6 +65,7 @@ pub fn selftest() -> bool {
     selftest_patterns::all(&mut checks);
     selftest_returns::all(&mut checks);
     selftest_reach::all(&mut checks);
+    selftest_depth::all(&mut checks);
     for number in 0..2000 {
         let mut rng = Rng::for_case(0x5E1F, number);
         let letters = BOTH[number as usize % 2];

@@ -114,7 +114,7 @@ fn forms(checks: &mut Checks) {
 }
 
 /// This program answers as stated.
-fn stated(checks: &mut Checks, runs: &[Run], own: fn(&Start) -> Expected) {
+pub fn stated(checks: &mut Checks, runs: &[Run], own: fn(&Start) -> Expected) {
     for run in runs {
         let answer = expected(run, own);
         checks.check(answer.is_ok(), || answer.as_ref().err().cloned().unwrap_or_default());

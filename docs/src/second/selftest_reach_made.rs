@@ -10,7 +10,7 @@ use crate::selftest::Checks;
 use crate::selftest_reach_wrong::WRONG;
 use std::collections::BTreeMap;
 
-const SEEDED: u64 = 6000;
+const SEEDED: u64 = 7000;
 
 /// What must be seen among the seeded cases, and how often at least.
 const LEAST: &[(&str, usize)] = &[

@@ -13,7 +13,7 @@ use crate::selftest::Checks;
 use crate::written::{lengths, Runs};
 use std::collections::BTreeMap;
 
-const SEEDED: u64 = 12_000;
+const SEEDED: u64 = 14_000;
 const MOST_KEYS: u64 = 5000;
 
 /// What must be seen among the seeded cases, and how often at least.
