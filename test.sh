@@ -78,8 +78,9 @@ stated() {
     awk -F ' *[|] *' -v what="$1" '$2 == what { print $3 }' docs/ASSURANCE.md
 }
 
+# small_stack PROGRAM FOLDER: on the cases in the folder.
 small_stack() {
-    (ulimit -s 1024 && "target/bin/$1" <"crates/$1/stdin" | cmp - "crates/$1/stdout")
+    (ulimit -s 1024 && "target/bin/$1" <"$2/stdin" | cmp - "$2/stdout")
 }
 
 # No crate opens a definition of another, but for the computed tables; there the search must find some.
@@ -90,8 +91,9 @@ opened_nowhere() {
     [ -z "$opened" ] && [ -n "$(bash tests/opened.sh crates/command/proofs/PaperRuns.antt)" ]
 }
 
+# second_agrees FOLDER
 second_agrees() {
-    target/second answer <crates/cases/stdin | cmp - crates/cases/stdout
+    target/second answer <"$1/stdin" | cmp - "$1/stdout"
 }
 
 works() {
@@ -123,19 +125,21 @@ single "the generator of the examples compiles" gather examples
 single "the program is of the sources that were proved" adopt "$key" target/bin/rakvinje
 
 for cases in pattern_cases cases; do
-    single "$cases prints what it must within 1 MiB of stack" small_stack "$cases"
+    single "$cases prints what it must within 1 MiB of stack" small_stack "$cases" "crates/$cases"
 done
+single "cases prints the depths that it must within 1 MiB of stack" small_stack cases tests/depth
 beside command bash tests/rakvinje.sh
 
 mkdir -p target/examples
 single "it writes the examples" "$room/write" target/examples
-for book in document01.mbk laptop.mbk arena.mbk; do
+for book in document01.mbk laptop.mbk blocks.mbk arena.mbk; do
     single "examples/$book is what it writes" cmp "target/examples/$book" "examples/$book"
 done
 
 cp "$room/second" target/second
 beside selftest target/second selftest
-single "the second program answers the fixed cases alike" second_agrees
+single "the second program answers the fixed cases alike" second_agrees crates/cases
+single "the second program answers the fixed cases of depths alike" second_agrees tests/depth
 counted "$(stated 'comparisons with the second program')" target/second compare target/bin/cases target/bin/cuecount ./rakvinje 1 6000 crates/pattern_cases/stdin
 single "the second program passes its own test" gather selftest
 counted_beside "$(stated 'runs of the command')" command

@@ -25,7 +25,7 @@ prints() {
 }
 
 r=$home/rakvinje
-count=("$r" count B book) check=("$r" check book) reach=("$r" reach book)
+count=("$r" count B book) check=("$r" check book) reach=("$r" reach book) depth=("$r" depth a b book)
 not_whole='rakvinje: there is no answer: what the program printed is none*'
 ended='rakvinje: there is no answer: the program ended with status'
 
@@ -35,6 +35,7 @@ case $1 in
 count) echo lines 1 steps 2 ;;
 check) echo sound version 1 macros 2 items 3 bytes 4 ;;
 reach) echo 5 ;;
+depth) echo end -1 lowest -2 ;;
 esac'
 counted='lines 1 steps 2'
 expect 0 "$counted" '<count><sensitive><B><book>' "$r" count B book
@@ -64,6 +65,8 @@ expect 0 'sound version 1 macros 2 items 3 bytes 4' '<check><book>' "$r" check b
 expect 0 'sound version 1 macros 2 items 3 bytes 4' '<check><-h>' "$r" check -- -h
 expect 0 5 '<reach><book>' "$r" reach book
 expect 0 5 '<reach><-><07>' "$r" reach -- - 07
+expect 0 'end -1 lowest -2' '<depth><(><)><book>' "$r" depth '(' ')' book
+expect 0 'end -1 lowest -2' '<depth><-><--><-><07>' "$r" depth -- - -- - 07
 program 'echo lines 1 steps "$(wc -c)"'
 expect 0 'lines 1 steps 5' '' "$r" count B - <<<book
 
@@ -75,13 +78,20 @@ expect 2 '' "$not_whole" "${reach[@]}"
 prints 'sound version 1 macros 2 items 5 bytes 21\n'
 expect 0 'sound version 1 macros 2 items 5 bytes 21' '' "${check[@]}"
 expect 2 '' "$not_whole" "${count[@]}"
+for text in 'end 0 lowest 0' 'end 4611686018427387904 lowest 0' 'end -4611686018427387904 lowest -4611686018427387904'; do
+    prints "$text\n"
+    expect 0 "$text" '' "${depth[@]}"
+    expect 2 '' "$not_whole" "${check[@]}"
+done
 prints '1\n0\n'
+expect 2 '' "$not_whole" "${depth[@]}"
 expect 0 "1${lf}0" '' "${reach[@]}"
 expect 2 '' "$not_whole" "${count[@]}"
 prints 'refused 12\n' 'echo too high >&2'
 expect 1 'refused 12' 'too high' "${count[@]}"
 expect 1 'refused 12' 'too high' "${check[@]}"
 expect 1 'refused 12' 'too high' "${reach[@]}"
+expect 1 'refused 12' 'too high' "${depth[@]}"
 program 'seq 0 1023'
 expect 0 "$(seq 0 1023)" '' "${reach[@]}"
 program 'seq 0 1024'
@@ -127,6 +137,11 @@ done
 for text in '5\n4' '5\n4\n\n' '\n5\n' '5\n\n4\n' '5 4\n' '5\nx\n' '5\n-4\n' '5\n 4\n' '5\nrefused 3\n' '5\0\n4\n' '5\n4\nended 0 0\n'; do
     prints "$text"
     expect 2 '' "$not_whole" "${reach[@]}"
+done
+for text in 'end 0 lowest 0' 'end 0\n' 'end 0 lowest\n' 'end -0 lowest 0\n' 'end 0 lowest -0\n' 'end +1 lowest 0\n' 'end - lowest 0\n' 'end 01 lowest 0\n' \
+    'end 0 lowest --1\n' 'end 0 lowest 0\n\n' 'end 0 lowest 0 \n' 'lowest 0 end 0\n' 'end 0 lowest 0\nrefused 3\n' 'end 0 lowest -\0001\n'; do
+    prints "$text"
+    expect 2 '' "$not_whole" "${depth[@]}"
 done
 for text in 'sound version 1 macros 2 items 5 bytes 21' 'sound version 1 macros 2 items 5 bytes\n' 'sound\n' \
     'sound version 1 macros 2 items 5\n' 'sound version 1 macros 2 items 5 bytes 21\n\n' 'sound version 1 macros 2 bytes 21 items 5\n'; do

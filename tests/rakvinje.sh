@@ -137,6 +137,61 @@ expect 0 "$(listed 5 4 3 1 0)" '' "$r" reach "$room/nested"
 expect 0 "$(listed 4 3 1)" '' "$r" reach "$room/nested" 4
 expect 0 2 '' "$r" reach "$room/nested" 2
 
+# Depth. Standard error says whether the blocks are closed.
+blocks=examples/blocks.mbk
+closed='*blocks are closed*' left='A block is left open*' early='*no block is open; no block is left open*' both='*no block is open, and a block is left open*'
+expect 0 'end 0 lowest 0' "$closed" "$r" depth '(' ')' "$blocks" 2
+expect 0 'end 1 lowest 0' "$left" "$r" depth '(' ')' "$blocks" 3
+expect 0 'end 0 lowest -1' "$both" "$r" depth '(' ')' "$blocks"
+expect 0 'end -1 lowest -1' "$early" "$r" depth '(' ')' "$blocks" 1
+expect 0 'end 0 lowest -2' "$both" "$r" depth ')' '(' "$blocks" 2
+expect 0 'end -1 lowest -2' "$both" "$r" depth ')' '(' "$blocks" 3
+expect 0 'end 0 lowest -1' "$both" "$r" depth ')' '(' "$blocks" 4
+expect 0 'end 0 lowest 0' "$closed" "$r" depth x y "$blocks"
+for words in '40 41' '040 041' '( 41' '040 )' '-- ( )'; do
+    # shellcheck disable=SC2086
+    expect 0 'end 1 lowest 0' "$left" "$r" depth $words "$blocks" 003
+    # shellcheck disable=SC2086
+    expect 0 'end 1 lowest 0' "$left" "$r" depth $words - 3 < <(slowly "$blocks")
+done
+# A digit alone is that character. The macro: 5, the key 5, 13, LF, 255, -.
+book keys 'MBK\1\0\1\0\6\0005\0\5\0\15\0\n\0\377\0-\0'
+keys=$room/keys
+expect 0 'end 1 lowest 0' "$left" "$r" depth 5 x "$keys"
+expect 0 'end 0 lowest 0' "$closed" "$r" depth 53 05 "$keys"
+expect 0 'end 0 lowest -1' "$both" "$r" depth 05 5 "$keys"
+expect 0 'end 1 lowest 0' "$left" "$r" depth 005 x "$keys"
+expect 0 'end 0 lowest 0' "$closed" "$r" depth 13 255 "$keys"
+expect 0 'end 0 lowest 0' "$closed" "$r" depth $'\r' $'\377' "$keys"
+expect 0 'end 0 lowest -1' "$both" "$r" depth 255 13 "$keys"
+expect 0 'end 0 lowest 0' "$closed" "$r" depth 5 - "$keys"
+expect 0 'end 0 lowest -1' "$both" "$r" depth - 5 "$keys"
+# Macro 62 has 2^62 keys, 63 twice as many, 64 one more than 62; 65 is a closing, and reaches none of them.
+{
+    printf 'MBK\1\0\102\0\1\0(\0'
+    for i in {0..62}; do
+        printf -v call '\\x%02x\\1' "$i"
+        printf '\2\0%b%b' "$call" "$call"
+    done
+    printf '\2\0\76\1)\0\1\0)\0'
+} >"$room/deep"
+expect 0 'end 4611686018427387904 lowest 0' "$left" "$r" depth '(' ')' "$room/deep" 62
+expect 0 'end -4611686018427387904 lowest -4611686018427387904' "$early" "$r" depth ')' '(' "$room/deep" 62
+expect 1 'refused 19' '*over 4,611,686,018,427,387,904 keys*' "$r" depth '(' ')' "$room/deep" 63
+expect 1 'refused 19' '*over 4,611,686,018,427,387,904 keys*' "$r" depth '(' ')' "$room/deep" 64
+expect 0 'end -1 lowest -1' "$early" "$r" depth '(' ')' "$room/deep"
+for pair in '( (' '00 (' '( 000' '10 (' '( 010' '40 (' '00 10'; do
+    # shellcheck disable=SC2086
+    expect 1 'refused 18' '*equal, or one of them is 0 or 10*' "$r" depth $pair "$blocks"
+    # shellcheck disable=SC2086
+    expect 1 'refused 18' '*equal, or one of them is 0 or 10*' "$r" depth $pair /dev/null 9
+done
+expect 1 'refused 18' '*equal, or one of them is 0 or 10*' "$r" depth "$lf" '(' "$blocks"
+for key in '' 256 999 0005 ab 1a a1 ä '((' ' (' +5 "$(many 0 5000)"; do
+    expect 2 '' '*key must be one byte*' "$r" depth "$key" ')' "$blocks"
+    expect 2 '' '*key must be one byte*' "$r" depth '(' "$key" "$blocks" 1
+done
+
 # A book on the standard input.
 expect 0 'lines 2 steps 17' '' "$r" count B - <"$small"
 expect 0 'lines 1 steps 11' '' "$r" count B - 0 < <(slowly "$small")
@@ -189,6 +244,8 @@ expect 0 "$(seq 1023 -1 0)" '' "${beyond[@]}" reach "$room/chain"
 } >"$room/full"
 expect 0 133127 '' stat -c %s "$room/full"
 expect 0 "$(seq 1023 -1 0)" '' "${beyond[@]}" reach "$room/full"
+expect 0 'end 4124800 lowest 0' "$left" "${within[@]}" depth x y "$room/full"
+expect 0 'end 4124800 lowest 0' "$left" "${within[@]}" depth x y - <"$room/full"
 cp "$room/longest" "$room/longer"
 printf '\0' >>"$room/longer"
 cp "$room/longest" "$room/much_longer"
@@ -196,7 +253,7 @@ head -c 1000000 /dev/zero >>"$room/much_longer"
 many '\0' 133127 >"$room/zeros"
 many '\0' 133128 >"$room/more_zeros"
 many '\0' 1000000 >"$room/most_zeros"
-for verb in 'count B' check reach; do
+for verb in 'count B' check reach 'depth ( )'; do
     for longer in longer much_longer; do
         # shellcheck disable=SC2086
         expect 1 'refused 4' '*cut short or goes on*' "${within[@]}" $verb "$room/$longer"
@@ -223,6 +280,8 @@ refused_book() {
     expect 1 "refused $1" "*$2*" "$r" check "$3"
     expect 1 "refused $1" "*$2*" "$r" reach "$3"
     expect 1 "refused $1" "*$2*" "$r" reach "$3" 5
+    expect 1 "refused $1" "*$2*" "$r" depth '(' ')' "$3"
+    expect 1 "refused $1" "*$2*" "$r" depth '(' ')' "$3" 5
 }
 
 # Refusals.
@@ -258,6 +317,7 @@ expect 1 'refused 9' '*over 29 atoms*' "$r" count "$(many x 30)" "$small"
 for asked in 2 1024 18446744073709551616 340282366920938463463374607431768211457; do
     expect 1 'refused 10' '*no macro of that number*' "$r" count B "$small" "$asked"
     expect 1 'refused 10' '*no macro of that number*' "$r" reach "$small" "$asked"
+    expect 1 'refused 10' '*no macro of that number*' "$r" depth B C "$small" "$asked"
 done
 {
     printf 'MBK\1\0\101\0\2\0a\0\n\0'
@@ -271,7 +331,7 @@ expect 0 'lines 18446744073709551615 steps 389' '' "$r" count a "$room/high" 63
 expect 1 'refused 12' '*largest that can be given*' "$r" count a "$room/high"
 
 # No answer: files, numbers, the answer itself.
-for verb in 'count B' check reach; do
+for verb in 'count B' check reach 'depth ( )'; do
     # shellcheck disable=SC2206
     asked=("$r" $verb)
     expect 2 '' '*No such file or directory*' "${asked[@]}" "$room/missing"
@@ -286,13 +346,14 @@ expect 2 '' '*Bad file descriptor*' bash -c '"$@" <&-' - "$r" check -
 for asked in '' x -1 +1 1x ' 1' 0x1 1.0; do
     expect 2 '' '*decimal digits*' "$r" count B "$small" "$asked"
     expect 2 '' '*decimal digits*' "$r" reach "$small" "$asked"
+    expect 2 '' '*decimal digits*' "$r" depth B C "$small" "$asked"
 done
 
 # Help.
 expect 0 "$(<scripts/help/verbs.txt)" '' "$r" help
 expect 0 "$(<scripts/help/verbs.txt)" '' "$r" --help
 expect 0 "$(<scripts/help/verbs.txt)" '' "$r" -h
-for verb in count check reach help; do
+for verb in count check reach depth help; do
     text=$(<scripts/help/$verb.txt)
     expect 0 "$text" '' "$r" help "$verb"
     expect 0 "$text" '' "$r" "$verb" --help
@@ -304,10 +365,12 @@ done
 expect 2 '' '*' bash -c '"$@" >/dev/full' - "$r" help count
 
 # The examples of the help are what is printed.
-for verb in count check reach; do
+for verb in count check reach depth; do
     example=$(sed -n 's/^  \$ //p' scripts/help/$verb.txt)
     [ -n "$example" ] || example="echo 'the help of $verb has no example'"
-    expect 0 "$(sed '1,/^  \$ /d; /^  \$ /d; s/^  //' scripts/help/$verb.txt)" '' bash -ec "$example"
+    said=''
+    [ "$verb" != depth ] || said="$closed$left$both"
+    expect 0 "$(sed '1,/^  \$ /d; /^  \$ /d; s/^  //' scripts/help/$verb.txt)" "$said" bash -ec "$example"
 done
 
 # Document 01's program, where its input cannot be read, or its output written.
@@ -325,7 +388,7 @@ expect 2 '' "*no verb 'verbs'*rakvinje help*" "$r" help verbs
 expect 2 '' "*no verb '../count'*rakvinje help*" "$r" help ../count
 expect 2 '' "*no option '-x' before the verb*rakvinje help*" "$r" -x count B "$small"
 expect 2 '' "*no option '--' before the verb*rakvinje help*" "$r" -- count B "$small"
-for verb in count check reach help; do
+for verb in count check reach depth help; do
     for option in -x --x --helping --help=1 -: '-?'; do
         expect 2 '' "*$verb has no option '${option/\?/\\?}'*rakvinje help $verb*" "$r" "$verb" "$option" B "$small"
     done
@@ -350,6 +413,11 @@ expect 2 '' 'usage: rakvinje check BOOK' "$r" check
 expect 2 '' 'usage: rakvinje check BOOK' "$r" check "$small" 1
 expect 2 '' 'usage: rakvinje reach BOOK [[]MACRO]' "$r" reach
 expect 2 '' 'usage: rakvinje reach BOOK [[]MACRO]' "$r" reach "$small" 1 1
+usage='usage: rakvinje depth OPEN CLOSE BOOK [[]MACRO]'
+expect 2 '' "$usage" "$r" depth
+expect 2 '' "$usage" "$r" depth '(' ')'
+expect 2 '' "$usage" "$r" depth '(' ')' "$small" 1 1
+expect 2 '' "*no option '-i'*rakvinje help depth*" "$r" depth -i '(' ')' "$small"
 expect 2 '' 'usage: rakvinje help [[]VERB]' "$r" help count check
 
 finish

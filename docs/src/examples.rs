@@ -1,5 +1,5 @@
-// Writes the example books: `examples FOLDER` makes document01.mbk, the book of document 01, laptop.mbk, whose lines end with CR LF, and
-// arena.mbk, a made-up show of 300 macros whose run no disk could hold. Standard library only; the same bytes each time.
+// Writes the example books: `examples FOLDER` makes document01.mbk, the book of document 01, laptop.mbk, whose lines end with CR LF,
+// blocks.mbk, where ( and ) open and close cue blocks, and arena.mbk, a made-up show of 300 macros whose run no disk could hold. Standard library only; the same bytes each time.
 use std::{env, fs, path::Path};
 
 type Macro = Vec<u16>;
@@ -45,6 +45,11 @@ fn document01() -> Vec<Macro> {
 // Lines that end with CR LF, one of them parted between two macros; the run's last CR has no LF behind it.
 fn laptop() -> Vec<Macro> {
     vec![keys("GO\r"), keys("\n"), keys("HAZE GO\r\n"), vec![call(0), call(1), call(2), call(0)]]
+}
+
+// Macro 2 closes what it opens, macro 3 leaves a block open, and macro 4 closes one that was not opened.
+fn blocks() -> Vec<Macro> {
+    vec![keys("BLOCK(\n"), keys("END)\n"), vec![call(0), call(0), call(1), call(1)], vec![call(2), call(0)], vec![call(1), call(2), call(0)]]
 }
 
 // Macros 0 to 59: words, without line ends, so that lines are put together out of several macros.
@@ -126,7 +131,7 @@ fn run_length(book: &[Macro]) -> Vec<u128> {
 
 fn main() {
     let folder = env::args().nth(1).expect("usage: examples FOLDER");
-    for (name, book) in [("document01.mbk", document01()), ("laptop.mbk", laptop()), ("arena.mbk", arena())] {
+    for (name, book) in [("document01.mbk", document01()), ("laptop.mbk", laptop()), ("blocks.mbk", blocks()), ("arena.mbk", arena())] {
         fs::write(Path::new(&folder).join(name), encode(&book)).expect("the book cannot be written");
         println!("{name}: {} macros, the last one's run has {} keys", book.len(), run_length(&book).last().unwrap());
     }

@@ -1,6 +1,7 @@
-// Cases from standard input through the operations of `book` and `counter`: what they answer to each.
+// Cases from standard input through the operations of `book`, `counter` and `depth`: what they answer to each.
 mod books;
 mod counts;
+mod depths;
 mod numbers;
 mod plain;
 mod reach_lists;

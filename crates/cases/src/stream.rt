@@ -4,6 +4,7 @@ use crate::books::bodies;
 use crate::books::checks;
 use crate::counts::counting;
 use crate::counts::joining;
+use crate::depths::depths;
 use crate::plain::lines;
 use crate::plain::runs;
 use crate::reach_lists::reaches;
@@ -30,6 +31,7 @@ fn first(bytes: &[u8]) -> usize
         b'K' => checks(bytes),
         b'B' => bodies(bytes),
         b'H' => reaches(bytes),
+        b'D' => depths(bytes),
         b'J' => joining(bytes),
         _ => 0,
     }

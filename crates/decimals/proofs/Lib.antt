@@ -2,3 +2,4 @@
 pub mod NumberLaws
 pub mod NumeralLaws
 pub mod TextLaws
+pub mod WholeLaws

@@ -1,8 +1,10 @@
-// Numbers in decimal digits, read and written, and texts in a buffer.
+// Numbers in decimal digits, read and written, texts in a buffer, and the size of a whole number.
 mod number;
 mod text;
+mod whole;
 
 pub use number::Number;
 pub use number::number_in;
 pub use text::put_number;
 pub use text::put_text;
+pub use whole::size;

@@ -39,7 +39,7 @@ module _ (out : List ℕ) (at : ℕ) (name : List ℕ) (n : ℕ) (room : at + (l
         omega (arith, field-place g, length-append name (numeral n))
 
 -- Texts put one behind the other from the front of a buffer on.
-line-of : {old text new : List ℕ} {at : ℕ} → Put old text new at → Line text old new at
+pub line-of : {old text new : List ℕ} {at : ℕ} → Put old text new at → Line text old new at
 line-of p = record { front = p .front; long = p .place }
 
 module _ (old u : List ℕ) {a : List ℕ} {i : ℕ} (e : a ≡ putAt old 0 u) (f : i ≡ placeAfter old 0 u) where
@@ -51,7 +51,7 @@ module _ (old u : List ℕ) {a : List ℕ} {i : ℕ} (e : a ≡ putAt old 0 u) (
     two-put l = put-more (one-put (omega arith)) v l g h
 
     module _ (w : List ℕ) {c : List ℕ} {k : ℕ} (x : c ≡ putAt b j w) (y : k ≡ placeAfter b j w) where
-      three-put : length u + length v + length w ≤ length old → Put old (u ++ v ++ w) c k
+      pub three-put : length u + length v + length w ≤ length old → Put old (u ++ v ++ w) c k
       three-put l = put-more (two-put (omega arith)) w (rw (length-append u v) l) x y
 
 -- `refused R`
@@ -83,7 +83,7 @@ facts-put old f wide short small start near e g h x y z =
     line-of (put-more third ending (rw (length-append (soundText f ++ field " items " (f .items)) (field " bytes " (f .bytes)), length-append (soundText f) (field " items " (f .items))) (omega (arith, start .long))) y z)
 
 -- By the answer's case.
-refusal-told : (r : Refusal) → eqb (number r) 0 ≡ false
+pub refusal-told : (r : Refusal) → eqb (number r) 0 ≡ false
 refusal-told r = ne-eqb (number r) 0 (omega (arith, number-positive r))
 
 pub count-lines : (lines steps : ℕ) {old new : List ℕ} {n : ℕ} {c : BookCount} → c ≡ BookCount.Lines lines steps → Line (linesText lines steps) old new n → Line (countLine (toldBy c)) old new n

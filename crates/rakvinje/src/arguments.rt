@@ -1,4 +1,4 @@
-// What the arguments name: the verb, whether case is ignored, the pattern, the book, the macro.
+// What the arguments name: the verb, whether case is ignored, the pattern, the keys, the book, the macro.
 use crate::say;
 use command::BOOK_READ;
 use command::PATTERN_READ;
@@ -6,6 +6,8 @@ use counter::Case;
 use files::FileRead;
 use files::read_path;
 use libc::ENAMETOOLONG;
+use survey::KeyText;
+use survey::key_in;
 ghost use mathlib.Core.Path.{_≡_};
 ghost use lib.ListN.{length};
 ghost use Rattle.io.specs.Counts.{Counts};
@@ -52,6 +54,16 @@ pub(crate) fn case_at(i: usize) -> CaseWord {
         return CaseWord::Said(Case::Ignored);
     }
     CaseWord::Unknown
+}
+
+// The key that an argument names. A key's name is shorter than the buffer; what does not fit there names none.
+pub(crate) fn key_at(i: usize) -> KeyText {
+    let mut space = io::buffer();
+    let n = os::arg(i, &mut space);
+    if os::errno() != 0 {
+        return KeyText::NoKey;
+    }
+    key_in(&space[..n])
 }
 
 // Puts the pattern that an argument is into the buffer, and answers how many bytes: of a longer one, the buffer's first.

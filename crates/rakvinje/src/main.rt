@@ -1,8 +1,10 @@
-// The command for people: `rakvinje count CASE PATTERN BOOK [MACRO]`, `rakvinje check BOOK`, `rakvinje reach BOOK [MACRO]`, where CASE is
-// `sensitive` or `ignored`. Standard output has the answer; standard error says what a refusal means, or why there is no answer.
+// The command for people: `rakvinje count CASE PATTERN BOOK [MACRO]`, `rakvinje check BOOK`, `rakvinje reach BOOK [MACRO]`,
+// `rakvinje depth OPEN CLOSE BOOK [MACRO]`, where CASE is `sensitive` or `ignored`. Standard output has the answer; standard error says
+// what depths and refusals mean, or why there is no answer.
 mod arguments;
 mod check;
 mod count;
+mod depths;
 mod meaning;
 mod reaching;
 mod say;
@@ -17,6 +19,10 @@ fn main() {
     }
     if is_verb(b"check") & (n == 3) {
         check::check_book();
+        return;
+    }
+    if is_verb(b"depth") & ((n == 5) | (n == 6)) {
+        depths::depth();
         return;
     }
     if is_verb(b"reach") & ((n == 3) | (n == 4)) {

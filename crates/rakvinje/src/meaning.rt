@@ -2,9 +2,9 @@
 use crate::say::text;
 use refusal::Refusal;
 
-// What a sound book and a good pattern are refused for. The command has space for every book, joins nothing and takes input of any
-// length, so that there are no more (`last-refusals`, `named-refusals` of `command`, `survey-refusals`,
-// `reach-last-refusals`, `reach-named-refusals` of `survey`).
+// What a sound book is refused for, with a good pattern or with two keys. The command has space for every book, joins nothing and takes
+// input of any length, so that there are no more (`last-refusals`, `named-refusals` of `command`, `survey-refusals`,
+// `reach-last-refusals`, `reach-named-refusals`, `depth-last-refusals`, `depth-named-refusals` of `survey`).
 fn explain_macro(r: Refusal) {
     match r {
         Refusal::NoSuchMacro => text(
@@ -12,6 +12,12 @@ fn explain_macro(r: Refusal) {
         ),
         Refusal::CountOverflow => text(
             b"The count is over 18,446,744,073,709,551,615, the largest that can be given. Ask for a macro that this one calls.\n",
+        ),
+        Refusal::InvalidDelimiters => text(
+            b"The two keys are equal, or one of them is 0 or 10, the line end. Give the key that opens a block and the one that closes it.\n",
+        ),
+        Refusal::RunTooLong => text(
+            b"The run has over 4,611,686,018,427,387,904 keys, the most whose depth is given. Ask for a macro that this one calls.\n",
         ),
         _ => {}
     }

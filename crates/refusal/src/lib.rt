@@ -2,7 +2,7 @@
 ghost use mathlib.Core.Path.{_≡_};
 ghost use Rattle.refusal.specs.Number.{number};
 
-// Document 01, "Refused": a case for each row of the table, in its order.
+// Document 01, "Refused": a case for each row of the table, in its order; behind them document 02's.
 pub enum Refusal {
     // 1, "no book": under 7 bytes, or another mark.
     BadMagic,
@@ -32,6 +32,10 @@ pub enum Refusal {
     ReportMismatch,
     // 14, "long input": program only.
     InputTooLong,
+    // Document 02, S-6. 18: the two keys are equal, or one is 0 or 10. 15 to 17 are S-3's.
+    InvalidDelimiters,
+    // 19: the macro's run is longer than 2^62 keys.
+    RunTooLong,
 }
 
 // The number that the table gives a refusal.
@@ -53,5 +57,7 @@ pub fn code(r: Refusal) -> u8
         Refusal::CountOverflow => 12,
         Refusal::ReportMismatch => 13,
         Refusal::InputTooLong => 14,
+        Refusal::InvalidDelimiters => 18,
+        Refusal::RunTooLong => 19,
     }
 }

@@ -2,23 +2,25 @@
 use Prim.Native.Nat.{ℕ}
 use mathlib.Core.Path.{_≡_, refl}
 use mathlib.Core.List.{List}
-use mathlib.Core.Option.{Option, none, some}
 use Rattle.counter.specs.declared.counting.BookCount.{BookCount}
 use Rattle.command.specs.declared.buffer.PatternInput.{PatternInput}
 use Rattle.command.specs.declared.counts.NamedCount.{NamedCount}
-use Rattle.command.specs.Input.{Told, toldBy}
-use Rattle.command.specs.Named.{toldNamed, namedAnswer}
+use Rattle.command.specs.Input.{toldBy}
 use Rattle.command.specs.Reads.{ProgramAnswers, LastAnswers, NamedAnswers}
 use Rattle.command.proofs.ReadLaws.{program-answers, last-answers, named-answers}
 use Rattle.survey.specs.declared.facts.Surveyed.{Surveyed}
 use Rattle.survey.specs.Facts.{surveyFigures, Surveys}
 use Rattle.survey.proofs.FactLaws.{survey-answers}
+use Rattle.survey.specs.declared.depths.NamedDepth.{NamedDepth}
+use Rattle.survey.specs.Depths.{depthTold, NamedDepths}
 use Rattle.survey.specs.declared.reached.NamedReach.{NamedReach}
 use Rattle.survey.specs.Reached.{NamedReached}
+use Rattle.depth.specs.declared.unmatched.Delimiters.{Delimiters}
+use Rattle.depth.specs.declared.reporting.DepthReport.{DepthReport}
 use Rattle.reach.specs.declared.listing.Reached.{Reached}
 use Rattle.reach.specs.Answer.{reachedFigures}
-use Rattle.output.specs.Lines.{Line, countLine, surveyLine, reachText}
-use Rattle.replies.specs.Replies.{NothingPrinted, ProgramReplies, CountPrinted, LastReplies, LineIf, NamedPrinted, NamedReplies, SurveyPrinted, SurveyReplies, NamedReachReplies}
+use Rattle.output.specs.Lines.{Line, countLine, surveyLine, reachText, depthLine}
+use Rattle.replies.specs.Replies.{ProgramReplies, LastReplies, NamedReplies, SurveyReplies, NamedReachReplies, NamedDepthReplies}
 
 pub program-replies : (input : List ℕ) (n : ℕ) (c : BookCount) {before after : List ℕ} {length : ℕ} → ProgramAnswers input n c → Line (countLine (toldBy c)) before after length → ProgramReplies input n before after length
 unfolding ProgramReplies
@@ -48,3 +50,11 @@ module _ (book : List ℕ) (n : ℕ) (text : List ℕ) {q : NamedReach} {listed 
 
   pub reach-nothing : (out : List ℕ) → q ≡ NamedReach.NoNumber → NamedReachReplies book n text listed list out out (record { length = 0; found = q })
   reach-nothing out g = record { reached = a; lines = rw g (record { same = refl; long = refl }) }
+
+-- Depths: likewise.
+module _ (book : List ℕ) (n : ℕ) (keys : Delimiters) (text : List ℕ) {q : NamedDepth} (a : NamedDepths book n keys text q) where
+  pub depth-replies : {r : DepthReport} {before after : List ℕ} {length : ℕ} → q ≡ NamedDepth.Depth r → Line (depthLine (depthTold r)) before after length → NamedDepthReplies book n keys text before after (record { length = length; found = NamedDepth.Depth r })
+  depth-replies g l = record { depths = rw g at a; line = l }
+
+  pub depth-nothing : (out : List ℕ) → q ≡ NamedDepth.NoNumber → NamedDepthReplies book n keys text out out (record { length = 0; found = q })
+  depth-nothing out g = record { depths = a; line = rw g (record { same = refl; long = refl }) }

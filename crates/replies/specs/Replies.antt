@@ -3,18 +3,23 @@ use Prim.Native.Nat.{ℕ}
 use mathlib.Core.Path.{_≡_}
 use mathlib.Core.List.{List}
 use mathlib.Core.Option.{Option, none, some}
+use Rattle.depth.specs.declared.unmatched.Delimiters.{Delimiters}
 use Rattle.reach.specs.Answer.{reachedFigures}
 use Rattle.command.specs.declared.buffer.PatternInput.{PatternInput}
 use Rattle.command.specs.Buffers.{ReadFrom}
 use Rattle.command.specs.Input.{Told, toldBy, programAnswer, lastAnswer}
 use Rattle.command.specs.Named.{toldNamed, namedAnswer}
 use Rattle.survey.specs.declared.reached.NamedReach.{NamedReach}
+use Rattle.survey.specs.declared.depths.NamedDepth.{NamedDepth}
+use Rattle.survey.specs.Depths.{depthTold, LastDepths, NamedDepths}
 use Rattle.survey.specs.Facts.{surveyFigures, surveyResult}
 use Rattle.survey.specs.Reached.{LastReached, NamedReached}
-use Rattle.output.specs.Lines.{Line, countLine, surveyLine, reachText}
+use Rattle.output.specs.Lines.{Line, countLine, surveyLine, reachText, depthLine}
 use Rattle.replies.specs.declared.books.SurveyReply.{SurveyReply}
 use Rattle.replies.specs.declared.counts.CountReply.{CountReply}
 use Rattle.replies.specs.declared.counts.NamedReply.{NamedReply}
+use Rattle.replies.specs.declared.depths.DepthReply.{DepthReply}
+use Rattle.replies.specs.declared.depths.NamedDepthReply.{NamedDepthReply}
 use Rattle.replies.specs.declared.reaching.ReachReply.{ReachReply}
 use Rattle.replies.specs.declared.reaching.NamedReachReply.{NamedReachReply}
 
@@ -71,3 +76,16 @@ LinesIf NamedReach.NoNumber list before after n = NothingPrinted before after n
 pub record NamedReachReplies (book : List ℕ) (n : ℕ) (text listed list before after : List ℕ) (r : NamedReachReply) : Type 0 where
   pub reached : NamedReached book n text (r .found) listed list
   pub lines : LinesIf (r .found) list before after (r .length)
+
+-- The line of a run's depths.
+pub record LastDepthReplies (book : List ℕ) (n : ℕ) (keys : Delimiters) (before after : List ℕ) (r : DepthReply) : Type 0 where
+  pub depths : LastDepths book n keys (r .found)
+  pub line : Line (depthLine (depthTold (r .found))) before after (r .length)
+
+abbrev pub DepthLineIf : NamedDepth → List ℕ → List ℕ → ℕ → Type 0
+DepthLineIf (NamedDepth.Depth found) before after n = Line (depthLine (depthTold found)) before after n
+DepthLineIf NamedDepth.NoNumber before after n = NothingPrinted before after n
+
+pub record NamedDepthReplies (book : List ℕ) (n : ℕ) (keys : Delimiters) (text before after : List ℕ) (r : NamedDepthReply) : Type 0 where
+  pub depths : NamedDepths book n keys text (r .found)
+  pub line : DepthLineIf (r .found) before after (r .length)

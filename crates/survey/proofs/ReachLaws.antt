@@ -1,16 +1,11 @@
 -- Laws of the reach list of the macro that a command names, or of the last one.
-use Prim.Native.Nat.{ℕ, _≤_, min}
-use native.Mathlib.Omega.{arith}
+use Prim.Native.Nat.{ℕ, _≤_}
 use mathlib.Core.Path.{_≡_, refl, ap}
 use mathlib.Core.Logic.{_⊎_}
-use mathlib.Core.Bool.{Bool, true, false}
 use mathlib.Core.List.{List}
-use lib.Dec.{leb}
 use lib.ListN.{length, take}
-use borrow.Author.Tests.{leb-true, leb-false}
 use Rattle.refusal.specs.Figures.{Figures}
 use Rattle.book.specs.Reading.{readBook}
-use Rattle.book.proofs.Prefix.{book-prefix}
 use Rattle.reach.specs.declared.listing.Reached.{Reached}
 use Rattle.reach.specs.Answer.{reachedFigures}
 use Rattle.reach.proofs.AnswerLaws.{entries-alike, reached-beyond, reached-refusals}
@@ -21,21 +16,18 @@ use Rattle.command.specs.Buffers.{ReadFrom}
 use Rattle.command.specs.Input.{lastMacro}
 use Rattle.command.proofs.ReadLaws.{read-itself}
 use Rattle.survey.specs.declared.reached.NamedReach.{NamedReach}
+use Rattle.survey.proofs.ReadWhole.{whole-read, number-small}
 use Rattle.survey.specs.Reached.{ReachedIn, LastReached, NamedReached}
 
--- a book of any length is read as its first 133,128 bytes
 module _ (book bytes : List ℕ) (n : ℕ) (long : length book ≡ 133128) (is : bytes ≡ take n book) where
-  whole : (b : List ℕ) → ReadFrom book n b → readBook bytes ≡ readBook b
-  whole b f = rw (is, f, long) (book-prefix 133128 b (omega arith))
-
   reached-whole : (b : List ℕ) → ReadFrom book n b → (m : ℕ) (f : Figures ℕ) (before after : List ℕ) → ReachedIn bytes m f before after → ReachedIn b m f before after
-  reached-whole b e m f before after w = rw (entries-alike m (length before) bytes b (whole b e)) at w
+  reached-whole b e m f before after w = rw (entries-alike m (length before) bytes b (whole-read book bytes n long is b e)) at w
 
   -- the last macro
   pub last-reached : (m : ℕ) (f : Figures ℕ) (before after : List ℕ) → m ≡ lastMacro (readBook bytes) → ReachedIn bytes m f before after → LastReached book n f before after
   unfolding LastReached
   last-reached m f before after e w b g =
-      let same : lastMacro (readBook bytes) ≡ lastMacro (readBook b) = ap lastMacro (whole b g) in
+      let same : lastMacro (readBook bytes) ≡ lastMacro (readBook b) = ap lastMacro (whole-read book bytes n long is b g) in
       rw (← same, ← e) (reached-whole b g m f before after w)
 
   -- the macro that a text names: 1,024 stands for all from there on
@@ -44,11 +36,7 @@ module _ (book bytes : List ℕ) (n : ℕ) (long : length book ≡ 133128) (is :
     unfolding NamedReached
     named-reached m r f w b g =
         let (number, value) = number-value text e f in
-        (number, go (leb (decimal text) 1024) refl (rw value at (reached-whole b g m (reachedFigures r) before after w)))
-      where
-        go : (x : Bool) → leb (decimal text) 1024 ≡ x → ReachedIn b (min (decimal text) 1024) (reachedFigures r) before after → ReachedIn b (decimal text) (reachedFigures r) before after
-        go true l v = let h = leb-true (decimal text) 1024 l in let same : min (decimal text) 1024 ≡ decimal text = omega arith in rw same at v
-        go false l v = let h = leb-false (decimal text) 1024 l in reached-beyond b before after (min (decimal text) 1024) (decimal text) (reachedFigures r) (omega arith) (omega arith) v
+        (number, number-small (λ k. ReachedIn b k (reachedFigures r) before after) (λ i j. reached-beyond b before after i j (reachedFigures r)) (decimal text) (rw value at (reached-whole b g m (reachedFigures r) before after w)))
 
 -- a text that names none leaves the list as it was
 pub nothing-reached : (book : List ℕ) (n : ℕ) (text : List ℕ) {a : Number} → a ≡ numberIn text → (list : List ℕ) → a ≡ Number.Malformed → NamedReached book n text NamedReach.NoNumber list list
