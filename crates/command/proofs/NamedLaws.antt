@@ -1,13 +1,9 @@
 -- Laws of the macro that a command names.
 use Prim.Native.Nat.{ℕ, min}
-use native.Mathlib.Omega.{arith}
 use mathlib.Core.Path.{_≡_, refl, ap, _∙_}
-use mathlib.Core.Bool.{Bool, true, false}
 use mathlib.Core.List.{List}
 use mathlib.Core.Option.{none, some}
-use lib.Dec.{leb}
 use lib.ListN.{replicate}
-use borrow.Author.Tests.{leb-true, leb-false}
 use Rattle.letters.specs.declared.Case.{Case}
 use Rattle.decimals.specs.declared.number.Number.{Number}
 use Rattle.decimals.specs.Decimals.{decimal, numberIn}
@@ -16,16 +12,12 @@ use Rattle.pattern.specs.Reader as reader
 use Rattle.counter.specs.Counting.{Outcome, countResult, mostWords}
 use Rattle.command.specs.Input.{Told, told, macroAnswer}
 use Rattle.command.specs.Named.{namedAnswer}
-use Rattle.decimals.proofs.NumberLaws.{number-value, number-none}
+use Rattle.decimals.proofs.NumberLaws.{number-value, number-none, number-small}
 use Rattle.counter.proofs.Demands.{beyond-alike}
 
 -- A number from 1,024 on is refused like 1,024: no book has such a macro.
 pub asked-alike : (c : Case) (b : List ℕ) (p : reader.Read) (n : ℕ) (work : List ℕ) → countResult c (readBook b) p (min n 1024) work ≡ countResult c (readBook b) p n work
-asked-alike c b p n work = go (leb n 1024) refl
-  where
-    go : (x : Bool) → leb n 1024 ≡ x → countResult c (readBook b) p (min n 1024) work ≡ countResult c (readBook b) p n work
-    go true l = let h = leb-true n 1024 l in let same : min n 1024 ≡ n = omega arith in rw same refl
-    go false l = let h = leb-false n 1024 l in beyond-alike c b p (min n 1024) n work (omega arith) (omega arith)
+asked-alike c b p n work = number-small (λ k. countResult c (readBook b) p (min n 1024) work ≡ countResult c (readBook b) p k work) (λ i j g h e. e ∙ beyond-alike c b p i j work g h) n refl
 
 -- What is told of the macro that a text names.
 module _ (c : Case) (book pattern text : List ℕ) {a : Number} (e : a ≡ numberIn text) where

@@ -12,7 +12,7 @@ use lib.Seq.{drop-cons}
 use borrow.Author.Tests.{leb-true, leb-false, not-true, not-false}
 use Rattle.decimals.specs.declared.number.Number.{Number}
 use Rattle.decimals.specs.Decimals.{isDigit, allDigits, isNumber, decimal, numberIn}
-use Rattle.runs.proofs.Tests.{clash}
+use Rattle.runs.proofs.Tests.{clash, either}
 
 never : {A : Type 0} → false ≡ true → A
 never e = clash (ap (λ (b : Bool). cond b 1 0) e)
@@ -127,3 +127,7 @@ module _ (w : List ℕ) {a : Number} (e : a ≡ numberIn w) where
       go : (b : Bool) → Number.Malformed ≡ cond b (Number.Value (min (decimal w) 1024)) Number.Malformed → b ≡ false
       go true h = clash (cc)
       go false h = refl
+
+-- The number that is told stands for all from 1,024 on: what is the same of those is so of the number of the text.
+pub number-small : (P : ℕ → Type 0) → ((m n : ℕ) → 1024 ≤ m → 1024 ≤ n → P m → P n) → (n : ℕ) → P (min n 1024) → P n
+number-small P alike n p = either 1024 n (λ h. alike (min n 1024) n (omega arith) (omega arith) p) (λ h. let same : min n 1024 ≡ n = omega arith in rw same at p)

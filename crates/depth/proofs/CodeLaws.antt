@@ -12,13 +12,14 @@ use mir.Syntax.{w64}
 use mir.Val.{SFits, toZ, ofZ}
 use mir.ValLaws.{toZ-pos, toZ-ofZ}
 use borrow.Author.Tests.{eq-eqb, ne-eqb}
+use Rattle.runs.proofs.Tests.{either}
 use Rattle.book.specs.declared.item.Item.{Item}
 use Rattle.book.specs.declared.item.Item.the-variants.{Key, Call}
 use Rattle.depth.specs.declared.unmatched.Delimiters.{Delimiters}
 use Rattle.depth.specs.declared.unmatched.Unmatched.{Unmatched}
 use Rattle.depth.specs.Answer.{longest, word, width}
 use Rattle.depth.specs.Promises.{tooLong, followed, keyUnmatched, loadedAt, wordsOf, storedAt, itemUnmatched, InWords}
-use Rattle.depth.proofs.Differences.{sub-above, sub-below, either}
+use Rattle.depth.proofs.Differences.{sub-above, sub-below}
 use Rattle.depth.proofs.UnmatchedLaws.{same-unmatched, joined-first, joined-over, joined-fits}
 
 -- One key.

@@ -9,8 +9,9 @@ use lib.ListN.{length, take, length-append}
 use lib.Seq.{take-append-le, take-append-add}
 use lib.IntN.{ℤ, pos, _+ℤ_}
 use lib.Signed.{leZ}
+use Rattle.runs.proofs.Tests.{either}
 use Rattle.depth.specs.Depths.{occurrences, depthAfter, lower, lowestTo, lowestDepth}
-use Rattle.depth.proofs.Differences.{sub-add, either, le-add, le-refl, le-trans, le-same, le-other}
+use Rattle.depth.proofs.Differences.{sub-add, le-add, le-refl, le-trans, le-same, le-other}
 
 -- Occurrences.
 

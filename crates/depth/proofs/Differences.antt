@@ -2,26 +2,18 @@
 use Prim.Native.Nat.{ℕ, suc, _+_, _-_, _<_, _≤_}
 use native.Mathlib.Omega.{arith}
 use mathlib.Core.Path.{_≡_, refl, sym, ap, _∙_}
-use mathlib.Core.Bool.{Bool, true, false}
-use lib.Dec.{leb, ltb}
+use mathlib.Core.Bool.{true, false}
+use lib.Dec.{leb}
 use lib.IntN.{ℤ, pos, negsuc, subℕ, natAbs, _+ℤ_}
 use lib.Signed.{leZ}
-use borrow.Author.Tests.{lt-ltb, le-ltb, ltb-true, ltb-false, le-leb, lt-leb, leb-true, leb-false}
-use Rattle.runs.proofs.Tests.{tests-ext, clash}
+use borrow.Author.Tests.{lt-ltb, le-ltb, le-leb, lt-leb, leb-true, leb-false}
+use Rattle.runs.proofs.Tests.{clash, either, tests-ext}
 
 pub sub-above : (a b : ℕ) → b ≤ a → subℕ a b ≡ pos (a - b)
 sub-above a b h = rw (le-ltb a b h) refl
 
 pub sub-below : (a b : ℕ) → a < b → subℕ a b ≡ negsuc (b - suc a)
 sub-below a b h = rw (lt-ltb a b h) refl
-
--- one of two numbers is below the other, or not
-pub either : {P : Type 0} (a b : ℕ) → (a < b → P) → (b ≤ a → P) → P
-either {P} a b f g = go (ltb a b) refl
-  where
-    go : (t : Bool) → ltb a b ≡ t → P
-    go true e = f (ltb-true a b e)
-    go false e = g (ltb-false a b e)
 
 -- the same difference
 pub sub-same : (a b c d : ℕ) → a + d ≡ c + b → subℕ a b ≡ subℕ c d

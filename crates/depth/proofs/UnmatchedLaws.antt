@@ -10,11 +10,12 @@ use lib.Seq.{take-length, getD-drop}
 use lib.IntN.{ℤ, pos, subℕ, natAbs, _+ℤ_}
 use lib.Signed.{leZ}
 use borrow.Author.Tests.{le-leb, lt-leb, leb-true, leb-false, eqb-true, eqb-false}
+use Rattle.runs.proofs.Tests.{either}
 use Rattle.depth.specs.declared.unmatched.Unmatched.{Unmatched}
 use Rattle.depth.specs.Depths.{occurrences, depthAfter, lower, lowestTo, lowestDepth}
 use Rattle.depth.specs.Answer.{longest, isShort, word, depthWords}
-use Rattle.depth.specs.Promises.{closingsIn, openingsIn, tooLong, unmatchedIn, Sized, matched, followed, keyUnmatched, loadedAt, wordsOf}
-use Rattle.depth.proofs.Differences.{sub-above, sub-below, sub-same, sub-add, sub-le, either, le-out, le-refl, fallen, fall-size}
+use Rattle.depth.specs.Promises.{closingsIn, openingsIn, counted, tooLong, unmatchedIn, Sized, matched, followed, keyUnmatched, loadedAt, wordsOf}
+use Rattle.depth.proofs.Differences.{sub-above, sub-below, sub-same, sub-add, sub-le, le-out, le-refl, fallen, fall-size}
 use Rattle.depth.proofs.DepthLaws.{occurs-append, occurs-most, occurs-front, depth-none, lowest-depth, lowest-splice}
 
 -- a record of three equal numbers
@@ -58,10 +59,10 @@ module _ (opening closing : ℕ) (w : List ℕ) where
   openings-short : openingsIn opening closing w ≤ length w
   openings-short = omega (arith, closings-most, occurs-most opening w)
 
-  short-sized : Sized (record { length = length w; closings = closingsIn opening closing w; openings = openingsIn opening closing w })
+  short-sized : Sized (counted opening closing w)
   short-sized = record { closed = closings-short; opened = openings-short }
 
-  pub run-short : isShort w ≡ true → unmatchedIn opening closing w ≡ record { length = length w; closings = closingsIn opening closing w; openings = openingsIn opening closing w }
+  pub run-short : isShort w ≡ true → unmatchedIn opening closing w ≡ counted opening closing w
   unfolding unmatchedIn
   run-short h = rw h refl
 
@@ -73,7 +74,7 @@ module _ (opening closing : ℕ) (w : List ℕ) where
   unfolding unmatchedIn
   run-sized = go (isShort w)
     where
-      go : (t : Bool) → Sized (cond t (record { length = length w; closings = closingsIn opening closing w; openings = openingsIn opening closing w }) tooLong)
+      go : (t : Bool) → Sized (cond t (counted opening closing w) tooLong)
       go true = short-sized
       go false = record { closed = omega arith; opened = omega arith }
 
@@ -133,16 +134,16 @@ module _ (opening closing : ℕ) (u v : List ℕ) where
           let more = leb-true (length v) (longest - length u) g in
           rw (run-short opening closing u e, run-short opening closing v f, run-short opening closing (u ++ v) (le-leb (length (u ++ v)) longest (omega (arith, length-append u v, room, more))))
           (same-unmatched (length-append u v) closings-append openings-append
-          ∙ joined-fits (record { length = length u; closings = closingsIn opening closing u; openings = openingsIn opening closing u }) (record { length = length v; closings = closingsIn opening closing v; openings = openingsIn opening closing v }) room more)
+          ∙ joined-fits (counted opening closing u) (counted opening closing v) room more)
       go true true false e f g =
           let room = leb-true (length u) longest e in
           let more = leb-false (length v) (longest - length u) g in
           rw (all-over (omega (arith, room, more)), run-short opening closing u e, run-short opening closing v f)
-          (joined-over (record { length = length u; closings = closingsIn opening closing u; openings = openingsIn opening closing u }) (record { length = length v; closings = closingsIn opening closing v; openings = openingsIn opening closing v }) room more)
+          (joined-over (counted opening closing u) (counted opening closing v) room more)
       go true false x e f g =
           let room = leb-true (length u) longest e in
           rw (all-over (omega (arith, leb-false (length v) longest f)), run-short opening closing u e, run-long opening closing v f)
-          (joined-over (record { length = length u; closings = closingsIn opening closing u; openings = openingsIn opening closing u }) tooLong room (omega arith))
+          (joined-over (counted opening closing u) tooLong room (omega arith))
       go false t x e f g =
           rw (all-over (omega (arith, leb-false (length u) longest e)), run-long opening closing u e)
           (joined-first tooLong (unmatchedIn opening closing v) (omega arith))
@@ -226,7 +227,7 @@ module _ (opening closing : ℕ) (w : List ℕ) where
   unfolding unmatchedIn depthWords
   run-words = go (isShort w)
     where
-      go : (t : Bool) → wordsOf (cond t (record { length = length w; closings = closingsIn opening closing w; openings = openingsIn opening closing w }) tooLong)
+      go : (t : Bool) → wordsOf (cond t (counted opening closing w) tooLong)
           ≡ cond t (length w ∷ word (depthAfter opening closing w) ∷ word (lowestDepth opening closing w) ∷ []) ((2 ^ 64 - 1) ∷ 0 ∷ 0 ∷ [])
       go true = ap (λ (z : ℤ). length w ∷ word z ∷ word (subℕ 0 (closingsIn opening closing w)) ∷ []) (sym (end-openings opening closing w)) ∙ ap (λ (z : ℤ). length w ∷ word (depthAfter opening closing w) ∷ word z ∷ []) (sym (lowest-closings opening closing w))
       go false = refl
@@ -241,7 +242,7 @@ module _ (opening closing : ℕ) (w : List ℕ) where
   unfolding unmatchedIn
   run-small = go (isShort w) refl
     where
-      go : (t : Bool) → isShort w ≡ t → (cond t (record { length = length w; closings = closingsIn opening closing w; openings = openingsIn opening closing w }) tooLong .closings ≤ longest) × (cond t (record { length = length w; closings = closingsIn opening closing w; openings = openingsIn opening closing w }) tooLong .openings ≤ longest)
+      go : (t : Bool) → isShort w ≡ t → (cond t (counted opening closing w) tooLong .closings ≤ longest) × (cond t (counted opening closing w) tooLong .openings ≤ longest)
       go true e = small e
       go false e = (omega arith, omega arith)
 

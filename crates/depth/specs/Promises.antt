@@ -30,9 +30,12 @@ openingsIn opening closing w = (occurrences opening w + closingsIn opening closi
 abbrev pub tooLong : Unmatched
 tooLong = record { length = 2 ^ 64 - 1; closings = 0; openings = 0 }
 
+abbrev pub counted : ℕ → ℕ → List ℕ → Unmatched
+counted opening closing w = record { length = length w; closings = closingsIn opening closing w; openings = openingsIn opening closing w }
+
 -- what is kept of a run
 unfoldable pub unmatchedIn : ℕ → ℕ → List ℕ → Unmatched
-unmatchedIn opening closing w = cond (isShort w) (record { length = length w; closings = closingsIn opening closing w; openings = openingsIn opening closing w }) tooLong
+unmatchedIn opening closing w = cond (isShort w) (counted opening closing w) tooLong
 
 -- neither number is larger than the length
 pub record Sized (u : Unmatched) : Type 0 where

@@ -12,14 +12,9 @@ use Rattle.runs.specs.Keys.{member}
 use Rattle.runs.specs.Counts.{countBelow}
 use Rattle.runs.proofs.CountLaws.{count-ext, count-le, count-more, count-none}
 use Rattle.runs.proofs.KeyLaws.{member-at, member-first, member-more, member-rest}
-use Rattle.runs.proofs.Tests.{and-parts, or-cases, or-left, or-right, torn}
+use Rattle.runs.proofs.Tests.{and-parts, by-test, or-cases, or-left, or-right, torn}
 use Rattle.reach.specs.Entries.{without, firsts}
 use Rattle.reach.specs.Promises.{extend, once}
-
--- a test passes or fails
-pub by-test : {P : Type 0} (t : Bool) → (t ≡ true → P) → (t ≡ false → P) → P
-by-test true f g = f refl
-by-test false f g = g refl
 
 -- what two lists have, one behind the other
 pub member-append : (k : ℕ) (l r : List ℕ) → member k (l ++ r) ≡ member k l || member k r

@@ -11,7 +11,7 @@ use lib.ListN.{length, getD}
 use borrow.Author.Tests.{eqb-true, eqb-false, eq-eqb}
 use Rattle.runs.specs.Keys.{member}
 use Rattle.runs.proofs.KeyLaws.{member-at, member-iff}
-use Rattle.runs.proofs.Tests.{or-cases, or-left, or-right, torn}
+use Rattle.runs.proofs.Tests.{by-test, or-cases, or-left, or-right, torn}
 use Rattle.book.specs.Format.{Macro, wellFormed}
 use Rattle.book.specs.Reach.{Reaches}
 use Rattle.book.proofs.Reach.{reach-lower}
@@ -20,7 +20,7 @@ use Rattle.reach.specs.Places.{Enters, FirstEnters}
 use Rattle.reach.proofs.Arrivals.{macroOf, arrivals, arrival-enters, enters-arrival, Ordered, ordered-parted, arrivals-ordered}
 use Rattle.reach.proofs.Entries.{arrived, entries-iff}
 use Rattle.reach.proofs.Places.{parted, reaches-enters}
-use Rattle.reach.proofs.Firsts.{by-test, firsts-front, firsts-has, firsts-once, once-places, once-length}
+use Rattle.reach.proofs.Firsts.{firsts-front, firsts-has, firsts-once, once-places, once-length}
 
 module _ (ms : List Macro) (m : ℕ) where
   -- "the named macro at the front"

@@ -13,7 +13,7 @@ use borrow.Author.Tests.{eqb-true, eqb-false}
 use Rattle.runs.specs.Keys.{member}
 use Rattle.runs.specs.Kept.{over}
 use Rattle.runs.proofs.KeptLaws.{over-length, over-behind}
-use Rattle.runs.proofs.Tests.{or-cases, or-left, or-right, torn}
+use Rattle.runs.proofs.Tests.{by-test, or-cases, or-left, or-right, torn}
 use Rattle.book.specs.declared.item.Item.{Item}
 use Rattle.book.specs.declared.item.Item.the-variants.{Key, Call}
 use Rattle.book.specs.declared.macro_items.Items.{Items}
@@ -26,7 +26,7 @@ use Rattle.book.proofs.LayoutLaws.{macros-few, well-in}
 use Rattle.book.proofs.MacroItems.{count-few, items-all, items-more, item-among}
 use Rattle.reach.specs.Entries.{entriesOf, entries, reachList}
 use Rattle.reach.specs.Promises.{MacroOf, Entering, Entered, calledBy, extend, Walk, Closed}
-use Rattle.reach.proofs.Firsts.{by-test, member-append, extend-none, extend-new, extend-append, extend-all, extend-has, extend-longer, extend-firsts, once-none, once-more, once-room}
+use Rattle.reach.proofs.Firsts.{member-append, extend-none, extend-new, extend-append, extend-all, extend-has, extend-longer, extend-firsts, once-none, once-more, once-room}
 use Rattle.reach.proofs.Entries.{entriesOf-none, entriesOf-key, entriesOf-call, entries-law, entries-iff}
 
 -- what stood under the listed numbers is no matter

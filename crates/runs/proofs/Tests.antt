@@ -1,9 +1,11 @@
 -- Laws of tests.
-use Prim.Native.Nat.{ℕ}
+use Prim.Native.Nat.{ℕ, _<_, _≤_}
 use native.Mathlib.Omega.{arith}
 use mathlib.Core.Path.{_≡_, refl, sym}
 use mathlib.Core.Logic.{_↔_, _⊎_, inl, inr, ⊎-elim}
 use mathlib.Core.Bool.{Bool, true, false, _&&_, _||_, or-true, and-eq-true-iff}
+use lib.Dec.{ltb}
+use borrow.Author.Tests.{ltb-true, ltb-false}
 
 -- two constructors that are equal prove anything
 pub clash : {A : Type 0} → _≡_ {A = ℕ} 0 1 → A
@@ -15,6 +17,15 @@ clash z = absurd (no-less z)
 -- and so does a test that passed and failed
 pub torn : {A : Type 0} (t : Bool) → t ≡ true → t ≡ false → A
 torn t p q = clash (cc)
+
+-- a test passes or fails
+pub by-test : {P : Type 0} (t : Bool) → (t ≡ true → P) → (t ≡ false → P) → P
+by-test true f g = f refl
+by-test false f g = g refl
+
+-- one of two numbers is below the other, or not
+pub either : {P : Type 0} (a b : ℕ) → (a < b → P) → (b ≤ a → P) → P
+either a b f g = by-test (ltb a b) (λ e. f (ltb-true a b e)) (λ e. g (ltb-false a b e))
 
 -- a true `||` has a true side
 pub or-cases : (a b : Bool) → (a || b) ≡ true → (a ≡ true) ⊎ (b ≡ true)

@@ -11,7 +11,7 @@ use Rattle.book.specs.Reading.{Reading, readBook}
 use Rattle.book.specs.Format.{Macro}
 use Rattle.decimals.specs.declared.number.Number.{Number}
 use Rattle.decimals.specs.Decimals.{isNumber, decimal, numberIn}
-use Rattle.decimals.proofs.NumberLaws.{number-value, number-none}
+use Rattle.decimals.proofs.NumberLaws.{number-value, number-none, number-small}
 use Rattle.command.specs.Buffers.{ReadFrom}
 use Rattle.command.specs.Input.{lastMacro}
 use Rattle.command.proofs.ReadLaws.{read-itself}
@@ -22,7 +22,7 @@ use Rattle.depth.proofs.Theorems.{depth-beyond, KnownRefusal, depth-refusals}
 use Rattle.survey.specs.declared.depths.KeyText.{KeyText}
 use Rattle.survey.specs.declared.depths.NamedDepth.{NamedDepth}
 use Rattle.survey.specs.Depths.{keyIn, DepthTold, toldOf, depthTold, depthAnswer, LastDepths, NamedDepths}
-use Rattle.survey.proofs.ReadWhole.{whole-read, number-small}
+use Rattle.survey.proofs.ReadWhole.{whole-read}
 
 -- Keys.
 module _ (w : List ℕ) where

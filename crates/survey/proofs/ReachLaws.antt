@@ -11,12 +11,12 @@ use Rattle.reach.specs.Answer.{reachedFigures}
 use Rattle.reach.proofs.AnswerLaws.{entries-alike, reached-beyond, reached-refusals}
 use Rattle.decimals.specs.declared.number.Number.{Number}
 use Rattle.decimals.specs.Decimals.{decimal, numberIn}
-use Rattle.decimals.proofs.NumberLaws.{number-value, number-none}
+use Rattle.decimals.proofs.NumberLaws.{number-value, number-none, number-small}
 use Rattle.command.specs.Buffers.{ReadFrom}
 use Rattle.command.specs.Input.{lastMacro}
 use Rattle.command.proofs.ReadLaws.{read-itself}
 use Rattle.survey.specs.declared.reached.NamedReach.{NamedReach}
-use Rattle.survey.proofs.ReadWhole.{whole-read, number-small}
+use Rattle.survey.proofs.ReadWhole.{whole-read}
 use Rattle.survey.specs.Reached.{ReachedIn, LastReached, NamedReached}
 
 module _ (book bytes : List ℕ) (n : ℕ) (long : length book ≡ 133128) (is : bytes ≡ take n book) where
