@@ -1,5 +1,6 @@
 // Writes the example books: `examples FOLDER` makes document01.mbk, the book of document 01, laptop.mbk, whose lines end with CR LF,
-// blocks.mbk, where ( and ) open and close cue blocks, and arena.mbk, a made-up show of 300 macros whose run no disk could hold. Standard library only; the same bytes each time.
+// blocks.mbk, where ( and ) open and close cue blocks, and arena.mbk, a made-up show of 300 macros whose run no disk could hold. Standard
+// library only; the same bytes each time.
 use std::{env, fs, path::Path};
 
 type Macro = Vec<u16>;
@@ -47,7 +48,7 @@ fn laptop() -> Vec<Macro> {
     vec![keys("GO\r"), keys("\n"), keys("HAZE GO\r\n"), vec![call(0), call(1), call(2), call(0)]]
 }
 
-// Macro 2 closes what it opens, macro 3 leaves a block open, and macro 4 closes one that was not opened.
+// Macro 2 closes what it opens, macro 3 leaves a block open, and macro 4 closes one that was not opened and leaves one open.
 fn blocks() -> Vec<Macro> {
     vec![keys("BLOCK(\n"), keys("END)\n"), vec![call(0), call(0), call(1), call(1)], vec![call(2), call(0)], vec![call(1), call(2), call(0)]]
 }

@@ -13,17 +13,20 @@ use lib.Signed.{leZ}
 use borrow.Author.Tests.{le-leb, lt-leb, leb-true, leb-false, lt-ltb, le-ltb, ltb-true, ltb-false, eqb-true, eq-eqb}
 use mir.Syntax.{w64}
 use mir.Val.{toZ, ofZ}
+use Rattle.runs.specs.Keys.{Bytes}
 use Rattle.runs.proofs.Tests.{clash, or-iff}
 use Rattle.refusal.specs.declared.Refusal.{Refusal}
 use Rattle.refusal.specs.Number.{number}
 use Rattle.refusal.specs.declared.Refusal.the-variants.{NoSuchMacro, InsufficientSpace, InvalidDelimiters, RunTooLong}
-use Rattle.book.specs.Format.{Macro}
+use Rattle.refusal.proofs.Number.{number-positive}
+use Rattle.book.specs.Format.{Macro, wellFormed, encode}
 use Rattle.book.specs.Expansion.{expansion}
 use Rattle.book.specs.Reach.{AlikeReached}
 use Rattle.book.specs.Reading.{Reading, got, refused, readBook}
 use Rattle.book.specs.Steps as steps
 use Rattle.book.proofs.StepLaws.{space-answer}
 use Rattle.book.proofs.LayoutLaws.{macros-few}
+use Rattle.book.proofs.Coding.{read-well, read-encode, encode-read}
 use Rattle.book.proofs.Refusals.{book-refusals}
 use Rattle.book.proofs.Reach.{expansion-alike}
 use Rattle.depth.specs.declared.unmatched.Unmatched.{Unmatched}
@@ -59,9 +62,9 @@ module _ (opening closing : ℕ) (w : List ℕ) where
   unfolding depthAfter
   depths-in u v h = le-in (occurrences opening u) (occurrences closing u) (occurrences opening v) (occurrences closing v) h
 
-  none : ℕ → occurrences opening [] + occurrences closing [] ≡ 0
+  none : occurrences opening [] + occurrences closing [] ≡ 0
   unfolding occurrences
-  none k = refl
+  none = refl
 
   -- the lowest depth is not above that behind a first part
   under-part : (u v : List ℕ) → w ≡ u ++ v → leZ (lowestDepth opening closing w) (depthAfter opening closing u) ≡ true
@@ -77,7 +80,7 @@ module _ (opening closing : ℕ) (w : List ℕ) where
       into : lowestDepth opening closing w ≡ pos 0 → (u v : List ℕ) → w ≡ u ++ v → occurrences closing u ≤ occurrences opening u
       into low u v e =
           let start : leZ (depthAfter opening closing []) (depthAfter opening closing u) ≡ true = ap (λ (z : ℤ). leZ z (depthAfter opening closing u)) (depth-none opening closing ∙ sym low) ∙ under-part u v e in
-          omega (arith, depths-out [] u start, none 0)
+          omega (arith, depths-out [] u start, none)
 
       back : ((u v : List ℕ) → w ≡ u ++ v → occurrences closing u ≤ occurrences opening u) → lowestDepth opening closing w ≡ pos 0
       back all =
@@ -86,7 +89,7 @@ module _ (opening closing : ℕ) (w : List ℕ) where
             place = 0;
             inside = omega arith;
             there = sym (depth-none opening closing);
-            under = λ i h. let part = all (take i w) (drop i w) (sym (take-append-drop i w)) in ap (λ (z : ℤ). leZ z (depthAfter opening closing (take i w))) (sym (depth-none opening closing)) ∙ depths-in [] (take i w) (omega (arith, part, none 0));
+            under = λ i h. let part = all (take i w) (drop i w) (sym (take-append-drop i w)) in ap (λ (z : ℤ). leZ z (depthAfter opening closing (take i w))) (sym (depth-none opening closing)) ∙ depths-in [] (take i w) (omega (arith, part, none));
           }))
 
   -- no block is left open exactly if the run ends at its lowest depth
@@ -167,17 +170,50 @@ bad-keys opening closing = (λ e. told .0 (refuses _ e), λ k. rw (told .1 k) re
 
 -- Two keys that can open and close blocks, a sound book, a macro of it and words enough.
 pub record Askable (opening closing : ℕ) (b : List ℕ) (m : ℕ) (work : List ℕ) (ms : List Macro) : Type 0 where
-  pub keys : delimiterStep opening closing ≡ steps.settled tt
-  pub rest : List ℕ
-  pub sound : readBook b ≡ got ms rest
+  pub keys : BadKeys opening closing → ⊥
+  pub well : wellFormed ms ≡ true
+  pub book : b ≡ encode ms
   pub inside : m < length ms
   pub room : suc m * width ≤ length work
+
+-- the same as the steps find it
+record Passed (opening closing : ℕ) (b : List ℕ) (m : ℕ) (work : List ℕ) (ms : List Macro) : Type 0 where
+  keys : delimiterStep opening closing ≡ steps.settled tt
+  rest : List ℕ
+  sound : readBook b ≡ got ms rest
+  inside : m < length ms
+  room : suc m * width ≤ length work
+
+module _ {opening closing : ℕ} {b : List ℕ} {m : ℕ} {work : List ℕ} {ms : List Macro} where
+  passed : Askable opening closing b m work ms → Passed opening closing b m work ms
+  passed x =
+      record {
+        keys = ⊎-elim (λ e. absurd (x .keys (bad-keys opening closing .0 e))) (λ e. e) (delimiters-either opening closing);
+        rest = [];
+        sound = ap readBook (x .book) ∙ encode-read ms (x .well);
+        inside = x .inside;
+        room = x .room;
+      }
+
+  askable : Bytes b → Passed opening closing b m work ms → Askable opening closing b m work ms
+  askable h x =
+      record {
+        keys = λ k. settled-no (sym (x .keys) ∙ bad-keys opening closing .1 k);
+        well = read-well b ms (x .rest) (x .sound);
+        book = read-encode b h ms (x .rest) (x .sound);
+        inside = x .inside;
+        room = x .room;
+      }
+    where
+      settled-no : _≡_ {A = steps.Settled (Unit {0})} (steps.settled tt) (steps.refused InvalidDelimiters) → ⊥
+      settled-no e = clash (cc)
 
 module _ {opening closing : ℕ} {b : List ℕ} {m : ℕ} {work : List ℕ} {ms : List Macro} (x : Askable opening closing b m work ms) where
   pub depth-asked : depthResult opening closing (readBook b) m work ≡ depthsOf opening closing (expansion ms m) (filled opening closing ms m work)
   depth-asked =
-      ap (λ (g : Reading (List Macro)). depthResult opening closing g m work) (x .sound)
-      ∙ depth-sound opening closing m work (x .keys) ms (x .rest)
+      let p = passed x in
+      ap (λ (g : Reading (List Macro)). depthResult opening closing g m work) (p .sound)
+      ∙ depth-sound opening closing m work (p .keys) ms (p .rest)
       ∙ rw (lt-ltb m (length ms) (x .inside), le-ltb (length work) (suc m * width) (x .room)) refl
 
   -- "Both figures equal those of the written-out run"; exactly 2^62 keys are allowed
@@ -268,7 +304,7 @@ depth-beyond opening closing b m n work g h = ⊎-elim (λ e. depth-no-keys open
 -- Which refusal is answered: one of the four kinds before 19, or what the run's length says.
 module _ (opening closing : ℕ) (b : List ℕ) (m : ℕ) (work : List ℕ) where
   refusal-by : (P : ℕ → Type 0) → (delimiterStep opening closing ≡ steps.refused InvalidDelimiters → P 18) → ((r : Refusal) → number r ≤ 6 → P (number r)) → P 10 → (length work < mostWords → P 11)
-      → ((ms : List Macro) → Askable opening closing b m work ms → P (depthsOf opening closing (expansion ms m) (filled opening closing ms m work) .refusal)) → P (depthResult opening closing (readBook b) m work .refusal)
+      → ((ms : List Macro) → Passed opening closing b m work ms → P (depthsOf opening closing (expansion ms m) (filled opening closing ms m work) .refusal)) → P (depthResult opening closing (readBook b) m work .refusal)
   refusal-by P keys book out short asked = ⊎-elim (λ e. rw (depth-no-keys opening closing m work (readBook b) e) (keys e)) (λ e. of e (readBook b) refl) (delimiters-either opening closing)
     where
       of : delimiterStep opening closing ≡ steps.settled tt → (g : Reading (List Macro)) → readBook b ≡ g → P (depthResult opening closing g m work .refusal)
@@ -299,9 +335,23 @@ module _ (opening closing : ℕ) (b : List ℕ) (m : ℕ) (work : List ℕ) wher
     λ k. ap (λ (o : Outcome). o .refusal) (depth-no-keys opening closing m work (readBook b) (bad-keys opening closing .1 k)),
   )
 
-  -- 19 is answered where nothing before it is refused, and (`too-long-iff`) the run is too long
-  pub too-long-asked : depthResult opening closing (readBook b) m work .refusal ≡ 19 → (ms : List Macro) × Askable opening closing b m work ms
-  too-long-asked = refusal-by (λ n. n ≡ 19 → (ms : List Macro) × Askable opening closing b m work ms) (λ e h. absurd (omega arith)) (λ r h e. absurd (omega arith)) (λ e. absurd (omega arith)) (λ h e. absurd (omega arith)) (λ ms x e. (ms, x))
+  -- depths and 19 are answered where nothing before 19 is refused, and nowhere else
+  pub answered-asked : Bytes b → (depthResult opening closing (readBook b) m work .refusal ≡ 0) ⊎ (depthResult opening closing (readBook b) m work .refusal ≡ 19) → (ms : List Macro) × Askable opening closing b m work ms
+  answered-asked h =
+      refusal-by (λ n. (n ≡ 0) ⊎ (n ≡ 19) → (ms : List Macro) × Askable opening closing b m work ms) (λ e. ⊎-elim (λ z. absurd (omega arith)) (λ z. absurd (omega arith))) small
+      (⊎-elim (λ z. absurd (omega arith)) (λ z. absurd (omega arith)))
+      (λ l. ⊎-elim (λ z. absurd (omega arith)) (λ z. absurd (omega arith)))
+      (λ ms x z. (ms, askable h x))
+    where
+      small : (r : Refusal) → number r ≤ 6 → (number r ≡ 0) ⊎ (number r ≡ 19) → (ms : List Macro) × Askable opening closing b m work ms
+      small r l = ⊎-elim (λ z. absurd (omega (arith, number-positive r))) (λ z. absurd (omega arith))
+
+  -- so an answer of 0 and 0 that is no refusal says by itself that the book is sound and the blocks of macro m's run are closed
+  pub closed-told : Bytes b → depthResult opening closing (readBook b) m work .refusal ≡ 0 → depthResult opening closing (readBook b) m work .end ≡ pos 0 → depthResult opening closing (readBook b) m work .lowest ≡ pos 0
+      → (ms : List Macro) × (wellFormed ms ≡ true) × (b ≡ encode ms) × Closed opening closing (expansion ms m)
+  closed-told h fine end low =
+      let (ms, x) = answered-asked h (inl fine) in
+      (ms, x .well, x .book, closed-answer x .0 (fine, end, low) .1)
 
 -- a refusal that an operation with words for 1,024 macros can have: 11 is none
 abbrev pub KnownRefusal : ℕ → Type 0

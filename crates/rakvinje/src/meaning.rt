@@ -2,8 +2,8 @@
 use crate::say::text;
 use refusal::Refusal;
 
-// What a sound book is refused for, with a good pattern or with two keys. The command has space for every book, joins nothing and takes
-// input of any length, so that there are no more (`last-refusals`, `named-refusals` of `command`, `survey-refusals`,
+// What is refused beside books and patterns: the macro, its count, the two keys, the run's length. The command has space for every book,
+// joins nothing and takes input of any length, so that there are no more (`last-refusals`, `named-refusals` of `command`, `survey-refusals`,
 // `reach-last-refusals`, `reach-named-refusals`, `depth-last-refusals`, `depth-named-refusals` of `survey`).
 fn explain_macro(r: Refusal) {
     match r {
