@@ -346,12 +346,12 @@ module _ (opening closing : ℕ) (b : List ℕ) (m : ℕ) (work : List ℕ) wher
       small : (r : Refusal) → number r ≤ 6 → (number r ≡ 0) ⊎ (number r ≡ 19) → (ms : List Macro) × Askable opening closing b m work ms
       small r l = ⊎-elim (λ z. absurd (omega (arith, number-positive r))) (λ z. absurd (omega arith))
 
-  -- so an answer of 0 and 0 that is no refusal says by itself that the book is sound and the blocks of macro m's run are closed
+  -- so an answer of 0 and 0 that is no refusal says by itself that this is a sound book with a macro m, and that the blocks of its run are closed
   pub closed-told : Bytes b → depthResult opening closing (readBook b) m work .refusal ≡ 0 → depthResult opening closing (readBook b) m work .end ≡ pos 0 → depthResult opening closing (readBook b) m work .lowest ≡ pos 0
-      → (ms : List Macro) × (wellFormed ms ≡ true) × (b ≡ encode ms) × Closed opening closing (expansion ms m)
+      → (ms : List Macro) × Askable opening closing b m work ms × Closed opening closing (expansion ms m)
   closed-told h fine end low =
       let (ms, x) = answered-asked h (inl fine) in
-      (ms, x .well, x .book, closed-answer x .0 (fine, end, low) .1)
+      (ms, x, closed-answer x .0 (fine, end, low) .1)
 
 -- a refusal that an operation with words for 1,024 macros can have: 11 is none
 abbrev pub KnownRefusal : ℕ → Type 0
