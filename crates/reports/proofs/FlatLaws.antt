@@ -44,12 +44,12 @@ withEnd s H n T d =
     }
 
 -- a span without a line end
-open-flat : (s : ℕ) (X : ℕ → ℕ → Bool) (d : Edges) (n : Total) → reportOf (record { span = openSpan s X d; closed = n }) ≡ withoutEnd s X d
+pub open-flat : (s : ℕ) (X : ℕ → ℕ → Bool) (d : Edges) (n : Total) → reportOf (record { span = openSpan s X d; closed = n }) ≡ withoutEnd s X d
 unfolding reportOf
 open-flat s X d n = refl
 
 -- one with a line end, and n closed lines
-ended-flat : (s : ℕ) (H T : ℕ → Bool) (d : Edges) (n : ℕ) → reportOf (record { span = endedSpan s H T d; closed = totalOf n }) ≡ withEnd s H n T d
+pub ended-flat : (s : ℕ) (H T : ℕ → Bool) (d : Edges) (n : ℕ) → reportOf (record { span = endedSpan s H T d; closed = totalOf n }) ≡ withEnd s H n T d
 unfolding reportOf
 ended-flat s H T d n = go (leb n most)
   where

@@ -5,3 +5,5 @@ pub mod ReportLaws
 pub mod FlatLaws
 pub mod WordLaws
 pub mod StoredLaws
+pub mod EffectLaws
+pub mod JoiningLaw

@@ -38,7 +38,7 @@ unfolding spanCount
 empty-count t few = rw (empty-span t few, closed-empty t) refl
 
 -- n closed lines and perhaps one more
-with-line : (x : Span) (b : Bool) (n m : ℕ) → m ≡ n + cond b 1 0 → withLine (record { span = x; closes = b }) (totalOf n) ≡ record { span = x; closed = totalOf m }
+pub with-line : (x : Span) (b : Bool) (n m : ℕ) → m ≡ n + cond b 1 0 → withLine (record { span = x; closes = b }) (totalOf n) ≡ record { span = x; closed = totalOf m }
 with-line x b n m e =
     ap (λ (c : Total). record { span = x; closed = c }) (ap (bothTotals (totalOf n)) (line-told b) ∙ total-sum n (cond b 1 0) ∙ ap totalOf (sym e))
 
@@ -112,7 +112,7 @@ edges-back : (e : Edges) → edgesIn (e .trimmed) (edgesWord e) ≡ e
 edges-back e = rw (low-bit (e .leading) (e .trailing), high-bit (e .leading) (e .trailing)) refl
 
 -- Flat and back, where there is no closed line without a line end.
-in-flat : (a : SpanCount) → (a .span .ended ≡ false → a .closed ≡ Total.Lines 0) → inReport (reportOf a) ≡ a
+pub in-flat : (a : SpanCount) → (a .span .ended ≡ false → a .closed ≡ Total.Lines 0) → inReport (reportOf a) ≡ a
 unfolding inReport reportOf
 in-flat a none = both (ended (a .span .ended) (a .closed)) (edges-back (a .span .edges)) (closed (a .span .ended) (a .closed) none)
   where

@@ -1,8 +1,8 @@
 -- Laws of the edges of runs: of the one run after the other, and the line across where a CR and an LF meet.
-use Prim.Native.Nat.{ℕ, _<_, _≤_}
+use Prim.Native.Nat.{ℕ, _^_, _<_, _≤_}
 use native.Mathlib.Omega.{arith}
 use mathlib.Core.Path.{_≡_, refl, sym, ap, _∙_}
-use mathlib.Core.Bool.{Bool, true, false, not, cond, _&&_, and-comm, and-false, or-false}
+use mathlib.Core.Bool.{Bool, true, false, not, cond, _&&_, _||_, and-comm, and-false, or-false}
 use mathlib.Core.List.{List, [], _∷_, _++_, append-nil}
 use lib.Dec.{eqb}
 use lib.ListN.{getD}
@@ -10,7 +10,7 @@ use borrow.Author.Tests.{eqb-true, eq-eqb}
 use Rattle.runs.specs.Keys.{lineEnd}
 use Rattle.runs.proofs.Tests.{tests-ext}
 use Rattle.stateset.specs.Set.{bit, word, anyBelow, common}
-use Rattle.stateset.proofs.Sets.{bit-word, bit-one, bit-zero, word-ext, word-none}
+use Rattle.stateset.proofs.Sets.{bit-word, bit-one, bit-zero, word-ext, word-lt, word-none}
 use Rattle.stateset.proofs.Some.{any-ext, any-at, any-none}
 use Rattle.pattern.specs.Form.{atomCount}
 use Rattle.pattern.specs.Meaning.{Query}
@@ -21,10 +21,11 @@ use Rattle.lines.specs.Parts.{beginsWithEnd, firstPart, laterParts, lastPart}
 use Rattle.lines.specs.Lines.{carriageReturn, isOpen, trimmed, endsInReturn}
 use Rattle.lines.proofs.Trims.{trim-none, trim-append, trim-kept, trim-return, ends-none, ends-more, ends-append, ends-join}
 use Rattle.lines.proofs.PartLaws.{later-none, later-into, later-kept, later-open, last-open, last-closed, key-part, first-begins, first-open, begins-none, begins-end, begins-more, begins-append}
+use Rattle.spans.specs.declared.span.Span.{Span}
 use Rattle.spans.specs.declared.span.Edges.{Edges}
 use Rattle.spans.specs.Spans.{rowsOf, trimsWith, edges, spanWith, span}
 use Rattle.spans.specs.Joining.{noEdges, isEmpty, leadsInto, trimsJoined, joinedEdges, returnEdges, keyEdges, movedEdges, endEdges}
-use Rattle.spans.proofs.RowLaws.{row-of}
+use Rattle.spans.proofs.RowLaws.{row-of, common-told}
 
 -- the rows of a run without a line end: where it leads from each state
 abbrev pub runRows : Query → List ℕ → List ℕ
@@ -78,7 +79,7 @@ module _ (t : Query) (few : atomCount (t .tree) ≤ 29) where
   IsSet x X = (r : ℕ) → r < states t → bit x r ≡ X r
 
   pub common-is : (x y : ℕ) (X Y : ℕ → Bool) → IsSet x X → IsSet y Y → common (states t) x y ≡ anyBelow (states t) (λ r. X r && Y r)
-  common-is x y X Y e f = any-ext (states t) (λ r. bit x r && bit y r) (λ r. X r && Y r) (λ r l. rw (e r l, f r l) refl)
+  common-is x y X Y e f = common-told (states t) x X e y Y f
 
   pub row-bit : (u : List ℕ) (q : ℕ) → q < states t → IsSet (getD (runRows t u) q 0) (leads t q u)
   row-bit u q h r l = rw (row-of (states t) (λ q p. leads t q u p) q h (omega arith)) (bit-word (states t) (λ p. leads t q u p) r l)
@@ -229,3 +230,49 @@ module _ (t : Query) where
   pub edges-end : endEdges ≡ edges t (lineEnd ∷ [])
   unfolding edges
   edges-end = rw (ends-more [] lineEnd, begins-end) (edges-same (word-none (states t)) refl refl)
+
+-- The words that tell the edges of a run.
+module _ (t : Query) (w : List ℕ) where
+  pub edges-begin : edges t w .leading ≡ beginsWithEnd w
+  unfolding edges
+  edges-begin = refl
+
+  pub edges-finish : edges t w .trailing ≡ endsInReturn w
+  unfolding edges
+  edges-finish = refl
+
+  -- the first has states of the pattern alone
+  pub edges-below : edges t w .trimmed < 2 ^ states t
+  unfolding edges
+  edges-below = word-lt (states t) (λ q. endsInReturn w && trimsWith t w (laterParts w) q)
+
+  -- and none without a final CR
+  pub edges-plain : endsInReturn w ≡ false → edges t w .trimmed ≡ 0
+  unfolding edges
+  edges-plain e = rw e (sym (word-none (states t)))
+
+-- Spans without edges, of any words, are joined to one without.
+module _ (s : ℕ) (a b : Span) where
+  -- no states lead into none
+  leads-nowhere : (x : Bool) (q : ℕ) → leadsInto s 0 x a q ≡ false
+  leads-nowhere false q = common-none s (getD (a .rows) q 0)
+  leads-nowhere true q = rw (common-none s (a .tail)) (and-false (eqb 0 q))
+
+  trims-nowhere : (x : Bool) → a .edges .trimmed ≡ 0 → b .edges .trimmed ≡ 0 → (q : ℕ) → trimsJoined s x a b q ≡ false
+  trims-nowhere true e f q = ap (λ (y : ℕ). bit y q) f ∙ bit-zero q
+  trims-nowhere false e f q =
+      ap (λ (y : ℕ). leadsInto s y (a .ended) a q || (isEmpty s b && bit (a .edges .trimmed) q)) f
+      ∙ ap (λ (y : ℕ). leadsInto s 0 (a .ended) a q || (isEmpty s b && bit y q)) e
+      ∙ rw (leads-nowhere (a .ended) q, bit-zero q) (and-false (isEmpty s b))
+
+  pub join-plain : a .edges ≡ noEdges → b .edges ≡ noEdges → joinedEdges s a b ≡ noEdges
+  unfolding joinedEdges
+  join-plain e f =
+      edges-same
+      (word-ext s (trimsJoined s (b .ended) a b) (λ q. false) (λ q h. trims-nowhere (b .ended) (ap (λ (d : Edges). d .trimmed) e) (ap (λ (d : Edges). d .trimmed) f) q)
+      ∙ sym (word-none s))
+      (neither-side (a .edges .leading) (isEmpty s a) (b .edges .leading) (ap (λ (d : Edges). d .leading) e) (ap (λ (d : Edges). d .leading) f))
+      (neither-side (b .edges .trailing) (isEmpty s b) (a .edges .trailing) (ap (λ (d : Edges). d .trailing) f) (ap (λ (d : Edges). d .trailing) e))
+    where
+      neither-side : (x y z : Bool) → x ≡ false → z ≡ false → (x || (y && z)) ≡ false
+      neither-side x y z g h = rw (g, h) (and-false y)

@@ -8,8 +8,6 @@ use lib.ListN.{getD}
 use Rattle.runs.specs.Keys.{isRun}
 use Rattle.runs.proofs.KeyLaws.{line-append}
 use Rattle.stateset.specs.Set.{bit, word, anyBelow, common}
-use Rattle.stateset.proofs.Sets.{bit-word}
-use Rattle.stateset.proofs.Some.{any-ext}
 use Rattle.pattern.specs.Form.{atomCount}
 use Rattle.pattern.specs.Meaning.{Query, matches}
 use Rattle.pattern.specs.Moves.{states, leads, acceptedFrom}
@@ -19,27 +17,16 @@ use Rattle.lines.specs.Parts.{beginsWithEnd, firstPart, laterParts, lastPart}
 use Rattle.lines.specs.Lines.{trimmed, endsInReturn, closedMatches}
 use Rattle.lines.proofs.Trims.{trim-line}
 use Rattle.lines.proofs.PartLaws.{countBefore, countOne, lineAcross, ends-last, first-into, later-into, first-kept, later-kept, lastThen, last-open, before-open, last-closed, before-closed, first-line, later-lines, last-line}
-use Rattle.spans.specs.declared.span.Span.{Span}
-use Rattle.spans.specs.declared.span.JoinedSpan.{JoinedSpan}
 use Rattle.spans.specs.Spans.{edges, spanWith, span, closedWith, closedLines, closesWith, closesBetween}
 use Rattle.spans.specs.Joining.{onward, headsAcross, joinedEdges, joinedSpans}
-use Rattle.spans.proofs.RowLaws.{states-all, row-of, rows-same}
+use Rattle.spans.proofs.RowLaws.{states-all, rows-same, onward-told}
 use Rattle.spans.proofs.EdgeLaws.{runRows, headsOf, common-start, IsSet, row-bit, kept, line-across, trimmed-is, join-edges}
-use Rattle.spans.proofs.SpanLaws.{ends-same, open-same}
-
--- a span, and whether a line is closed
-abbrev pub spanAnd : Bool → Span → JoinedSpan
-spanAnd b x = record { span = x; closes = b }
-
-both-same : {b c : Bool} {x y : Span} → b ≡ c → x ≡ y → spanAnd b x ≡ spanAnd c y
-both-same e f = rw (e, f) refl
+use Rattle.spans.proofs.SpanLaws.{spanAnd, both-same, ends-same, open-same}
 
 module _ (t : Query) (few : atomCount (t .tree) ≤ 29) where
   -- what the rows of a run lead to
   onward-is : (x : ℕ) (X : ℕ → Bool) → IsSet t few x X → (v : List ℕ) (p : ℕ) → p < states t → onward (states t) x (runRows t v) p ≡ anyBelow (states t) (λ r. X r && leads t r v p)
-  onward-is x X e v p h =
-      any-ext (states t) (λ r. bit x r && bit (getD (runRows t v) r 0) p) (λ r. X r && leads t r v p)
-      (λ r l. rw (e r l, row-of (states t) (λ q p. leads t q v p) r l (omega arith), bit-word (states t) (λ p. leads t r v p) p h) refl)
+  onward-is x X e v p h = onward-told (states t) x X e (λ q p. leads t q v p) p (omega arith) h
 
   -- no line end in either
   rows-join : (u v : List ℕ) (q p : ℕ) → q < states t → p < states t → onward (states t) (getD (runRows t u) q 0) (runRows t v) p ≡ leads t q (u ++ v) p

@@ -31,10 +31,10 @@ use Rattle.spans.specs.declared.span.Edges.{Edges}
 use Rattle.spans.specs.Spans.{edges, spanWith, span, closedWith, closedLines, closesWith, closesBetween}
 use Rattle.spans.specs.Joining.{stateCount, joinedEdges, headsAcross, endEdges, endSpan, joinedWith, joinedSpans, keyed, movedWith, withEdges, movedSpan, extendedSpan}
 use Rattle.spans.proofs.RowLaws.{states-all, row-of, rows-same}
-use Rattle.spans.proofs.SpanLaws.{span-size, ends-same, open-same}
+use Rattle.spans.proofs.SpanLaws.{span-size, spanAnd, ends-same, open-same}
 use Rattle.spans.proofs.Made.{ofEnds}
 use Rattle.spans.proofs.EdgeLaws.{runRows, headsOf, edges-end, moved-edges}
-use Rattle.spans.proofs.JoinLaw.{spanAnd, join-spans, closed-append}
+use Rattle.spans.proofs.JoinLaw.{join-spans, closed-append}
 
 -- Words of a run.
 module _ (t : Query) (few : atomCount (t .tree) ≤ 29) (q : ℕ) (inside : q < states t) where

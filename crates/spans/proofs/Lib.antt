@@ -8,3 +8,4 @@ pub mod JoinLaw
 pub mod KeyLaw
 pub mod EndLaws
 pub mod PairLaws
+pub mod PlainLaws

@@ -8,18 +8,20 @@ use mathlib.Core.List.{List}
 use lib.Dec.{ltb, eqb}
 use lib.Pow.{pow-lt}
 use lib.ListN.{length, getD, set, replicate, List·getD-eq-default}
+use lib.Seq.{ext-getD}
 use lib.Bits.{bitOr}
 use mir.Val.{Fits}
 use mir.Syntax.{w64}
 use borrow.Author.Tests.{ltb-true, ltb-false, lt-ltb, le-ltb}
 use Rattle.runs.specs.Counts.{countBelow, sumBelow}
 use Rattle.runs.proofs.CountLaws.{count-le, sum-more, sum-none}
+use Rattle.runs.proofs.Tests.{either}
 use Rattle.stateset.specs.Set.{bit, word, anyBelow, imageOf, common}
-use Rattle.stateset.proofs.Sets.{bit-zero, bit-word, word-ext, word-high, word-one}
+use Rattle.stateset.proofs.Sets.{bit-zero, bit-word, word-ext, word-high, word-one, word-unique}
 use Rattle.stateset.proofs.Some.{any-ext, any-widen}
 use Rattle.stateset.proofs.Images.{bit-image}
 use Rattle.stateset.proofs.Counts.{count-word}
-use Rattle.stateset.proofs.Tabled.{tabled-at, tabled-same}
+use Rattle.stateset.proofs.Tabled.{tabled-length, tabled-at, tabled-same}
 use Rattle.stateset.proofs.Gathering.{begun, begun-none, begun-more, gathered-none, gathered-more}
 use Rattle.spans.specs.Spans.{rowsOf}
 use Rattle.spans.specs.Joining.{stateCount, onward}
@@ -49,6 +51,25 @@ states-all s h = go (ltb s 32) refl
 pub row-of : (s : ℕ) (X : ℕ → ℕ → Bool) (q : ℕ) → q < s → s ≤ 32 → getD (rowsOf s X) q 0 ≡ word s (X q)
 row-of s X q h l = tabled-at (λ q. cond (ltb q s) (word s (X q)) 0) 32 q (omega arith) ∙ rw (lt-ltb q s h) refl
 
+-- there are 32 rows, and those from s on are empty
+pub rows-long : (s : ℕ) (X : ℕ → ℕ → Bool) → length (rowsOf s X) ≡ 32
+rows-long s X = tabled-length (λ q. cond (ltb q s) (word s (X q)) 0) 32 0
+
+pub row-above : (s : ℕ) (X : ℕ → ℕ → Bool) (q : ℕ) → s ≤ q → getD (rowsOf s X) q 0 ≡ 0
+row-above s X q h =
+    either q 32
+    (λ l. tabled-at (λ q. cond (ltb q s) (word s (X q)) 0) 32 q l ∙ rw (le-ltb q s h) refl)
+    (λ g. List·getD-eq-default (rowsOf s X) 0 (rw (rows-long s X) g))
+
+-- 32 rows of states below s, with none from s on, are told by their states
+pub rows-told : (s : ℕ) (rows : List ℕ) → s ≤ 32 → length rows ≡ 32 → ((q : ℕ) → q < s → getD rows q 0 < 2 ^ s) → ((q : ℕ) → s ≤ q → q < 32 → getD rows q 0 ≡ 0) → rows ≡ rowsOf s (λ q. bit (getD rows q 0))
+rows-told s rows few long below above =
+    ext-getD 0 rows (rowsOf s (λ q. bit (getD rows q 0))) (long ∙ sym (rows-long s (λ q. bit (getD rows q 0))))
+    (λ q l.
+    either q s
+    (λ h. word-unique s (getD rows q 0) (bit (getD rows q 0)) (below q h) (λ p k. refl) ∙ sym (row-of s (λ q. bit (getD rows q 0)) q h few))
+    (λ g. above q g (rw long at l) ∙ sym (row-above s (λ q. bit (getD rows q 0)) q g)))
+
 -- rows with the same states are the same
 pub rows-same : (s : ℕ) (X Y : ℕ → ℕ → Bool) → ((q p : ℕ) → q < s → p < s → X q p ≡ Y q p) → rowsOf s X ≡ rowsOf s Y
 rows-same s X Y e = tabled-same (λ q. cond (ltb q s) (word s (X q)) 0) (λ q. cond (ltb q s) (word s (Y q)) 0) 32 0 (λ q g h. go q (ltb q s) refl)
@@ -56,6 +77,16 @@ rows-same s X Y e = tabled-same (λ q. cond (ltb q s) (word s (X q)) 0) (λ q. c
     go : (q : ℕ) (b : Bool) → ltb q s ≡ b → cond b (word s (X q)) 0 ≡ cond b (word s (Y q)) 0
     go q true i = word-ext s (X q) (Y q) (λ p l. e q p (ltb-true q s i) l)
     go q false i = refl
+
+-- Words and rows by the sets that they hold, below s: whether two meet, and what rows lead to.
+module _ (s x : ℕ) (X : ℕ → Bool) (e : (r : ℕ) → r < s → bit x r ≡ X r) where
+  pub common-told : (y : ℕ) (Y : ℕ → Bool) → ((r : ℕ) → r < s → bit y r ≡ Y r) → common s x y ≡ anyBelow s (λ r. X r && Y r)
+  common-told y Y f = any-ext s (λ r. bit x r && bit y r) (λ r. X r && Y r) (λ r l. rw (e r l, f r l) refl)
+
+  pub onward-told : (Y : ℕ → ℕ → Bool) (p : ℕ) → s ≤ 32 → p < s → onward s x (rowsOf s Y) p ≡ anyBelow s (λ r. X r && Y r p)
+  onward-told Y p few h =
+      any-ext s (λ r. bit x r && bit (getD (rowsOf s Y) r 0) p) (λ r. X r && Y r p)
+      (λ r l. rw (e r l, row-of s Y r l few, bit-word s (Y r) p h) refl)
 
 -- Rows, one after the other: the first q of s are made.
 pub record Building (s : ℕ) (X : ℕ → ℕ → Bool) (rows : List ℕ) (q : ℕ) : Type 0 where

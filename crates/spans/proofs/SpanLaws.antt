@@ -6,13 +6,11 @@ use mathlib.Core.Bool.{Bool, true, false, cond}
 use mathlib.Core.List.{List, [], _∷_, _++_}
 use lib.Dec.{ltb, eqb}
 use lib.ListN.{length, getD, take, replicate}
-use borrow.Author.Tests.{le-ltb}
 use Rattle.runs.specs.Keys.{lineEnd}
 use Rattle.runs.proofs.KeptLaws.{zeros-at}
 use Rattle.runs.proofs.Tests.{torn}
 use Rattle.stateset.specs.Set.{word}
 use Rattle.stateset.proofs.Sets.{word-ext}
-use Rattle.stateset.proofs.Tabled.{tabled-length, tabled-at}
 use Rattle.pattern.specs.Meaning.{Query}
 use Rattle.pattern.specs.Form.{atomCount}
 use Rattle.pattern.specs.Moves.{states, leads}
@@ -22,9 +20,10 @@ use Rattle.lines.specs.Parts.{laterParts}
 use Rattle.lines.proofs.PartLaws.{later-none}
 use Rattle.spans.specs.declared.span.Span.{Span}
 use Rattle.spans.specs.declared.span.Edges.{Edges}
+use Rattle.spans.specs.declared.span.JoinedSpan.{JoinedSpan}
 use Rattle.spans.specs.Spans.{rowsOf, noRows, endedSpan, spanWith, span, closedWith, closedLines}
 use Rattle.spans.specs.Joining.{stateCount, emptySpan, joinedWith, joinedSpans, keyed, movedWith, movedSpan, endSpan, extendedSpan}
-use Rattle.spans.proofs.RowLaws.{states-all, states-few, rows-same}
+use Rattle.spans.proofs.RowLaws.{states-all, states-few, rows-long, row-above, rows-same}
 use Rattle.spans.proofs.EdgeLaws.{edges-none}
 
 -- the span of a run has the pattern's states
@@ -35,6 +34,13 @@ span-size t w = go (laterParts w)
     go : (ls : List (List ℕ)) → spanWith t w ls .s ≡ states t
     go [] = refl
     go (l ∷ ls) = refl
+
+-- a span, and whether a line is closed
+abbrev pub spanAnd : Bool → Span → JoinedSpan
+spanAnd b x = record { span = x; closes = b }
+
+pub both-same : {b c : Bool} {x y : Span} → b ≡ c → x ≡ y → spanAnd b x ≡ spanAnd c y
+both-same e f = rw (e, f) refl
 
 -- a span with the same fields is the same
 pub ends-same : (s : ℕ) (H I T U : ℕ → Bool) {d e : Edges} → ((q : ℕ) → q < s → H q ≡ I q) → ((p : ℕ) → p < s → T p ≡ U p) → d ≡ e → endedSpan s H T d ≡ endedSpan s I U e
@@ -76,14 +82,11 @@ padded-list (x ∷ l) (suc s) h e =
     rw same (ap (λ (k : List ℕ). x ∷ k) (padded-list l s (omega arith) (λ i g k. e (suc i) (omega arith) (omega arith))))
 
 -- rows of s states end in zeros
-rows-long : (s : ℕ) (X : ℕ → ℕ → Bool) → length (rowsOf s X) ≡ 32
-rows-long s X = tabled-length (λ q. cond (ltb q s) (word s (X q)) 0) 32 0
-
 rows-padded : (s : ℕ) (X : ℕ → ℕ → Bool) → s ≤ 32 → take s (rowsOf s X) ++ replicate (32 - s) 0 ≡ rowsOf s X
 rows-padded s X h =
     rw (rows-long s X) at
     (padded-list (rowsOf s X) s (rw (rows-long s X) h)
-    (λ i g k. tabled-at (λ q. cond (ltb q s) (word s (X q)) 0) 32 i (rw (rows-long s X) at k) ∙ rw (le-ltb i s g) refl))
+    (λ i g k. row-above s X i g))
 
 zeros-padded : (s : ℕ) → s ≤ 32 → take s noRows ++ replicate (32 - s) 0 ≡ noRows
 zeros-padded s h = padded-list noRows s h (λ i g k. zeros-at 32 i)
