@@ -68,7 +68,7 @@ well-items : (ms : List Macro) → wellFormed ms ≡ true → (i : ℕ) → soun
 well-items ms h i = rw zero-add at (sound-items ms 0 (well-macros ms h) i)
 
 -- and each of its macros has an item
-well-nonempty : (ms : List Macro) → wellFormed ms ≡ true → (i : ℕ) → i < length ms → 1 ≤ length (getD ms i [])
+pub well-nonempty : (ms : List Macro) → wellFormed ms ≡ true → (i : ℕ) → i < length ms → 1 ≤ length (getD ms i [])
 well-nonempty ms h = sound-nonempty ms 0 (well-macros ms h)
 
 pub well-short : (ms : List Macro) → wellFormed ms ≡ true → (i : ℕ) → length (getD ms i []) ≤ 64

@@ -1,5 +1,5 @@
--- Laws of the book's definitions. Other crates cite LayoutLaws, StepLaws, MacroItems, Requiring, Expansion, Reach, Coding,
--- Sizes, Prefix and Refusals.
+-- Laws of the book's definitions. Other crates cite LayoutLaws, StepLaws, MacroItems, Requiring, Expansion, WellFormed, Reach,
+-- Coding, Sizes, Prefix and Refusals.
 pub mod Readings
 pub mod Items
 pub mod Walks
@@ -13,6 +13,7 @@ pub mod Bodies
 pub mod MacroItems
 pub mod Requiring
 pub mod Expansion
+pub mod WellFormed
 pub mod Reach
 pub mod Sizes
 pub mod Prefix

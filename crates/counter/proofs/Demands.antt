@@ -8,7 +8,7 @@ use mathlib.Core.Logic.{_↔_}
 use mathlib.Core.Bool.{Bool, true, false, cond}
 use mathlib.Core.List.{List, []}
 use lib.Dec.{leb, ltb}
-use lib.ListN.{length, getD, take}
+use lib.ListN.{length, getD, take, drop}
 use borrow.Author.Tests.{leb-true, leb-false, lt-ltb, le-ltb}
 use Rattle.refusal.specs.declared.Refusal.the-variants.{NoSuchMacro, InsufficientSpace, CountOverflow}
 use Rattle.book.specs.Format.{Macro, wellFormed, encode}
@@ -27,14 +27,16 @@ use Rattle.spans.specs.Pairs.{pairs}
 use Rattle.reports.specs.declared.total.Total.{Total}
 use Rattle.reports.specs.Totals.{most, totalOf}
 use Rattle.reports.proofs.TotalLaws.{few-lines, many-lines}
-use Rattle.counter.specs.Counting.{itemSteps, stepsWithin, steps, itemsTo, Outcome, matchingLines, finished, stopped, finishedBy, filled, needed, mostWords, countOf, countResult, bookResult}
+use Rattle.counter.specs.Counting.{itemSteps, stepsWithin, steps, itemsTo, Outcome, matchingLines, finished, stopped, finishedBy, filled, reportSize, needed, mostWords, countOf, countResult, bookResult}
 use Rattle.runs.proofs.CountLaws.{sum-le, sum-scale}
 use Rattle.pattern.specs.Form.{Pattern}
 use Rattle.book.proofs.LayoutLaws.{macros-few}
 use Rattle.spans.proofs.PairLaws.{pairs-square}
 use Rattle.pattern.proofs.Readings.{accepted-few}
 use Rattle.counter.proofs.FrontLaws.{count-refused-book, count-refused-pattern, count-accepted}
-use Rattle.reports.specs.Words.{behindRows}
+use Rattle.reports.specs.Reports.{report}
+use Rattle.reports.specs.Words.{behindRows, loadedAt}
+use Rattle.counter.proofs.FillLaws.{reports-at}
 
 -- a sound book, an accepted pattern, a macro of the book, and work space enough
 pub record Countable (c : Case) (b p work : List ℕ) (ms : List Macro) (t : Pattern) (m : ℕ) : Type 0 where
@@ -65,20 +67,35 @@ module _ {c : Case} {b p work : List ℕ} {ms : List Macro} {t : Pattern} {m : �
       go true e h = absurd (omega (arith, h, ap (λ (o : Outcome). o .refusal) (count-equals (leb-true (matchingLines (query c t) ms m) most e))))
       go false e h = leb-false (matchingLines (query c t) ms m) most e
 
+  -- "After it these first words hold the reports of macros 0 to m", also where 12 is answered
+  pub reports-left : (i : ℕ) → i ≤ m → loadedAt (bookResult c b p m work .work) (i * reportSize (query c t)) (states (query c t)) ≡ report (query c t) (expansion ms i)
+  reports-left i h =
+      reports-at (query c t) (accepted-few p t (a .pattern)) ms (suc m) i (omega arith) (bookResult c b p m work .work) (drop (needed (query c t) m) work)
+      (ap (λ (o : Outcome). o .work) answer ∙ words (totalOf (matchingLines (query c t) ms m)))
+    where
+      words : (z : Total) → finishedBy z (steps (query c t) ms m) (filled (query c t) ms m work) .work ≡ filled (query c t) ms m work
+      words (Total.Lines n) = refl
+      words Total.TooMany = refl
+
 -- "give the same count .. or are both refused", and for the same reason
 abbrev pub SameCount : Outcome → Outcome → Type 0
 SameCount x y = (x .refusal ≡ y .refusal) × (x .lines ≡ y .lines)
+
+-- Macros with one run, in whatever books, give the same count under the same pattern, each with such work space, or are both refused.
+module _ {case : Case} {b c p work space : List ℕ} {ms ns : List Macro} {t : Pattern} {m n : ℕ} (x : Countable case b p work ms t m) (y : Countable case c p space ns t n) where
+  pub same-counts : expansion ms m ≡ expansion ns n → SameCount (bookResult case b p m work) (bookResult case c p n space)
+  same-counts e = rw (answer x, answer y, e) (go (totalOf (matchingLines (query case t) ns n)) (steps (query case t) ms m) (steps (query case t) ns n) (filled (query case t) ms m work) (filled (query case t) ns n space))
+    where
+      go : (z : Total) (k j : ℕ) (v w : List ℕ) → SameCount (finishedBy z k v) (finishedBy z j w)
+      go (Total.Lines n) k j v w = (refl, refl)
+      go Total.TooMany k j v w = (refl, refl)
 
 -- Document 02, S-1: "both are asked with the same choice".
 -- "Two sound books alike in every macro that the one named reaches, whatever their other macros hold, give the same count for it
 -- under the same pattern, each with such work space, or are both refused."
 module _ {case : Case} {b c p work space : List ℕ} {ms ns : List Macro} {t : Pattern} {m : ℕ} (x : Countable case b p work ms t m) (y : Countable case c p space ns t m) (alike : AlikeReached ms ns m) where
   pub alike-counts : SameCount (bookResult case b p m work) (bookResult case c p m space)
-  alike-counts = rw (answer x, answer y, expansion-alike ms ns m alike) (go (totalOf (matchingLines (query case t) ns m)) (steps (query case t) ms m) (steps (query case t) ns m) (filled (query case t) ms m work) (filled (query case t) ns m space))
-    where
-      go : (z : Total) (k j : ℕ) (v w : List ℕ) → SameCount (finishedBy z k v) (finishedBy z j w)
-      go (Total.Lines n) k j v w = (refl, refl)
-      go Total.TooMany k j v w = (refl, refl)
+  alike-counts = same-counts x y (expansion-alike ms ns m alike)
 
 -- Runs that differ only in the case of letters have as many lines that match where case is ignored, in whatever books they stand.
 pub letters-count : (t : Pattern) (ms ns : List Macro) (m n : ℕ) → SameLetters (expansion ms m) (expansion ns n) → matchingLines (query Case.Ignored t) ms m ≡ matchingLines (query Case.Ignored t) ns n

@@ -1,0 +1,2 @@
+-- The regrouping of a book.
+pub mod Regrouping
