@@ -258,17 +258,21 @@ module _ {opening closing : ℕ} {b : List ℕ} {m : ℕ} {work : List ℕ} {ms 
 abbrev pub SameDepths : Outcome → Outcome → Type 0
 SameDepths x y = (x .refusal ≡ y .refusal) × (x .end ≡ y .end) × (x .lowest ≡ y .lowest)
 
--- two sound books "alike in every macro that the one named reaches" have the same figures
-pub depth-alike : {opening closing : ℕ} {b c : List ℕ} {m : ℕ} {work space : List ℕ} {ms ns : List Macro} → Askable opening closing b m work ms → Askable opening closing c m space ns
-    → AlikeReached ms ns m → SameDepths (depthResult opening closing (readBook b) m work) (depthResult opening closing (readBook c) m space)
+-- macros with one run, in whatever books, have the same figures
+pub same-depths : {opening closing : ℕ} {b c : List ℕ} {m n : ℕ} {work space : List ℕ} {ms ns : List Macro} → Askable opening closing b m work ms → Askable opening closing c n space ns
+    → expansion ms m ≡ expansion ns n → SameDepths (depthResult opening closing (readBook b) m work) (depthResult opening closing (readBook c) n space)
 unfolding depthsOf
-depth-alike {opening} {closing} {b} {c} {m} {work} {space} {ms} {ns} x y alike =
-    rw (depth-asked x, depth-asked y, expansion-alike ms ns m alike) (go (isShort (expansion ns m)))
+same-depths {opening} {closing} {b} {c} {m} {n} {work} {space} {ms} {ns} x y e = rw (depth-asked x, depth-asked y, e) (go (isShort (expansion ns n)))
   where
-    go : (t : Bool) → SameDepths (cond t (finished (depthAfter opening closing (expansion ns m)) (lowestDepth opening closing (expansion ns m)) (filled opening closing ms m work)) (stopped RunTooLong (filled opening closing ms m work)))
-        (cond t (finished (depthAfter opening closing (expansion ns m)) (lowestDepth opening closing (expansion ns m)) (filled opening closing ns m space)) (stopped RunTooLong (filled opening closing ns m space)))
+    go : (t : Bool) → SameDepths (cond t (finished (depthAfter opening closing (expansion ns n)) (lowestDepth opening closing (expansion ns n)) (filled opening closing ms m work)) (stopped RunTooLong (filled opening closing ms m work)))
+        (cond t (finished (depthAfter opening closing (expansion ns n)) (lowestDepth opening closing (expansion ns n)) (filled opening closing ns n space)) (stopped RunTooLong (filled opening closing ns n space)))
     go true = (refl, refl, refl)
     go false = (refl, refl, refl)
+
+-- so have two sound books "alike in every macro that the one named reaches"
+pub depth-alike : {opening closing : ℕ} {b c : List ℕ} {m : ℕ} {work space : List ℕ} {ms ns : List Macro} → Askable opening closing b m work ms → Askable opening closing c m space ns
+    → AlikeReached ms ns m → SameDepths (depthResult opening closing (readBook b) m work) (depthResult opening closing (readBook c) m space)
+depth-alike {m = m} {ms = ms} {ns = ns} x y alike = same-depths x y (expansion-alike ms ns m alike)
 
 -- What a refusal leaves: zeros, and the words as they were but for 19.
 module _ (opening closing m : ℕ) (work : List ℕ) where

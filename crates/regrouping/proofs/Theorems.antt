@@ -23,6 +23,9 @@ use Rattle.reports.specs.Reports.{report}
 use Rattle.reports.specs.Words.{loadedAt}
 use Rattle.counter.specs.Counting.{reportSize, bookResult}
 use Rattle.counter.proofs.Demands.{Countable, SameCount, same-counts, reports-left}
+use Rattle.book.specs.Reading.{readBook}
+use Rattle.depth.specs.Answer.{depthResult}
+use Rattle.depth.proofs.Theorems.{Askable, SameDepths, same-depths}
 use Rattle.regrouping.specs.Regrouping.{raised, raisedItems, Regrouped}
 use Rattle.regrouping.proofs.Raising.{raised-low, raised-high, raised-length, raised-sound, expand-raised}
 
@@ -192,3 +195,8 @@ module _ {ms ns : List Macro} {m j : ℕ} {xs ys zs : List Item} (r : Regrouped 
   -- and of every other
   pub regrouped-counts : {i : ℕ} → Countable c b p work ms t i → Countable c d p space ns t (raised j i) → SameCount (bookResult c b p i work) (bookResult c d p (raised j i) space)
   regrouped-counts {i} x y = same-counts x y (sym (regrouped-runs r (x .well) (y .well) i (x .inside)))
+
+-- and the depths of blocks (document 02, S-6), asked rightly
+pub regrouped-depths : {ms ns : List Macro} {m j : ℕ} {xs ys zs : List Item} → Regrouped ms ns m j xs ys zs → {opening closing : ℕ} {b d work space : List ℕ}
+    → Askable opening closing b m work ms → Askable opening closing d (suc m) space ns → SameDepths (depthResult opening closing (readBook b) m work) (depthResult opening closing (readBook d) (suc m) space)
+regrouped-depths r x y = same-depths x y (sym (regrouped-run r (x .well) (y .well)))
