@@ -7,3 +7,4 @@ pub mod WordLaws
 pub mod StoredLaws
 pub mod EffectLaws
 pub mod JoiningLaw
+pub mod Examples

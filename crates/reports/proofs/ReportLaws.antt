@@ -3,7 +3,7 @@ use Prim.Native.Nat.{ℕ, _+_, _/_, _%_, _≤_}
 use native.Mathlib.Omega.{arith}
 use mathlib.Core.Path.{_≡_, refl, sym, ap, _∙_}
 use mathlib.Core.Bool.{Bool, true, false, not, cond}
-use mathlib.Core.List.{List, [], _∷_, _++_, append-nil}
+use mathlib.Core.List.{List, [], _∷_, _++_}
 use lib.Dec.{eqb}
 use Rattle.runs.specs.Keys.{isKey, isRun}
 use Rattle.pattern.specs.Meaning.{Query}
@@ -150,10 +150,3 @@ module _ (t : Query) (few : atomCount (t .tree) ≤ 29) where
   pub join-reports : (u v : List ℕ) → isRun u ≡ true → isRun v ≡ true → joinedReports (report t u) (report t v) ≡ report t (u ++ v)
   unfolding joinedReports report
   join-reports u v g h = rw (in-report t u, in-report t v, join-counts t few u v g h) refl
-
-  -- the report of the empty run changes nothing
-  pub join-empty-left : (v : List ℕ) → isRun v ≡ true → joinedReports (report t []) (report t v) ≡ report t v
-  join-empty-left v h = join-reports [] v refl h
-
-  pub join-empty-right : (u : List ℕ) → isRun u ≡ true → joinedReports (report t u) (report t []) ≡ report t u
-  join-empty-right u h = join-reports u [] h refl ∙ ap (report t) (append-nil u)
