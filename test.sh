@@ -91,6 +91,16 @@ opened_nowhere() {
     [ -z "$opened" ] && [ -n "$(bash tests/opened.sh crates/command/proofs/PaperRuns.antt)" ]
 }
 
+# groupings_agree FOLDER: of the six lines for reports A, B, C the third is that of AB and C, the fourth of A and BC, the last two of A with the
+# empty run's report on either side (PROTOCOL.md).
+groupings_agree() {
+    target/bin/cases <"$1/stdin" | awk '
+        NR % 6 == 3 || NR % 6 == 5 { line = $0 }
+        (NR % 6 == 4 || NR % 6 == 0) && $0 != line { differ = 1 }
+        END { exit differ || NR == 0 || NR % 6 }
+    '
+}
+
 # second_agrees FOLDER
 second_agrees() {
     target/second answer <"$1/stdin" | cmp - "$1/stdout"
@@ -128,6 +138,8 @@ for cases in pattern_cases cases; do
     single "$cases prints what it must within 1 MiB of stack" small_stack "$cases" "crates/$cases"
 done
 single "cases prints the depths that it must within 1 MiB of stack" small_stack cases tests/depth
+single "cases joins three reports as it must within 1 MiB of stack" small_stack cases tests/joining
+single "both groupings of three reports are one line, and the empty run's report changes nothing" groupings_agree tests/joining
 beside command bash tests/rakvinje.sh
 
 mkdir -p target/examples
@@ -140,6 +152,7 @@ cp "$room/second" target/second
 beside selftest target/second selftest
 single "the second program answers the fixed cases alike" second_agrees crates/cases
 single "the second program answers the fixed cases of depths alike" second_agrees tests/depth
+single "the second program joins three reports alike" second_agrees tests/joining
 counted "$(stated 'comparisons with the second program')" target/second compare target/bin/cases target/bin/cuecount ./rakvinje 1 6000 crates/pattern_cases/stdin
 single "the second program passes its own test" gather selftest
 counted_beside "$(stated 'runs of the command')" command

@@ -42,5 +42,6 @@ lacks 'counter has' crates/counter/must-fail/count_zero.edit rm
 lacks 'rows of `paper-runs`: 33' crates/command/proofs/PaperRuns.antt sed -i '/row (programSteps example)/d'
 lacks 'fixed cases of `cases`' crates/cases/stdout sed -i '7d'
 lacks 'fixed cases of depths' tests/depth/stdout sed -i '7d'
+lacks 'fixed cases of joining' tests/joining/stdout sed -i '7d'
 lacks 'patterns of `pattern_cases`' crates/pattern_cases/stdin sed -i '7d'
 finish

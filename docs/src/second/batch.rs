@@ -14,7 +14,9 @@ pub struct Batch<'a> {
     program: &'a str,
     stream: Vec<u8>,
     cases: Vec<(Case, String)>,
-    tally: Tally,
+    /// The lines that came back as expected, since they were last taken.
+    printed: Vec<String>,
+    pub tally: Tally,
 }
 
 pub fn difference(case: &Case, own: &str, other: &str) -> String {
@@ -23,7 +25,8 @@ pub fn difference(case: &Case, own: &str, other: &str) -> String {
 
 impl Batch<'_> {
     pub fn new(program: &str) -> Batch<'_> {
-        Batch { program, stream: Vec::new(), cases: Vec::new(), tally: Tally::default() }
+        let (stream, cases, printed) = (Vec::new(), Vec::new(), Vec::new());
+        Batch { program, stream, cases, printed, tally: Tally::default() }
     }
 
     /// Answers a case and adds it.
@@ -73,23 +76,33 @@ impl Batch<'_> {
         for (case, own) in &cases {
             self.tally.add(&char::from(case.kind()).to_string(), own);
         }
+        self.printed.extend(lines.into_iter().map(String::from));
         Ok(())
+    }
+
+    /// The next lines, if so many have come back.
+    pub fn take_printed(&mut self, count: usize) -> Option<Vec<String>> {
+        (self.printed.len() >= count).then(|| self.printed.drain(..count).collect())
     }
 
     /// A stream failed as a whole: asks the cases one by one, to show the first that fails alone.
     fn blame(&self, cases: &[(Case, String)], message: String) -> String {
         for (case, own) in cases {
-            let alone = child::run(self.program, &[], vec![case.bytes()]);
-            let other = match alone {
-                Err(message) => message,
-                Ok(outcome) if outcome.status.success() => outcome.only_line(),
-                Ok(outcome) => format!("{} ({})", outcome.only_line(), outcome.status),
-            };
+            let other = alone(self.program, case);
             if &other != own {
                 return difference(case, own, &other);
             }
         }
         let (case, own) = &cases[0];
         difference(case, own, &format!("{message}, only in a stream of many cases"))
+    }
+}
+
+/// What the program prints for one case in a stream of its own.
+pub fn alone(program: &str, case: &Case) -> String {
+    match child::run(program, &[], vec![case.bytes()]) {
+        Err(message) => message,
+        Ok(outcome) if outcome.status.success() => outcome.only_line(),
+        Ok(outcome) => format!("{} ({})", outcome.only_line(), outcome.status),
     }
 }

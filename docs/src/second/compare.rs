@@ -1,8 +1,8 @@
 //! Compares the programs under test with this one; the first difference ends everything.
 
 use crate::tally::Tally;
-use crate::{compare_cases, compare_check, compare_count, compare_cuecount};
-use crate::{compare_depth, compare_patterns, compare_reach, compare_usage};
+use crate::{compare_cases, compare_check, compare_count, compare_cuecount, compare_regroup};
+use crate::{compare_depth, compare_patterns, compare_reach, compare_triples, compare_usage};
 use std::process::exit;
 
 /// Paths of the three programs, the seed, how many seeded cases go through the first, and patterns that are
@@ -29,6 +29,9 @@ fn compare_all(
         passed += tally.total;
     };
     done("streams of cases", compare_cases::compare(cases, seed, count)?);
+    done("triples of reports", compare_triples::compare(cases, seed, count)?);
+    done("regroupings of books", compare_regroup::compare(cases, seed, count)?);
+    done("regroupings that are refused", compare_regroup::compare_refused(cases, seed, count)?);
     if !patterns.is_empty() {
         done("patterns of the file", compare_patterns::compare(cases, seed, patterns)?);
     }

@@ -52,7 +52,7 @@ pub fn describe(case: &Case) -> String {
     format!("kind: {kind}\n{rest}")
 }
 
-fn numbers(report: &Report) -> String {
+pub fn numbers(report: &Report) -> String {
     let Report { s, rows, flag, heads, closed, tail, trimmed, edges } = report;
     let words = format!("trimmed {trimmed} edges {edges}");
     format!("s {s} flag {flag} heads {heads} closed {closed} tail {tail} {words} rows {rows:?}")

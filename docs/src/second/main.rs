@@ -1,5 +1,5 @@
-//! A second program for document 01, and S-1, S-2, S-4, S-5 and S-6 of document 02, written apart from the first,
-//! to test it with. It works everything out by the definitions and prefers plainness to speed.
+//! A second program for document 01, and S-1, S-2, S-4, S-5, S-6 and S-7 of document 02, written apart from the
+//! first, to test it with. It works everything out by the definitions and prefers plainness to speed.
 
 mod answer;
 mod asked;
@@ -22,6 +22,8 @@ mod compare_depth;
 mod compare_depth_words;
 mod compare_patterns;
 mod compare_reach;
+mod compare_regroup;
+mod compare_triples;
 mod compare_usage;
 mod count;
 mod count_edges;
@@ -50,6 +52,9 @@ mod fixed_reach;
 mod fixed_reach_large;
 mod fixed_reach_refused;
 mod fixed_reach_wide;
+mod fixed_regroup;
+mod fixed_regroup_large;
+mod fixed_regroup_refused;
 mod fixed_returns;
 mod fixed_returns_books;
 mod fixed_returns_cuts;
@@ -58,8 +63,12 @@ mod fixed_returns_joins;
 mod fixed_rows;
 mod fixed_runs;
 mod fixed_sets;
+mod fixed_triple;
+mod fixed_triple_rows;
+mod fixed_triple_runs;
 mod fixed_whole;
 mod form;
+mod group;
 mod hash;
 mod join;
 mod join_by_states;
@@ -81,11 +90,15 @@ mod make_long;
 mod make_pattern;
 mod make_question;
 mod make_reach;
+mod make_regroup;
 mod make_report;
 mod make_returns;
 mod make_rows;
 mod make_share;
 mod make_tree;
+mod make_triple;
+mod make_triple_long;
+mod make_triple_report;
 mod meaning;
 mod natural;
 mod operations;
@@ -93,6 +106,7 @@ mod parser;
 mod question;
 mod reach;
 mod refusal;
+mod regroup;
 mod report;
 mod rng;
 mod scan;
@@ -108,20 +122,31 @@ mod selftest_patterns;
 mod selftest_reach;
 mod selftest_reach_made;
 mod selftest_reach_wrong;
+mod selftest_regroup;
+mod selftest_regroup_made;
+mod selftest_regroup_wrong;
 mod selftest_returns;
 mod selftest_returns_made;
+mod selftest_triple;
+mod selftest_triple_made;
+mod selftest_triple_wrong;
+mod selftest_triple_wrong_sums;
 mod states;
 mod summary;
 mod tally;
 mod tree;
+mod triple;
+mod triple_runs;
 mod written;
 
+use group::Group;
 use std::io::{self, Read, Write};
 use std::process::exit;
 
 const USAGE: &str = "second answer < cases > answers
 second make SEED COUNT > cases
 second depths SEED COUNT > cases
+second triples SEED COUNT > cases
 second compare CASES CUECOUNT RAKVINJE SEED N [PATTERNS]
 second selftest";
 
@@ -132,6 +157,7 @@ fn main() {
         ["answer"] => answer_stream(),
         ["make", seed, count] => make_stream(seed, count),
         ["depths", seed, count] => depths_stream(seed, count),
+        ["triples", seed, count] => triples_stream(seed, count),
         ["compare", cases, cuecount, command, seed, cases_wanted] => {
             compare_programs([cases, cuecount, command], seed, cases_wanted, None)
         }
@@ -172,6 +198,12 @@ fn make_stream(seed: &str, count: &str) -> Result<(), String> {
 fn depths_stream(seed: &str, count: &str) -> Result<(), String> {
     let seeded = make_depth::cases(number(seed)?, number(count)?);
     print_cases(fixed::of_depths().into_iter().map(|fixed| fixed.case).chain(seeded))
+}
+
+/// Six cases each; the fixed ones, and behind them the seeded ones.
+fn triples_stream(seed: &str, count: &str) -> Result<(), String> {
+    let triples = compare_triples::triples(number(seed)?, number(count)?);
+    print_cases(triples.flat_map(|triple| triple.cases()).map(|(_, case)| case))
 }
 
 fn print_cases(cases: impl Iterator<Item = case::Case>) -> Result<(), String> {

@@ -1,6 +1,6 @@
 //! Checks this program with itself: stated answers, the two methods of counting, trees written down
 //! and read again, the meaning against a list of texts, joins against reports of longer runs, reach lists,
-//! depths; under both choices of case.
+//! depths, triples of reports, regroupings; under both choices of case.
 
 use crate::answer::answer;
 use crate::book;
@@ -29,7 +29,9 @@ use crate::selftest_depth;
 use crate::selftest_letters;
 use crate::selftest_patterns;
 use crate::selftest_reach;
+use crate::selftest_regroup;
 use crate::selftest_returns;
+use crate::selftest_triple;
 use crate::states::{States, LINE_START};
 use crate::written;
 
@@ -66,6 +68,8 @@ pub fn selftest() -> bool {
     selftest_returns::all(&mut checks);
     selftest_reach::all(&mut checks);
     selftest_depth::all(&mut checks);
+    selftest_triple::all(&mut checks);
+    selftest_regroup::all(&mut checks);
     for number in 0..2000 {
         let mut rng = Rng::for_case(0x5E1F, number);
         let letters = BOTH[number as usize % 2];
