@@ -10,6 +10,7 @@ use mathlib.Core.List.{List, []}
 use lib.Dec.{leb, ltb}
 use lib.ListN.{length, getD, take, drop}
 use borrow.Author.Tests.{leb-true, leb-false, lt-ltb, le-ltb}
+use Rattle.refusal.specs.declared.Refusal.{Refusal}
 use Rattle.refusal.specs.declared.Refusal.the-variants.{NoSuchMacro, InsufficientSpace, CountOverflow}
 use Rattle.book.specs.Format.{Macro, wellFormed, encode}
 use Rattle.book.specs.Expansion.{expand, expansion}
@@ -89,6 +90,10 @@ module _ {case : Case} {b c p work space : List ℕ} {ms ns : List Macro} {t : P
       go : (z : Total) (k j : ℕ) (v w : List ℕ) → SameCount (finishedBy z k v) (finishedBy z j w)
       go (Total.Lines n) k j v w = (refl, refl)
       go Total.TooMany k j v w = (refl, refl)
+
+-- Under a pattern that is refused every sound book is, for the same reason.
+pub pattern-refused : (c : Case) (p : List ℕ) {r : Refusal} → reader.readPattern p ≡ reader.refused r → (ms : List Macro) → wellFormed ms ≡ true → (m : ℕ) (work : List ℕ) → bookResult c (encode ms) p m work ≡ stopped r work
+pattern-refused c p {r} e ms well m work = rw (encode-read ms well, e) (count-refused-pattern c m work ms [] r)
 
 -- Document 02, S-1: "both are asked with the same choice".
 -- "Two sound books alike in every macro that the one named reaches, whatever their other macros hold, give the same count for it

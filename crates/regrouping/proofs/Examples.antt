@@ -1,4 +1,4 @@
--- A book regrouped, computed; its steps are others.
+-- A book regrouped, computed; its steps differ.
 use Prim.Native.Nat.{ℕ}
 use mathlib.Core.Path.{_≡_, refl}
 use mathlib.Core.Bool.{xor}
@@ -23,15 +23,15 @@ use Rattle.spans.specs.Pairs.{pairs}
 use Rattle.counter.specs.Counting.{itemSteps, steps}
 use Rattle.regrouping.specs.Regrouping.{raised, regroup}
 
--- macro 0 writes `a`; 1 writes `a`, LF, `a`, `b`; 2 calls 0 and 1
+-- macro 0 is `a`, 1 is `b` LF, 2 calls 1 and 0, has `b`, and calls 1; 3 calls 0, 2 and 1
 abbrev pub book : List Macro
-book = (Key 97 ∷ []) ∷ (Call 0 ∷ Key 10 ∷ Call 0 ∷ Key 98 ∷ []) ∷ (Call 0 ∷ Call 1 ∷ []) ∷ []
+book = (Key 97 ∷ []) ∷ (Key 98 ∷ Key 10 ∷ []) ∷ (Call 1 ∷ Call 0 ∷ Key 98 ∷ Call 1 ∷ []) ∷ (Call 0 ∷ Call 2 ∷ Call 1 ∷ []) ∷ []
 
--- LF and the second call of 0 become macro 1
+-- of macro 2 the call of 0 and `b` become macro 1
 abbrev pub regroupedBook : List Macro
-regroupedBook = (Key 97 ∷ []) ∷ (Key 10 ∷ Call 0 ∷ []) ∷ (Call 0 ∷ Call 1 ∷ Key 98 ∷ []) ∷ (Call 0 ∷ Call 2 ∷ []) ∷ []
+regroupedBook = (Key 97 ∷ []) ∷ (Call 0 ∷ Key 98 ∷ []) ∷ (Key 98 ∷ Key 10 ∷ []) ∷ (Call 2 ∷ Call 1 ∷ Call 2 ∷ []) ∷ (Call 0 ∷ Call 3 ∷ Call 2 ∷ []) ∷ []
 
-pub example-regrouped : regroup book 1 1 (Call 0 ∷ []) (Key 10 ∷ Call 0 ∷ []) (Key 98 ∷ []) ≡ regroupedBook
+pub example-regrouped : regroup book 2 1 (Call 1 ∷ []) (Call 0 ∷ Key 98 ∷ []) (Call 1 ∷ []) ≡ regroupedBook
 unfolding regroup raised
 example-regrouped = refl
 
@@ -40,7 +40,7 @@ abbrev pub stepsUnder : Read → List Macro → ℕ → ℕ
 stepsUnder (accepted t) ms m = steps (query Sensitive t) ms m
 stepsUnder (refused r) ms m = 0
 
--- under `a` macro 1 has 19, and as macro 2 of the regrouped book 23
-pub example-steps : (stepsUnder (readPattern (97 ∷ [])) book 1 ≡ 19) × (stepsUnder (readPattern (97 ∷ [])) regroupedBook 2 ≡ 23)
+-- under `ab` macro 2 has 26, and as macro 3 of the regrouped book 34
+pub example-steps : (stepsUnder (readPattern (97 ∷ 98 ∷ [])) book 2 ≡ 26) × (stepsUnder (readPattern (97 ∷ 98 ∷ [])) regroupedBook 3 ≡ 34)
 unfolding atoms atomCount readAtom readRepeat readExpr readBranch readBranches readPattern named setOf folded otherCase expand expandTo expansion firstPart laterParts lastPart sumBelow pairs itemSteps steps anyBelow countBelow nothing first last follow someBranch positions.holds enters target move leads xor
 example-steps = (refl, refl)

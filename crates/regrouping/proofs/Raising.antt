@@ -1,10 +1,8 @@
 -- Laws of numbers and calls that go up by one.
 use Prim.Native.Nat.{ℕ, suc, _<_, _≤_}
 use native.Mathlib.Omega.{arith}
-use mathlib.Core.Path.{_≡_, refl, sym, ap, _∙_}
-use mathlib.Core.Bool.{Bool, true, false, cond}
-use mathlib.Core.List.{List, [], _∷_, _++_, map, List·Memᴰ, Memᴰ·of-map}
-use lib.Dec.{ltb}
+use mathlib.Core.Path.{_≡_, refl, sym, _∙_}
+use mathlib.Core.List.{List, [], _∷_, List·Memᴰ, Memᴰ·of-map}
 use lib.ListN.{length, length-map}
 use borrow.Author.Tests.{lt-ltb, le-ltb}
 use Rattle.runs.proofs.Tests.{either}
@@ -24,12 +22,15 @@ pub raised-high : (j i : ℕ) → j ≤ i → raised j i ≡ suc i
 unfolding raised
 raised-high j i h = rw (le-ltb i j h) refl
 
--- so what was lower stays lower, and is at most one higher
+-- so what was lower stays lower
 pub raised-lower : (j i n : ℕ) → i < n → raised j i < raised j n
 raised-lower j i n h =
     either i j
     (λ l. either n j (λ k. rw (raised-low j i l, raised-low j n k) h) (λ k. rw (raised-low j i l, raised-high j n k) (omega arith)))
     (λ l. let k : j ≤ n = omega arith in rw (raised-high j i l, raised-high j n k) (omega arith))
+
+pub raised-most : (j i n : ℕ) → i ≤ n → raised j i ≤ raised j n
+raised-most j i n h = either i n (λ l. omega (arith, raised-lower j i n l)) (λ l. let e : i ≡ n = omega arith in rw e (omega arith))
 
 -- there are as many items
 pub raised-length : (j : ℕ) (is : List Item) → length (raisedItems j is) ≡ length is

@@ -1,5 +1,5 @@
 -- Document 02, S-7: "we want to know that it may". What regrouping keeps.
-use Prim.Native.Nat.{ℕ, zero, suc, _+_, _-_, _*_, _<_, _≤_}
+use Prim.Native.Nat.{ℕ, zero, suc, _+_, _*_, _<_, _≤_}
 use native.Mathlib.Omega.{arith}
 use mathlib.Core.Path.{_≡_, refl, sym, ap, _∙_}
 use mathlib.Core.Logic.{_↔_, ⊎-elim}
@@ -8,30 +8,29 @@ use mathlib.Core.List.{List, [], _∷_, _++_, List·Memᴰ, List·Memᴰ·cases-
 use lib.Dec.{eqb}
 use lib.ListN.{length, getD, length-append}
 use borrow.Author.Tests.{eqb-true, eqb-false}
-use Rattle.runs.proofs.Tests.{by-test, either}
+use Rattle.refusal.specs.declared.Refusal.{Refusal}
+use Rattle.runs.proofs.Tests.{by-test}
 use Rattle.book.specs.declared.item.Item.{Item}
 use Rattle.book.specs.declared.item.Item.the-variants.{Key, Call}
-use Rattle.book.specs.Format.{Macro, wellFormed}
+use Rattle.book.specs.Format.{Macro, wellFormed, encode}
 use Rattle.book.specs.Expansion.{expand, expansion}
 use Rattle.book.proofs.Expansion.{calls-lower, expand-same, expand-one, expand-append, expansion-law}
 use Rattle.book.proofs.WellFormed.{ItemSound, MacroSound, BookSound, well-iff}
 use Rattle.letters.specs.declared.Case.{Case}
 use Rattle.pattern.specs.Form.{Pattern}
-use Rattle.pattern.specs.Meaning.{query}
+use Rattle.pattern.specs.Meaning.{Query, query}
 use Rattle.pattern.specs.Moves.{states}
+use Rattle.pattern.specs.Reader.{readPattern, refused}
 use Rattle.reports.specs.Reports.{report}
 use Rattle.reports.specs.Words.{loadedAt}
 use Rattle.counter.specs.Counting.{reportSize, bookResult}
-use Rattle.counter.proofs.Demands.{Countable, SameCount, same-counts, reports-left}
+use Rattle.counter.proofs.Demands.{Countable, SameCount, same-counts, pattern-refused, reports-left}
 use Rattle.book.specs.Reading.{readBook}
 use Rattle.depth.specs.Answer.{depthResult}
 use Rattle.depth.proofs.Theorems.{Askable, SameDepths, same-depths}
-use Rattle.regrouping.specs.Regrouping.{raised, raisedItems, Regrouped}
-use Rattle.regrouping.proofs.Raising.{raised-low, raised-high, raised-length, raised-sound, expand-raised}
-
--- j stands behind all that the items call
-abbrev pub Behind : ℕ → List Item → Type 0
-Behind j items = (i : ℕ) → List·Memᴰ (Call i) items → i < j
+use Rattle.regrouping.specs.Regrouping.{raised, raisedItems, Behind, calling, Regrouped}
+use Rattle.regrouping.proofs.Made.{by-number}
+use Rattle.regrouping.proofs.Raising.{raised-low, raised-high, raised-most, raised-length, raised-sound, expand-raised}
 
 module _ {ms ns : List Macro} {m j : ℕ} {xs ys zs : List Item} (r : Regrouped ms ns m j xs ys zs) (well : wellFormed ms ≡ true) where
   before : BookSound ms
@@ -76,7 +75,7 @@ module _ {ms ns : List Macro} {m j : ℕ} {xs ys zs : List Item} (r : Regrouped 
         each = λ i c. ⊎-elim (up xs first i) (λ d. ⊎-elim (λ e. rw e called) (up zs last i) (List·Memᴰ·cases-cons d)) (List·Memᴰ·append-cases (raisedItems j xs) c);
       })
     where
-      long : length (raisedItems j xs ++ (Call j ∷ raisedItems j zs)) ≡ length xs + suc (length zs)
+      long : length (calling j xs zs) ≡ length xs + suc (length zs)
       long = length-append (raisedItems j xs) (Call j ∷ raisedItems j zs) ∙ rw (raised-length j xs, raised-length j zs) refl
 
       up : (is : List Item) → ((i : Item) → List·Memᴰ i is → ItemSound m i) → (i : Item) → List·Memᴰ i (raisedItems j is) → ItemSound (suc m) i
@@ -95,18 +94,7 @@ module _ {ms ns : List Macro} {m j : ℕ} {xs ys zs : List Item} (r : Regrouped 
 
   -- so every macro of the regrouped book
   each-sound : 1 ≤ length ys → Behind j ys → (k : ℕ) → k < length ns → MacroSound k (getD ns k [])
-  each-sound h lower k l =
-      either k j
-      (λ g. rw (raised-low j k g) at (other-sound k (omega (arith, r .notAbove, r .inside)) (λ e. omega (arith, r .notAbove))))
-      (λ g. either j k (λ f. higher (k - 1) (omega arith) (omega arith)) (λ f. let e : k ≡ j = omega arith in rw e (part-sound h lower)))
-    where
-      higher : (i : ℕ) → k ≡ suc i → j ≤ i → MacroSound k (getD ns k [])
-      higher i e g =
-          let inside : i < length ms = omega (arith, r .longer) in
-          rw e
-          (by-test (eqb i m)
-          (λ t. rw (eqb-true i m t) (caller-sound h))
-          (λ t. rw (raised-high j i g) at (other-sound i inside (eqb-false i m t))))
+  each-sound h lower = by-number r (λ k. MacroSound k (getD ns k [])) (part-sound h lower) (caller-sound h) other-sound
 
   -- The regrouped book is sound exactly if it has at most 1,024 macros, ys is not empty, and j stands behind all that ys calls.
   pub regrouped-sound : (wellFormed ns ≡ true) ↔ ((length ns ≤ 1024) × (1 ≤ length ys) × Behind j ys)
@@ -165,7 +153,7 @@ module _ {ms ns : List Macro} {m j : ℕ} {xs ys zs : List Item} (r : Regrouped 
     pub regrouped-runs : (i : ℕ) → i < length ms → expansion ns (raised j i) ≡ expansion ms i
     regrouped-runs i h = runs-below (suc i) i (omega arith) h
 
-    -- "macro m" among them, which is m + 1 now
+    -- macro m among them, which is m + 1 now
     pub regrouped-run : expansion ns (suc m) ≡ expansion ms m
     regrouped-run = rw (raised-high j m (r .notAbove)) at (regrouped-runs m (r .inside))
 
@@ -173,30 +161,35 @@ module _ {ms ns : List Macro} {m j : ℕ} {xs ys zs : List Item} (r : Regrouped 
     pub regrouped-part : expansion ns j ≡ expand (λ k. expansion ms k) ys
     regrouped-part = part-run (λ k g. regrouped-runs k (omega (arith, r .inside)))
 
--- So counts and reports are the same under every pattern, with case ignored or not, each with words enough; steps may differ.
+    -- So every macro has the report that it had, under any pattern.
+    pub regrouped-reports : (t : Query) (i : ℕ) → i < length ms → report t (expansion ns (raised j i)) ≡ report t (expansion ms i)
+    regrouped-reports t i h = ap (report t) (regrouped-runs i h)
+
+    pub regrouped-report : (t : Query) → report t (expansion ns (suc m)) ≡ report t (expansion ms m)
+    regrouped-report t = ap (report t) regrouped-run
+
+    -- Where a pattern is refused, both books are, for the same reason.
+    pub regrouped-refused : (c : Case) (p : List ℕ) {q : Refusal} → readPattern p ≡ refused q → (i k : ℕ) (work space : List ℕ) → SameCount (bookResult c (encode ns) p i work) (bookResult c (encode ms) p k space)
+    regrouped-refused c p e i k work space = rw (pattern-refused c p e ns sound i work, pattern-refused c p e ms well k space) (refl, refl)
+
+-- Under an accepted one, with case ignored or not, each with words enough:
 module _ {ms ns : List Macro} {m j : ℕ} {xs ys zs : List Item} (r : Regrouped ms ns m j xs ys zs) {c : Case} {b d p work space : List ℕ} {t : Pattern} where
-  -- of macro m, which is m + 1 now
-  module _ (x : Countable c b p work ms t m) (y : Countable c d p space ns t (suc m)) where
-    same : expansion ms m ≡ expansion ns (suc m)
-    same = sym (regrouped-run r (x .well) (y .well))
+  -- the count of macro m, or 12
+  pub regrouped-count : Countable c d p space ns t (suc m) → Countable c b p work ms t m → SameCount (bookResult c d p (suc m) space) (bookResult c b p m work)
+  regrouped-count y x = same-counts y x (regrouped-run r (x .well) (y .well))
 
-    -- the count, or 12
-    pub regrouped-count : SameCount (bookResult c b p m work) (bookResult c d p (suc m) space)
-    regrouped-count = same-counts x y same
+  -- and of every macro
+  module _ {k : ℕ} (y : Countable c d p space ns t (raised j k)) (x : Countable c b p work ms t k) where
+    pub regrouped-counts : SameCount (bookResult c d p (raised j k) space) (bookResult c b p k work)
+    regrouped-counts = same-counts y x (regrouped-runs r (x .well) (y .well) k (x .inside))
 
-    -- the report
-    pub regrouped-report : report (query c t) (expansion ms m) ≡ report (query c t) (expansion ns (suc m))
-    regrouped-report = ap (report (query c t)) same
+    -- the reports that the two counts leave among the work words, each at the place of its macro
+    pub regrouped-words : (i : ℕ) → i ≤ k
+        → loadedAt (bookResult c d p (raised j k) space .work) (raised j i * reportSize (query c t)) (states (query c t)) ≡ loadedAt (bookResult c b p k work .work) (i * reportSize (query c t)) (states (query c t))
+    regrouped-words i h =
+        reports-left y (raised j i) (raised-most j i k h) ∙ regrouped-reports r (x .well) (y .well) (query c t) i (omega (arith, x .inside)) ∙ sym (reports-left x i h)
 
-    -- and its words, which the two counts leave at the place of the macro
-    pub regrouped-words : loadedAt (bookResult c b p m work .work) (m * reportSize (query c t)) (states (query c t)) ≡ loadedAt (bookResult c d p (suc m) space .work) (suc m * reportSize (query c t)) (states (query c t))
-    regrouped-words = reports-left x m (omega arith) ∙ regrouped-report ∙ sym (reports-left y (suc m) (omega arith))
-
-  -- and of every other
-  pub regrouped-counts : {i : ℕ} → Countable c b p work ms t i → Countable c d p space ns t (raised j i) → SameCount (bookResult c b p i work) (bookResult c d p (raised j i) space)
-  regrouped-counts {i} x y = same-counts x y (sym (regrouped-runs r (x .well) (y .well) i (x .inside)))
-
--- and the depths of blocks (document 02, S-6), asked rightly
+-- And the depths of blocks (document 02, S-6), asked rightly.
 pub regrouped-depths : {ms ns : List Macro} {m j : ℕ} {xs ys zs : List Item} → Regrouped ms ns m j xs ys zs → {opening closing : ℕ} {b d work space : List ℕ}
-    → Askable opening closing b m work ms → Askable opening closing d (suc m) space ns → SameDepths (depthResult opening closing (readBook b) m work) (depthResult opening closing (readBook d) (suc m) space)
-regrouped-depths r x y = same-depths x y (sym (regrouped-run r (x .well) (y .well)))
+    → Askable opening closing d (suc m) space ns → Askable opening closing b m work ms → SameDepths (depthResult opening closing (readBook d) (suc m) space) (depthResult opening closing (readBook b) m work)
+regrouped-depths r y x = same-depths y x (regrouped-run r (x .well) (y .well))

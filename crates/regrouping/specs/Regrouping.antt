@@ -2,7 +2,7 @@
 use Prim.Native.Nat.{ℕ, suc, _<_, _≤_}
 use mathlib.Core.Path.{_≡_}
 use mathlib.Core.Bool.{cond}
-use mathlib.Core.List.{List, [], _∷_, _++_, map}
+use mathlib.Core.List.{List, [], _∷_, _++_, map, List·Memᴰ}
 use lib.Dec.{ltb}
 use lib.ListN.{length, getD, set, take, drop}
 use Rattle.book.specs.declared.item.Item.{Item}
@@ -21,22 +21,32 @@ raisedItem j (Call i) = Call (raised j i)
 abbrev pub raisedItems : ℕ → List Item → List Item
 raisedItems j items = map (raisedItem j) items
 
+-- macro j stands behind all that some items call
+abbrev pub Behind : ℕ → List Item → Type 0
+Behind j items = (i : ℕ) → List·Memᴰ (Call i) items → i < j
+
+-- xs, a call of j, zs
+abbrev pub calling : ℕ → List Item → List Item → List Item
+calling j xs zs = raisedItems j xs ++ (Call j ∷ raisedItems j zs)
+
 -- book ns is book ms regrouped
 pub record Regrouped (ms ns : List Macro) (m j : ℕ) (xs ys zs : List Item) : Type 0 where
   -- macro m has the items xs, ys, zs, one behind the other
   pub inside : m < length ms
   pub items : getD ms m [] ≡ xs ++ (ys ++ zs)
-  -- there is a new macro j, not above m, which has ys
+  -- there is a new macro j, not above m, which has ys; in a sound book ys calls lower ones alone, and these stay where they are
   pub notAbove : j ≤ m
   pub longer : length ns ≡ suc (length ms)
   pub part : getD ns j [] ≡ ys
   -- m + 1 has xs, a call of j, zs
-  pub caller : getD ns (suc m) [] ≡ raisedItems j xs ++ (Call j ∷ raisedItems j zs)
+  pub caller : getD ns (suc m) [] ≡ calling j xs zs
   -- every other macro has its items
   pub others : (i : ℕ) → i < length ms → (i ≡ m → ⊥) → getD ns (raised j i) [] ≡ raisedItems j (getD ms i [])
 
--- the macros of that book
+-- one macro more, in front of place j
+abbrev pub inserted : ℕ → Macro → List Macro → List Macro
+inserted j new ms = take j ms ++ (new ∷ drop j ms)
+
+-- the macros of the regrouped book
 unfoldable pub regroup : List Macro → ℕ → ℕ → List Item → List Item → List Item → List Macro
-regroup ms m j xs ys zs =
-    take j (set (map (raisedItems j) ms) m (raisedItems j xs ++ (Call j ∷ raisedItems j zs)))
-    ++ (ys ∷ drop j (set (map (raisedItems j) ms) m (raisedItems j xs ++ (Call j ∷ raisedItems j zs))))
+regroup ms m j xs ys zs = inserted j ys (set (map (raisedItems j) ms) m (calling j xs zs))

@@ -20,7 +20,7 @@ use Rattle.reports.specs.declared.report.Report.{Report}
 use Rattle.reports.specs.declared.span_count.SpanCount.{SpanCount}
 use Rattle.reports.specs.Totals.{most, totalOf}
 use Rattle.reports.specs.Reports.{reportOf, joinedCounts, inReport, joinedReports}
-use Rattle.reports.specs.Proper.{Regular, Proper}
+use Rattle.reports.specs.Proper.{Canonical, Proper}
 use Rattle.reports.proofs.TotalLaws.{total-sum}
 use Rattle.reports.proofs.ReportLaws.{with-line, in-flat}
 use Rattle.reports.proofs.FlatLaws.{open-flat, ended-flat}
@@ -116,8 +116,8 @@ fields-same a b c d e f g h = rw (a, b, c, d, e, f, g, h) refl
 pub proper-shown : (s : ℕ) (r : Report) → Proper s r → (x : Effect) × (r ≡ shown s x)
 proper-shown s r p = go (r .flag) refl
   where
-    all : Regular s r
-    all = p .regular
+    all : Canonical s r
+    all = p .canonical
 
     -- a set of states below s
     told : (x : ℕ) → x < 2 ^ s → x ≡ word s (bit x)
@@ -138,17 +138,17 @@ proper-shown s r p = go (r .flag) refl
     go : (f : ℕ) → r .flag ≡ f → (x : Effect) × (r ≡ shown s x)
     go zero e = (
       within X,
-      fields-same (all .size) (rows-told s (r .rows) (all .largest) (all .rowsLong) (all .rowsBelow) (all .rowsAbove)) e (all .noHeads e) (all .noClosed e) (all .noTail e) (p .noTrimmed) (p .noEdges)
+      fields-same (all .size) (rows-told s (r .rows) (all .largest) (all .rowsLong) (all .rowsBelow) (all .rowsAbove)) e (all .noHeads e) (all .noClosed e) (all .noTail e) (p .trimmedZero) (p .edgesZero)
           ∙ sym (open-flat s X noEdges (totalOf 0)),
     )
     go (suc zero) e = (
       across H (r .closed) T,
-      fields-same (all .size) (all .rowsEmptied (omega arith)) (rw few e) (told (r .heads) (all .headsBelow)) (rw few refl) (told (r .tail) (all .tailBelow)) (p .noTrimmed) (p .noEdges)
+      fields-same (all .size) (all .rowsEmptied (omega arith)) (rw few e) (told (r .heads) (all .headsBelow)) (rw few refl) (told (r .tail) (all .tailBelow)) (p .trimmedZero) (p .edgesZero)
           ∙ sym (ended-flat s H T noEdges (r .closed)),
     )
     go (suc (suc zero)) e = (
       across H (suc most) T,
-      fields-same (all .size) (all .rowsEmptied (omega arith)) e (told (r .heads) (all .headsBelow)) (all .closedEmptied e) (told (r .tail) (all .tailBelow)) (p .noTrimmed) (p .noEdges)
+      fields-same (all .size) (all .rowsEmptied (omega arith)) e (told (r .heads) (all .headsBelow)) (all .closedEmptied e) (told (r .tail) (all .tailBelow)) (p .trimmedZero) (p .edgesZero)
           ∙ sym (ended-flat s H T noEdges (suc most)),
     )
     go (suc (suc (suc f))) e = absurd (omega (arith, all .flagUpTo))

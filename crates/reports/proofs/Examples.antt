@@ -1,7 +1,7 @@
 -- Words that no run gives, computed: there the law of joining does not hold.
 use Prim.Native.Nat.{ℕ}
 use mathlib.Core.Path.{_≡_, refl}
-use mathlib.Core.List.{List, [], _∷_, _++_}
+use mathlib.Core.List.{_∷_}
 use lib.ListN.{replicate}
 use Rattle.stateset.specs.Set.{bit, word, anyBelow}
 use Rattle.stateset.specs.Tabled.{tabled}

@@ -21,9 +21,10 @@ use Rattle.spans.proofs.SpanLaws.{span-by, closed-by, joined-by}
 use Rattle.reports.specs.declared.report.Report.{Report}
 use Rattle.reports.specs.declared.span_count.SpanCount.{SpanCount}
 use Rattle.reports.specs.declared.total.Total.{Total}
-use Rattle.reports.specs.Totals.{most, totalOf, bothTotals, lineIf}
+use Rattle.reports.specs.Totals.{most, totalOf, bothTotals}
 use Rattle.reports.specs.Reports.{flagOf, shownOf, edgesWord, spanIn, spanCount, reportOf, report, withLine, joinedCounts, closedIn, inReport, joinedReports}
-use Rattle.reports.proofs.TotalLaws.{few-lines, many-lines, total-sum, line-told}
+use Rattle.reports.proofs.TotalLaws.{few-lines, many-lines, total-sum}
+use Rattle.reports.proofs.ReportLaws.{with-line}
 
 -- flag 0, "without LF": "heads, closed, tail are 0"
 abbrev pub withoutEnd : ℕ → (ℕ → ℕ → Bool) → Edges → Report
@@ -117,10 +118,7 @@ joined-fields a b small f g = go (eqb (a .flag) 0) (eqb (b .flag) 0) refl refl
         → withLine j (bothTotals (closedIn a) (closedIn b)) ≡ record { span = j .span; closed = totalOf (m + n + cond (j .closes) 1 0) }
     sums j m n e h =
         let both : bothTotals (closedIn a) (closedIn b) ≡ totalOf (m + n) = rw (e, h) (total-sum m n) in
-        ap (λ (c : Total). record { span = j .span; closed = c })
-        (ap (λ (x : Total). bothTotals x (lineIf (j .closes))) both
-        ∙ ap (bothTotals (totalOf (m + n))) (line-told (j .closes))
-        ∙ total-sum (m + n) (cond (j .closes) 1 0))
+        ap (withLine j) both ∙ with-line (j .span) (j .closes) (m + n) (m + n + cond (j .closes) 1 0) refl
 
     go : (x y : Bool) → eqb (a .flag) 0 ≡ x → eqb (b .flag) 0 ≡ y → joinedReports a b ≡ joinedFields s x y a b
     go x y d e =

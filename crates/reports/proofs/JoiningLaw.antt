@@ -7,10 +7,9 @@ use mathlib.Core.Bool.{Bool, true, false, cond, _&&_}
 use mathlib.Core.List.{List, [], _∷_, _++_, append-assoc, append-nil}
 use lib.Dec.{leb, eqb}
 use lib.Pow.{pow-pos}
-use lib.ListN.{getD}
 use borrow.Author.Tests.{leb-true, le-leb, eq-eqb}
 use Rattle.runs.specs.Keys.{isRun}
-use Rattle.runs.proofs.Tests.{and-both, clash, torn}
+use Rattle.runs.proofs.Tests.{and-both}
 use Rattle.runs.proofs.KeyLaws.{run-append}
 use Rattle.runs.proofs.KeptLaws.{zeros-at}
 use Rattle.stateset.specs.Set.{word}
@@ -27,25 +26,25 @@ use Rattle.spans.specs.declared.span.Edges.{Edges}
 use Rattle.spans.specs.Spans.{noRows, openSpan, edges}
 use Rattle.spans.specs.Joining.{noEdges}
 use Rattle.spans.proofs.RowLaws.{states-all, row-of, rows-long, row-above}
-use Rattle.spans.proofs.EdgeLaws.{edges-begin, edges-finish, edges-below, edges-plain}
+use Rattle.spans.proofs.EdgeLaws.{span-edges, edges-begin, edges-finish, edges-below, edges-plain}
 use Rattle.reports.specs.declared.report.Joined.{Joined}
 use Rattle.reports.specs.declared.report.Report.{Report}
 use Rattle.reports.specs.Totals.{most, totalOf}
-use Rattle.reports.specs.Reports.{edgesWord, reportOf, report, emptyCount, joinedReports, alike}
+use Rattle.reports.specs.Reports.{spanCount, edgesWord, reportOf, report, emptyCount, joinedReports, alike}
 use Rattle.reports.specs.Answers.{joinResult}
-use Rattle.reports.specs.Proper.{Regular, Proper, emptyReport}
+use Rattle.reports.specs.Proper.{Canonical, Proper, emptyReport}
 use Rattle.reports.proofs.ReportLaws.{empty-count, report-is, report-size, join-reports}
 use Rattle.reports.proofs.FlatLaws.{withoutEnd, withEnd, open-flat, ended-flat, runFields, report-fields}
 use Rattle.reports.proofs.EffectLaws.{Effect, within, across, shown, andThen, then-assoc, then-left, then-right, shown-join, proper-shown}
 
 -- the answer with a report
-abbrev pub joinedTo : Report → Joined
+abbrev joinedTo : Report → Joined
 joinedTo r = record { refused = 0; report = r }
 
 -- Reports by their fields keep the rules.
 module _ (s : ℕ) (low : 3 ≤ s) (high : s ≤ 32) (d : Edges) where
-  open-regular : (X : ℕ → ℕ → Bool) → Regular s (withoutEnd s X d)
-  open-regular X =
+  open-canonical : (X : ℕ → ℕ → Bool) → Canonical s (withoutEnd s X d)
+  open-canonical X =
       record {
         size = refl;
         least = low;
@@ -64,8 +63,8 @@ module _ (s : ℕ) (low : 3 ≤ s) (high : s ≤ 32) (d : Edges) where
         closedFits = omega arith;
       }
 
-  ended-regular : (H : ℕ → Bool) (n : ℕ) (T : ℕ → Bool) → Regular s (withEnd s H n T d)
-  ended-regular H n T = go (leb n most) refl
+  ended-canonical : (H : ℕ → Bool) (n : ℕ) (T : ℕ → Bool) → Canonical s (withEnd s H n T d)
+  ended-canonical H n T = go (leb n most) refl
     where
       some : (b : Bool) → _≡_ {A = ℕ} (cond b 1 2) 0 → ⊥
       some true e = omega arith
@@ -84,7 +83,7 @@ module _ (s : ℕ) (low : 3 ≤ s) (high : s ≤ 32) (d : Edges) where
       fits false e = omega arith
 
       go : (b : Bool) → leb n most ≡ b
-          → Regular s (record { s = s; rows = noRows; flag = cond b 1 2; heads = word s H; closed = cond b n 0; tail = word s T; trimmed = d .trimmed; edges = edgesWord d })
+          → Canonical s (record { s = s; rows = noRows; flag = cond b 1 2; heads = word s H; closed = cond b n 0; tail = word s T; trimmed = d .trimmed; edges = edgesWord d })
       go b e =
           record {
             size = refl;
@@ -106,8 +105,8 @@ module _ (s : ℕ) (low : 3 ≤ s) (high : s ≤ 32) (d : Edges) where
 
 -- So what effects show is proper.
 shown-proper : (s : ℕ) → 3 ≤ s → s ≤ 32 → (x : Effect) → Proper s (shown s x)
-shown-proper s low high (within X) = rw (open-flat s X noEdges (totalOf 0)) (record { regular = open-regular s low high noEdges X; noTrimmed = refl; noEdges = refl })
-shown-proper s low high (across H n T) = rw (ended-flat s H T noEdges n) (record { regular = ended-regular s low high noEdges H n T; noTrimmed = refl; noEdges = refl })
+shown-proper s low high (within X) = rw (open-flat s X noEdges (totalOf 0)) (record { canonical = open-canonical s low high noEdges X; trimmedZero = refl; edgesZero = refl })
+shown-proper s low high (across H n T) = rw (ended-flat s H T noEdges n) (record { canonical = ended-canonical s low high noEdges H n T; trimmedZero = refl; edgesZero = refl })
 
 -- Reports of one size, from 3 to 32, are joined.
 alike-by : (s : ℕ) (a b : Report) → 3 ≤ s → s ≤ 32 → a .s ≡ s → b .s ≡ s → alike a b ≡ true
@@ -115,12 +114,12 @@ alike-by s a b low high e f =
     and-both (eqb (a .s) (b .s)) (leb 3 (a .s) && leb (a .s) 32) (eq-eqb (a .s) (b .s) (e ∙ sym f))
     (and-both (leb 3 (a .s)) (leb (a .s) 32) (le-leb 3 (a .s) (omega arith)) (le-leb (a .s) 32 (omega arith)))
 
-joined-by : (s : ℕ) (a b : Report) → 3 ≤ s → s ≤ 32 → a .s ≡ s → b .s ≡ s → joinResult a b ≡ joinedTo (joinedReports a b)
+joined-by : (s : ℕ) (a b : Report) → 3 ≤ s → s ≤ 32 → a .s ≡ s → b .s ≡ s → joinResult a b ≡ record { refused = 0; report = joinedReports a b }
 joined-by s a b low high e f = rw (alike-by s a b low high e f) refl
 
 -- "The report of the empty run, each state reaching itself and S-4's words 0" is proper,
 pub empty-proper : (s : ℕ) → 3 ≤ s → s ≤ 32 → Proper s (emptyReport s)
-empty-proper s low high = record { regular = open-regular s low high noEdges (λ q p. eqb q p); noTrimmed = refl; noEdges = refl }
+empty-proper s low high = record { canonical = open-canonical s low high noEdges (λ q p. eqb q p); trimmedZero = refl; edgesZero = refl }
 
 -- and is what `report_of` makes of `empty_count`.
 pub empty-made : (s : ℕ) → s ≤ 32 → reportOf (emptyCount s) ≡ emptyReport s
@@ -128,22 +127,22 @@ empty-made s high =
     ap (λ (k : ℕ). reportOf (record { span = openSpan k (λ q p. eqb q p) noEdges; closed = totalOf 0 })) (states-all s high) ∙ open-flat s (λ q p. eqb q p) noEdges (totalOf 0)
 
 -- Two proper reports of one s are joined,
-pub proper-joined : {s : ℕ} {a b : Report} → Proper s a → Proper s b → joinResult a b ≡ joinedTo (joinedReports a b)
-proper-joined {s} {a} {b} p q = joined-by s a b (p .regular .least) (p .regular .largest) (p .regular .size) (q .regular .size)
+pub proper-joined : {s : ℕ} {a b : Report} → Proper s a → Proper s b → joinResult a b ≡ record { refused = 0; report = joinedReports a b }
+proper-joined {s} {a} {b} p q = joined-by s a b (p .canonical .least) (p .canonical .largest) (p .canonical .size) (q .canonical .size)
 
 -- with the one effect and then the other,
 joined-shown : (s : ℕ) → s ≤ 32 → {a b : Report} (x y : Effect) → a ≡ shown s x → b ≡ shown s y → joinedReports a b ≡ shown s (andThen s x y)
 joined-shown s high x y e f = rw (e, f) (shown-join s high x y)
 
 result-shown : {s : ℕ} {a b : Report} → Proper s a → Proper s b → (x y : Effect) → a ≡ shown s x → b ≡ shown s y → joinResult a b .report ≡ shown s (andThen s x y)
-result-shown {s} p q x y e f = ap (λ (j : Joined). j .report) (proper-joined p q) ∙ joined-shown s (p .regular .largest) x y e f
+result-shown {s} p q x y e f = ap (λ (j : Joined). j .report) (proper-joined p q) ∙ joined-shown s (p .canonical .largest) x y e f
 
 -- and the report that this gives is proper.
 pub join-proper : {s : ℕ} {a b : Report} → Proper s a → Proper s b → Proper s (joinResult a b .report)
 join-proper {s} {a} {b} p q =
     let x = proper-shown s a p in
     let y = proper-shown s b q in
-    rw (result-shown p q (x .0) (y .0) (x .1) (y .1)) (shown-proper s (p .regular .least) (p .regular .largest) (andThen s (x .0) (y .0)))
+    rw (result-shown p q (x .0) (y .0) (x .1) (y .1)) (shown-proper s (p .canonical .least) (p .canonical .largest) (andThen s (x .0) (y .0)))
 
 -- "joining the first two and then the third gives the same report as joining the last two first"
 pub join-assoc : {s : ℕ} {a b c : Report} → Proper s a → Proper s b → Proper s c → joinResult (joinResult a b .report) c ≡ joinResult a (joinResult b c .report)
@@ -151,7 +150,7 @@ join-assoc {s} {a} {b} {c} p q r =
     let x = proper-shown s a p in
     let y = proper-shown s b q in
     let z = proper-shown s c r in
-    let small = p .regular .largest in
+    let small = p .canonical .largest in
     proper-joined (join-proper p q) r
     ∙ ap joinedTo
     (joined-shown s small (andThen s (x .0) (y .0)) (z .0) (result-shown p q (x .0) (y .0) (x .1) (y .1)) (z .1)
@@ -168,34 +167,28 @@ empty-shown s = sym (open-flat s (λ q p. eqb q p) noEdges (totalOf 0))
 
 module _ {s : ℕ} {a : Report} (p : Proper s a) where
   empty-is : Proper s (emptyReport s)
-  empty-is = empty-proper s (p .regular .least) (p .regular .largest)
+  empty-is = empty-proper s (p .canonical .least) (p .canonical .largest)
 
-  pub join-empty-first : joinResult (emptyReport s) a ≡ joinedTo a
-  join-empty-first =
+  pub join-empty-left : joinResult (emptyReport s) a ≡ record { refused = 0; report = a }
+  join-empty-left =
       let x = proper-shown s a p in
-      proper-joined empty-is p ∙ ap joinedTo (joined-shown s (p .regular .largest) identity (x .0) (empty-shown s) (x .1) ∙ then-left s (x .0) ∙ sym (x .1))
+      proper-joined empty-is p ∙ ap joinedTo (joined-shown s (p .canonical .largest) identity (x .0) (empty-shown s) (x .1) ∙ then-left s (x .0) ∙ sym (x .1))
 
-  pub join-empty-last : joinResult a (emptyReport s) ≡ joinedTo a
-  join-empty-last =
+  pub join-empty-right : joinResult a (emptyReport s) ≡ record { refused = 0; report = a }
+  join-empty-right =
       let x = proper-shown s a p in
-      proper-joined p empty-is ∙ ap joinedTo (joined-shown s (p .regular .largest) (x .0) identity (x .1) (empty-shown s) ∙ then-right s (x .0) ∙ sym (x .1))
+      proper-joined p empty-is ∙ ap joinedTo (joined-shown s (p .canonical .largest) (x .0) identity (x .1) (empty-shown s) ∙ then-right s (x .0) ∙ sym (x .1))
 
 -- Reports of runs.
 module _ (t : Query) (w : List ℕ) where
   -- the two words
   word-trimmed : report t w .trimmed ≡ edges t w .trimmed
-  word-trimmed = ap (λ (r : Report). r .trimmed) (report-fields t w) ∙ go (laterParts w)
-    where
-      go : (ls : List (List ℕ)) → runFields t w ls .trimmed ≡ edges t w .trimmed
-      go [] = refl
-      go (l ∷ ls) = refl
+  unfolding report reportOf spanCount
+  word-trimmed = ap (λ (d : Edges). d .trimmed) (span-edges t w)
 
   word-edges : report t w .edges ≡ edgesWord (edges t w)
-  word-edges = ap (λ (r : Report). r .edges) (report-fields t w) ∙ go (laterParts w)
-    where
-      go : (ls : List (List ℕ)) → runFields t w ls .edges ≡ edgesWord (edges t w)
-      go [] = refl
-      go (l ∷ ls) = refl
+  unfolding report reportOf spanCount
+  word-edges = ap edgesWord (span-edges t w)
 
   -- both are 0 exactly if the run neither begins with LF nor ends in CR
   pub words-zero : ((report t w .trimmed ≡ 0) × (report t w .edges ≡ 0)) ↔ ((beginsWithEnd w ≡ false) × (endsInReturn w ≡ false))
@@ -212,7 +205,7 @@ module _ (t : Query) (w : List ℕ) where
       back : edges t w .leading ≡ false → edges t w .trailing ≡ false → edgesWord (edges t w) ≡ 0
       back b f = rw (b, f) refl
 
-  -- else they stay within s and 4
+  -- they are always below 2^s and below 4
   pub words-below : (report t w .trimmed < 2 ^ states t) × (report t w .edges < 4)
   words-below = (rw word-trimmed (edges-below t w), rw word-edges (small (edges t w .leading) (edges t w .trailing)))
     where
@@ -224,50 +217,46 @@ module _ (t : Query) (w : List ℕ) where
 
 -- Under an accepted pattern, with case ignored or not:
 module _ (c : Case) (p : List ℕ) (t : Pattern) (e : readPattern p ≡ accepted t) where
-  -- the pattern's states, and the report of a run
-  abbrev pub size : ℕ
-  size = states (query c t)
+  abbrev under : Query
+  under = query c t
 
-  abbrev pub of : List ℕ → Report
-  of = report (query c t)
-
-  few : size ≤ 32
+  few : states under ≤ 32
   few = omega (arith, accepted-few p t e)
 
   -- the report of a run keeps the rules of all fields but the two words
-  pub run-regular : (w : List ℕ) → Regular size (of w)
-  run-regular w = rw (report-fields (query c t) w) (go (laterParts w))
+  pub run-canonical : (w : List ℕ) → Canonical (states under) (report under w)
+  run-canonical w = rw (report-fields under w) (go (laterParts w))
     where
-      go : (ls : List (List ℕ)) → Regular size (runFields (query c t) w ls)
-      go [] = open-regular size (omega arith) few (edges (query c t) w) (λ q p. leads (query c t) q w p)
-      go (l ∷ ls) = ended-regular size (omega arith) few (edges (query c t) w)
-          (λ q. acceptedFrom (query c t) q (trimmed (firstPart w)))
-          (countIn (closedMatches (query c t)) (partsBefore l ls))
-          (leads (query c t) 0 (lastPart l ls))
+      go : (ls : List (List ℕ)) → Canonical (states under) (runFields under w ls)
+      go [] = open-canonical (states under) (omega arith) few (edges under w) (λ q p. leads under q w p)
+      go (l ∷ ls) = ended-canonical (states under) (omega arith) few (edges under w)
+          (λ q. acceptedFrom under q (trimmed (firstPart w)))
+          (countIn (closedMatches under) (partsBefore l ls))
+          (leads under 0 (lastPart l ls))
 
   -- so it is proper exactly if these are 0, which is so exactly if the run neither begins with LF nor ends in CR
-  pub run-proper : (w : List ℕ) → Proper size (of w) ↔ ((beginsWithEnd w ≡ false) × (endsInReturn w ≡ false))
+  pub run-proper : (w : List ℕ) → Proper (states under) (report under w) ↔ ((beginsWithEnd w ≡ false) × (endsInReturn w ≡ false))
   run-proper w = (
-    λ a. words-zero (query c t) w .0 (a .noTrimmed, a .noEdges),
-    λ b. let z = words-zero (query c t) w .1 b in record { regular = run-regular w; noTrimmed = z .0; noEdges = z .1 },
+    λ a. words-zero under w .0 (a .trimmedZero, a .edgesZero),
+    λ b. let z = words-zero under w .1 b in record { canonical = run-canonical w; trimmedZero = z .0; edgesZero = z .1 },
   )
 
   -- the report of the empty run
-  pub empty-report : of [] ≡ emptyReport size
-  empty-report = sym (report-is (query c t) []) ∙ ap reportOf (sym (empty-count (query c t) (accepted-few p t e))) ∙ empty-made size few
+  pub empty-report : report under [] ≡ emptyReport (states under)
+  empty-report = sym (report-is under []) ∙ ap reportOf (sym (empty-count under (accepted-few p t e))) ∙ empty-made (states under) few
 
   -- "With those words set, all this is said of any three reports that come from runs under one pattern."
-  pub runs-joined : (u v : List ℕ) → isRun u ≡ true → isRun v ≡ true → joinResult (of u) (of v) ≡ joinedTo (of (u ++ v))
+  pub runs-joined : (u v : List ℕ) → isRun u ≡ true → isRun v ≡ true → joinResult (report under u) (report under v) ≡ record { refused = 0; report = report under (u ++ v) }
   runs-joined u v g h =
-      joined-by size (of u) (of v) (omega arith) few (report-size (query c t) u) (report-size (query c t) v)
-      ∙ ap joinedTo (join-reports (query c t) (accepted-few p t e) u v g h)
+      joined-by (states under) (report under u) (report under v) (omega arith) few (report-size under u) (report-size under v)
+      ∙ ap joinedTo (join-reports under (accepted-few p t e) u v g h)
 
-  pub runs-assoc : (u v w : List ℕ) → isRun u ≡ true → isRun v ≡ true → isRun w ≡ true → joinResult (joinResult (of u) (of v) .report) (of w) ≡ joinResult (of u) (joinResult (of v) (of w) .report)
+  pub runs-assoc : (u v w : List ℕ) → isRun u ≡ true → isRun v ≡ true → isRun w ≡ true → joinResult (joinResult (report under u) (report under v) .report) (report under w) ≡ joinResult (report under u) (joinResult (report under v) (report under w) .report)
   runs-assoc u v w f g h =
       rw (runs-joined u v f g, runs-joined v w g h, runs-joined (u ++ v) w (run-append u v f g) h, runs-joined u (v ++ w) f (run-append v w g h), append-assoc u v w) refl
 
-  pub runs-empty-first : (w : List ℕ) → isRun w ≡ true → joinResult (emptyReport size) (of w) ≡ joinedTo (of w)
-  runs-empty-first w h = ap (λ (r : Report). joinResult r (of w)) (sym empty-report) ∙ runs-joined [] w refl h
+  pub runs-empty-left : (w : List ℕ) → isRun w ≡ true → joinResult (emptyReport (states under)) (report under w) ≡ record { refused = 0; report = report under w }
+  runs-empty-left w h = ap (λ (r : Report). joinResult r (report under w)) (sym empty-report) ∙ runs-joined [] w refl h
 
-  pub runs-empty-last : (w : List ℕ) → isRun w ≡ true → joinResult (of w) (emptyReport size) ≡ joinedTo (of w)
-  runs-empty-last w h = ap (joinResult (of w)) (sym empty-report) ∙ runs-joined w [] h refl ∙ ap (λ (v : List ℕ). joinedTo (of v)) (append-nil w)
+  pub runs-empty-right : (w : List ℕ) → isRun w ≡ true → joinResult (report under w) (emptyReport (states under)) ≡ record { refused = 0; report = report under w }
+  runs-empty-right w h = ap (joinResult (report under w)) (sym empty-report) ∙ runs-joined w [] h refl ∙ ap (λ (v : List ℕ). joinedTo (report under v)) (append-nil w)

@@ -8,7 +8,7 @@ use Rattle.reports.specs.declared.report.Report.{Report}
 use Rattle.reports.specs.Totals.{most}
 
 -- a report that keeps the rules of its fields; a set of states below s is a number below 2^s
-pub record Regular (s : ℕ) (r : Report) : Type 0 where
+pub record Canonical (s : ℕ) (r : Report) : Type 0 where
   -- "with the same s, from 3 to 32"
   pub size : r .s ≡ s
   pub least : 3 ≤ s
@@ -34,9 +34,9 @@ pub record Regular (s : ℕ) (r : Report) : Type 0 where
 
 -- "and S-4's words 0"
 pub record Proper (s : ℕ) (r : Report) : Type 0 where
-  pub regular : Regular s r
-  pub noTrimmed : r .trimmed ≡ 0
-  pub noEdges : r .edges ≡ 0
+  pub canonical : Canonical s r
+  pub trimmedZero : r .trimmed ≡ 0
+  pub edgesZero : r .edges ≡ 0
 
 -- "The report of the empty run, each state reaching itself and S-4's words 0"
 abbrev pub emptyReport : ℕ → Report

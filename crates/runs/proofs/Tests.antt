@@ -4,8 +4,8 @@ use native.Mathlib.Omega.{arith}
 use mathlib.Core.Path.{_≡_, refl, sym}
 use mathlib.Core.Logic.{_↔_, _⊎_, inl, inr, ⊎-elim}
 use mathlib.Core.Bool.{Bool, true, false, _&&_, _||_, or-true, and-eq-true-iff}
-use lib.Dec.{ltb}
-use borrow.Author.Tests.{ltb-true, ltb-false}
+use lib.Dec.{ltb, eqb}
+use borrow.Author.Tests.{ltb-true, ltb-false, eqb-true, eq-eqb}
 
 -- two constructors that are equal prove anything
 pub clash : {A : Type 0} → _≡_ {A = ℕ} 0 1 → A
@@ -54,6 +54,10 @@ pub tests-ext : (a b : Bool) → (a ≡ true → b ≡ true) → (b ≡ true →
 tests-ext true b f g = sym (f refl)
 tests-ext false true f g = g refl
 tests-ext false false f g = refl
+
+-- a test of two numbers, either way round
+pub eqb-swap : (a b : ℕ) → eqb a b ≡ eqb b a
+eqb-swap a b = tests-ext (eqb a b) (eqb b a) (λ e. eq-eqb b a (sym (eqb-true a b e))) (λ e. eq-eqb a b (sym (eqb-true b a e)))
 
 -- both parts of a test that passed
 pub and-parts : (a b : Bool) → a && b ≡ true → (a ≡ true) × (b ≡ true)

@@ -6,9 +6,9 @@ use mathlib.Core.Bool.{Bool, true, false, not, cond, _&&_, _||_, and-comm, and-f
 use mathlib.Core.List.{List, [], _∷_, _++_, append-nil}
 use lib.Dec.{eqb}
 use lib.ListN.{getD}
-use borrow.Author.Tests.{eqb-true, eq-eqb}
+use borrow.Author.Tests.{eqb-true}
 use Rattle.runs.specs.Keys.{lineEnd}
-use Rattle.runs.proofs.Tests.{tests-ext}
+use Rattle.runs.proofs.Tests.{eqb-swap}
 use Rattle.stateset.specs.Set.{bit, word, anyBelow, common}
 use Rattle.stateset.proofs.Sets.{bit-word, bit-one, bit-zero, word-ext, word-lt, word-none}
 use Rattle.stateset.proofs.Some.{any-ext, any-at, any-none}
@@ -50,15 +50,15 @@ starts t (c ∷ l) = leads-start t l c 0
 common-none : (s x : ℕ) → common s x 0 ≡ false
 common-none s x = any-none s (λ p. bit x p && bit 0 p) (λ p. rw (bit-zero p) (and-false (bit x p)))
 
+-- and none leads into it
+leads-nowhere : (s : ℕ) (a : Span) (x : Bool) (q : ℕ) → leadsInto s 0 x a q ≡ false
+leads-nowhere s a false q = common-none s (getD (a .rows) q 0)
+leads-nowhere s a true q = rw (common-none s (a .tail)) (and-false (eqb 0 q))
+
 and-swap : (a b c : Bool) → (a && (b && c)) ≡ (b && (a && c))
 and-swap true b c = refl
 and-swap false true c = refl
 and-swap false false c = refl
-
--- a test of a key, either way round
-return-test : (k : ℕ) → eqb k carriageReturn ≡ eqb carriageReturn k
-return-test k =
-    tests-ext (eqb k carriageReturn) (eqb carriageReturn k) (λ e. eq-eqb carriageReturn k (sym (eqb-true k carriageReturn e))) (λ e. eq-eqb k carriageReturn (sym (eqb-true carriageReturn k e)))
 
 edges-same : {x y : ℕ} {a b c d : Bool} → x ≡ y → a ≡ b → c ≡ d
     → _≡_ {A = Edges} (record { trimmed = x; leading = a; trailing = c }) (record { trimmed = y; leading = b; trailing = d })
@@ -143,11 +143,7 @@ module _ (t : Query) (few : atomCount (t .tree) ≤ 29) where
     -- by the first one, where the second is empty
     none-leads : (lu : List (List ℕ)) → leadsInto (states t) (edges t [] .trimmed) (spanWith t u lu .ended) (spanWith t u lu) q ≡ false
     unfolding edges
-    none-leads lu = rw (ends-none, ← word-none (states t)) (go lu)
-      where
-        go : (lu : List (List ℕ)) → leadsInto (states t) 0 (spanWith t u lu .ended) (spanWith t u lu) q ≡ false
-        go [] = common-none (states t) (getD (runRows t u) q 0)
-        go (l ∷ ls) = rw (common-none (states t) (word (states t) (leads t 0 (lastPart l ls)))) (and-false (eqb 0 q))
+    none-leads lu = rw (ends-none, ← word-none (states t)) (leads-nowhere (states t) (spanWith t u lu) (spanWith t u lu .ended) q)
 
     trims-empty : (lu : List (List ℕ)) → laterParts u ≡ lu → TrimsJoin [] lu []
     trims-empty lu e = rw (none-leads lu, empty-with [] [] later-none, with-edges t u lu, append-nil u) (trimmed-is u q h)
@@ -212,7 +208,7 @@ module _ (t : Query) (few : atomCount (t .tree) ≤ 29) where
 
     pub moved-edges : (k : ℕ) → eqb lineEnd k ≡ false → movedEdges (states t) p (span t w) k ≡ edges t (w ++ (k ∷ []))
     unfolding edges movedEdges
-    moved-edges k other = go (eqb k carriageReturn) (sym (return-test k))
+    moved-edges k other = go (eqb k carriageReturn) (eqb-swap carriageReturn k)
       where
         leading : span t w .edges .leading ≡ beginsWithEnd (w ++ (k ∷ []))
         leading = rw (span-edges t w) (sym (begins-more w k other))
@@ -253,17 +249,12 @@ module _ (t : Query) (w : List ℕ) where
 
 -- Spans without edges, of any words, are joined to one without.
 module _ (s : ℕ) (a b : Span) where
-  -- no states lead into none
-  leads-nowhere : (x : Bool) (q : ℕ) → leadsInto s 0 x a q ≡ false
-  leads-nowhere false q = common-none s (getD (a .rows) q 0)
-  leads-nowhere true q = rw (common-none s (a .tail)) (and-false (eqb 0 q))
-
   trims-nowhere : (x : Bool) → a .edges .trimmed ≡ 0 → b .edges .trimmed ≡ 0 → (q : ℕ) → trimsJoined s x a b q ≡ false
   trims-nowhere true e f q = ap (λ (y : ℕ). bit y q) f ∙ bit-zero q
   trims-nowhere false e f q =
       ap (λ (y : ℕ). leadsInto s y (a .ended) a q || (isEmpty s b && bit (a .edges .trimmed) q)) f
       ∙ ap (λ (y : ℕ). leadsInto s 0 (a .ended) a q || (isEmpty s b && bit y q)) e
-      ∙ rw (leads-nowhere (a .ended) q, bit-zero q) (and-false (isEmpty s b))
+      ∙ rw (leads-nowhere s a (a .ended) q, bit-zero q) (and-false (isEmpty s b))
 
   pub join-plain : a .edges ≡ noEdges → b .edges ≡ noEdges → joinedEdges s a b ≡ noEdges
   unfolding joinedEdges

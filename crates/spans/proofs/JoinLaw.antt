@@ -9,7 +9,7 @@ use Rattle.runs.specs.Keys.{isRun}
 use Rattle.runs.proofs.KeyLaws.{line-append}
 use Rattle.stateset.specs.Set.{bit, word, anyBelow, common}
 use Rattle.pattern.specs.Form.{atomCount}
-use Rattle.pattern.specs.Meaning.{Query, matches}
+use Rattle.pattern.specs.Meaning.{Query}
 use Rattle.pattern.specs.Moves.{states, leads, acceptedFrom}
 use Rattle.pattern.proofs.AcceptedLines.{states-match}
 use Rattle.pattern.proofs.Leading.{leads-append}

@@ -1,7 +1,7 @@
 -- Spans without edges: joined, each does to the states what the one does and then the other. It holds of any sets, not of runs alone.
 use Prim.Native.Nat.{ℕ, _<_, _≤_}
 use mathlib.Core.Path.{_≡_, refl, ap, _∙_}
-use mathlib.Core.Bool.{Bool, true, false, _&&_}
+use mathlib.Core.Bool.{Bool, false, _&&_}
 use lib.ListN.{getD}
 use Rattle.stateset.specs.Set.{bit, word, anyBelow, common}
 use Rattle.stateset.proofs.Sets.{bit-word}
@@ -27,16 +27,12 @@ abbrev pub plainEnded : ℕ → (ℕ → Bool) → (ℕ → Bool) → Span
 plainEnded s H T = endedSpan s H T noEdges
 
 module _ (s : ℕ) (few : s ≤ 32) where
-  -- the states of a word
-  kept : (X : ℕ → Bool) (p : ℕ) → p < s → bit (word s X) p ≡ X p
-  kept X p h = bit-word s X p h
-
   -- whether two words meet, and what rows lead to from a word
   meet : (X Y : ℕ → Bool) → common s (word s X) (word s Y) ≡ meeting s X Y
-  meet X Y = common-told s (word s X) X (kept X) (word s Y) Y (kept Y)
+  meet X Y = common-told s (word s X) X (bit-word s X) (word s Y) Y (bit-word s Y)
 
   lead : (X : ℕ → Bool) (Y : ℕ → ℕ → Bool) (p : ℕ) → p < s → onward s (word s X) (rowsOf s Y) p ≡ onwards s X Y p
-  lead X Y p h = onward-told s (word s X) X (kept X) Y p few h
+  lead X Y p h = onward-told s (word s X) X (bit-word s X) Y p few h
 
   -- by whether each has a line end
   joined-small : (a b : Span) → a .s ≡ s → joinedSpans a b ≡ joinedWith s (a .ended) (b .ended) a b
@@ -62,7 +58,7 @@ module _ (s : ℕ) (few : s ≤ 32) where
         (bit (word s T))
         T
         (λ q h. rw (row-of s X q h few) (meet (X q) H))
-        (kept T)
+        (bit-word s T)
         (join-plain s (plainOpen s X) (plainEnded s H T) refl refl))
 
     pub join-ending : joinedSpans (plainEnded s H T) (plainOpen s X) ≡ record { span = plainEnded s H (onwards s T X); closes = false }
@@ -74,7 +70,7 @@ module _ (s : ℕ) (few : s ≤ 32) where
         H
         (onward s (word s T) (rowsOf s X))
         (onwards s T X)
-        (kept H)
+        (bit-word s H)
         (lead T X)
         (join-plain s (plainEnded s H T) (plainOpen s X) refl refl))
 
@@ -88,6 +84,6 @@ module _ (s : ℕ) (few : s ≤ 32) where
         H
         (bit (word s S))
         S
-        (kept H)
-        (kept S)
+        (bit-word s H)
+        (bit-word s S)
         (join-plain s (plainEnded s H T) (plainEnded s G S) refl refl))

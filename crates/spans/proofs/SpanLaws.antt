@@ -1,15 +1,14 @@
 -- Laws of the span of a run: its size, of the empty run, its rows, the closed lines of a run without a line end; and of what the operations make.
 use Prim.Native.Nat.{ℕ, zero, suc, _-_, _<_, _≤_}
 use native.Mathlib.Omega.{arith}
-use mathlib.Core.Path.{_≡_, refl, sym, ap, _∙_}
+use mathlib.Core.Path.{_≡_, refl, sym, ap}
 use mathlib.Core.Bool.{Bool, true, false, cond}
 use mathlib.Core.List.{List, [], _∷_, _++_}
-use lib.Dec.{ltb, eqb}
+use lib.Dec.{eqb}
 use lib.ListN.{length, getD, take, replicate}
 use Rattle.runs.specs.Keys.{lineEnd}
 use Rattle.runs.proofs.KeptLaws.{zeros-at}
 use Rattle.runs.proofs.Tests.{torn}
-use Rattle.stateset.specs.Set.{word}
 use Rattle.stateset.proofs.Sets.{word-ext}
 use Rattle.pattern.specs.Meaning.{Query}
 use Rattle.pattern.specs.Form.{atomCount}

@@ -3,12 +3,12 @@ use Prim.Native.Nat.{ℕ, zero, suc, _<_, _≤_}
 use native.Mathlib.Omega.{arith}
 use native.Mathlib.Decide.{le-ind}
 use mathlib.Core.Path.{_≡_, refl, sym, ap, _∙_}
-use mathlib.Core.Logic.{_↔_, _⊎_, ⊎-elim}
+use mathlib.Core.Logic.{_↔_, ⊎-elim}
 use mathlib.Core.Bool.{Bool, true, false, _&&_, _||_, and-comm, or-false, false≢true}
 use lib.Dec.{ltb, eqb}
 use borrow.Author.Tests.{ltb-true, ltb-false, eqb-true, eq-eqb}
 use Rattle.stateset.specs.Set.{anyBelow}
-use Rattle.runs.proofs.Tests.{and-both, and-fst, and-snd, or-cases, or-left, torn, or-right, tests-ext}
+use Rattle.runs.proofs.Tests.{and-both, and-fst, and-snd, or-cases, or-left, torn, or-right, tests-ext, eqb-swap}
 
 -- a number below n that has X
 pub record Witness (n : ℕ) (X : ℕ → Bool) : Type 0 where
@@ -133,10 +133,7 @@ any-at n q Z h = tests-ext _ _ forth (λ z. any-some n q (λ p. eqb q p && Z p) 
 
 -- and the other way round
 pub any-to : (n q : ℕ) (Z : ℕ → Bool) → q < n → anyBelow n (λ p. Z p && eqb p q) ≡ Z q
-any-to n q Z h = any-ext n (λ p. Z p && eqb p q) (λ p. eqb q p && Z p) (λ p l. rw (swap p) (and-comm (Z p) (eqb q p))) ∙ any-at n q Z h
-  where
-    swap : (p : ℕ) → eqb p q ≡ eqb q p
-    swap p = tests-ext (eqb p q) (eqb q p) (λ e. eq-eqb q p (sym (eqb-true p q e))) (λ e. eq-eqb p q (sym (eqb-true q p e)))
+any-to n q Z h = any-ext n (λ p. Z p && eqb p q) (λ p. eqb q p && Z p) (λ p l. rw (eqb-swap p q) (and-comm (Z p) (eqb q p))) ∙ any-at n q Z h
 
 -- a test that does not speak of the number
 pub any-and : (n : ℕ) (X : ℕ → Bool) (y : Bool) → (anyBelow n X && y) ≡ anyBelow n (λ k. X k && y)
