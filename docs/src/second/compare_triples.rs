@@ -6,11 +6,9 @@ use crate::make_triple;
 use crate::tally::Tally;
 use crate::triple::Triple;
 
-/// One seeded triple for so many seeded cases.
-const SHARE: u64 = 4;
-
+/// As many seeded triples as seeded cases.
 pub fn compare(program: &str, seed: u64, count: u64) -> Result<Tally, String> {
-    group::compare(program, triples(seed, count / SHARE))
+    group::compare(program, triples(seed, count))
 }
 
 /// The fixed ones, and behind them the seeded ones.
