@@ -107,7 +107,7 @@ module _ {ms ns : List Macro} {m j : ℕ} {xs ys zs : List Item} (r : Regrouped 
 
   -- Then every macro has the run that it had.
   module _ (sound : wellFormed ns ≡ true) where
-    -- the runs before, and those of the raised numbers now
+    -- the runs before, and now
     abbrev was : ℕ → List ℕ
     was i = expansion ms i
 
