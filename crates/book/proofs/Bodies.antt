@@ -8,13 +8,13 @@ use lib.ListN.{length, getD, replicate, List·getD-append}
 use borrow.Author.Tests.{lt-ltb, le-ltb, le-leb, lt-leb}
 use Rattle.refusal.specs.declared.Refusal.{Refusal}
 use Rattle.refusal.specs.Number.{number}
-use Rattle.book.specs.Format.{Macro, width}
+use Rattle.book.specs.Format.{Macro, versions, width}
 use Rattle.book.specs.Offset.{size, starts, offset, bodyPart}
 use Rattle.book.specs.MacroItems.{itemsStart, itemsEnd, placed, between, partFrom, partAt}
-use Rattle.book.specs.Reading.{Reading, got, refused, macrosIn}
+use Rattle.book.specs.Reading.{Reading, got, refused, macrosIn, versionIn}
 use Rattle.book.specs.Answer.{layout, bodyOf, bodyAt, refusalOf}
 use Rattle.book.proofs.Offsets.{starts-length, book-offsets, book-end}
-use Rattle.book.proofs.LayoutLaws.{read-in}
+use Rattle.book.proofs.LayoutLaws.{read-in, read-with}
 
 -- The ways out of `part_of`: three without a place, and the part itself.
 module _ (b offsets : List ℕ) (i : ℕ) where
@@ -43,8 +43,8 @@ module _ (b offsets : List ℕ) (i : ℕ) where
 -- what a book's layout says of its macro i
 pub record PartOffsets (b offsets : List ℕ) (i : ℕ) : Type 0 where
   pub few : i < 1024
-  pub from : getD offsets i 0 ≡ offset (macrosIn b) i
-  pub to : itemsEnd offsets i ≡ getD offsets i 0 + size (getD (macrosIn b) i [])
+  pub from : getD offsets i 0 ≡ offset (versionIn b) (macrosIn b) i
+  pub to : itemsEnd offsets i ≡ getD offsets i 0 + size (width (versionIn b)) (getD (macrosIn b) i [])
   pub fits : itemsEnd offsets i ≤ length b
 
 module _ (b : List ℕ) (i : ℕ) (h : i < length (macrosIn b)) where
@@ -54,16 +54,16 @@ module _ (b : List ℕ) (i : ℕ) (h : i < length (macrosIn b)) where
       let ms = macrosIn b in
       let table = layout b .offsets in
       let (rest, e) = read-in b h in
-      let (end, none, some, most) = book-end b ms rest e in
-      let (step, fits) = book-offsets b ms rest e i h in
-      let known : table ≡ starts 7 ms ++ replicate (1024 - length ms) 0 = rw e in
-      let at : (j : ℕ) → j < length (starts 7 ms) → getD table j 0 ≡ offset ms j = λ j l. rw known (List·getD-append (starts 7 ms) _ 0 j l) in
-      let here : getD table i 0 ≡ offset ms i = at i (rw starts-length (omega arith)) in
-      let there : itemsEnd table i ≡ offset ms (i + 1) = at (i + 1) (rw starts-length (omega arith)) in
+      let (end, none, some, most) = book-end versions b ms rest (read-with b e) in
+      let (step, fits) = book-offsets versions b ms rest (read-with b e) i h in
+      let known : table ≡ starts (width (versionIn b)) 7 ms ++ replicate (1024 - length ms) 0 = rw e in
+      let at : (j : ℕ) → j < length (starts (width (versionIn b)) 7 ms) → getD table j 0 ≡ offset (versionIn b) ms j = λ j l. rw known (List·getD-append (starts (width (versionIn b)) 7 ms) _ 0 j l) in
+      let here : getD table i 0 ≡ offset (versionIn b) ms i = at i (rw starts-length (omega arith)) in
+      let there : itemsEnd table i ≡ offset (versionIn b) ms (i + 1) = at (i + 1) (rw starts-length (omega arith)) in
       record {
         few = omega arith;
         from = here;
-        to = there ∙ step ∙ ap (λ (x : ℕ). x + size (getD ms i [])) (sym here);
+        to = there ∙ step ∙ ap (λ (x : ℕ). x + size (width (versionIn b)) (getD ms i [])) (sym here);
         fits = rw there fits;
       }
 
@@ -73,23 +73,23 @@ module _ (b : List ℕ) (i : ℕ) (h : i < length (macrosIn b)) where
       part-placed b (layout b .offsets) i (p .few) (omega (arith, p .to)) (p .fits)
 
   -- the layout leads to its body
-  pub part-is : partFrom b (layout b .offsets) i ≡ bodyPart b (macrosIn b) i
+  pub part-is : partFrom b (layout b .offsets) i ≡ bodyPart (versionIn b) b (macrosIn b) i
   part-is =
       let p = part-offsets in
       let table = layout b .offsets in
-      let long : itemsEnd table i - itemsStart table i ≡ width * length (getD (macrosIn b) i []) = omega (arith, p .to) in
+      let long : itemsEnd table i - itemsStart table i ≡ width (versionIn b) * length (getD (macrosIn b) i []) = omega (arith, p .to) in
       sym (some-part b table i (0, 0) has-part .0) ∙ rw (long, p .from)
 
-  pub part-at : (q : ℕ × ℕ) → partAt q b (layout b .offsets) i ≡ (q .0, offset (macrosIn b) i + 2 + q .1)
+  pub part-at : (q : ℕ × ℕ) → partAt q b (layout b .offsets) i ≡ (q .0, offset (versionIn b) (macrosIn b) i + 2 + q .1)
   part-at q =
       sym (some-part b (layout b .offsets) i q has-part .1)
       ∙ ap (λ (x : ℕ). (q .0, x + 2 + q .1)) (part-offsets .from)
 
 -- the two results of a body
 module _ (b : List ℕ) (at : ℕ × ℕ) (m : ℕ) (g : Reading (List Macro)) where
-  pub body-none : (r : Refusal) (q : ℕ) → g ≡ refused r → q ≡ number r → ([] ≡ bodyOf b m g) × ((at ≡ bodyAt at m g) × (q ≡ refusalOf g))
+  pub body-none : (r : Refusal) (q : ℕ) → g ≡ refused r → q ≡ number r → ([] ≡ bodyOf b m g) × ((at ≡ bodyAt at (versionIn b) m g) × (q ≡ refusalOf g))
   body-none r q e f = (rw e, (rw e, rw e f))
 
   module _ (ms : List Macro) (rest : List ℕ) (e : g ≡ got ms rest) (p : List ℕ) (there : ℕ × ℕ) where
-    pub body-some : p ≡ bodyPart b ms m → there ≡ (at .0, offset ms m + 2 + at .1) → (p ≡ bodyOf b m g) × ((there ≡ bodyAt at m g) × (0 ≡ refusalOf g))
+    pub body-some : p ≡ bodyPart (versionIn b) b ms m → there ≡ (at .0, offset (versionIn b) ms m + 2 + at .1) → (p ≡ bodyOf b m g) × ((there ≡ bodyAt at (versionIn b) m g) × (0 ≡ refusalOf g))
     body-some f h = (rw e f, (rw e h, rw e))

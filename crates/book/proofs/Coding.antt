@@ -1,54 +1,57 @@
--- Reading and encoding undo one another: a book is sound exactly if it is the encoding of well-formed macros.
+-- Reading and encoding undo one another, in each version: a book is sound exactly if it is the encoding of well-formed macros.
 use Prim.Native.Nat.{ℕ, zero, suc, _+_, _-_, _*_, _/_, _%_, _<_, _≤_}
 use native.Mathlib.Omega.{arith}
-use mathlib.Core.Path.{_≡_, refl, sym, _∙_}
+use mathlib.Core.Path.{_≡_, refl, sym, ap, _∙_}
 use mathlib.Core.Logic.{_↔_}
 use mathlib.Core.Bool.{Bool, true, false, _&&_, cond, and-eq-true-iff}
 use mathlib.Core.List.{List, [], _∷_, _++_, append-assoc, append-nil}
-use lib.Dec.{leb, ltb}
-use lib.ListN.{length, drop, getD, length-drop}
+use lib.Dec.{leb, ltb, eqb}
+use lib.ListN.{length, drop, getD, length-drop, length-append}
 use lib.Seq.{drop-drop, getD-drop, take-at}
-use borrow.Author.Tests.{ltb-true, ltb-false, leb-true, eqb-true, lt-ltb, le-ltb, le-leb, ne-eqb}
+use borrow.Author.Tests.{ltb-true, ltb-false, leb-true, eqb-true, lt-ltb, le-ltb, le-leb, ne-eqb, eq-eqb}
+use Rattle.refusal.specs.declared.Refusal.the-variants.{UnsupportedVersion}
 use Rattle.book.specs.declared.item.Item.{Item}
 use Rattle.book.specs.declared.item.Item.the-variants.{Key, Call}
-use Rattle.book.specs.Reading.{got, itemOf, le16, readItem, readItems, readMacro, readMacros, hasMagic, readHeader, readAll, readBook}
-use Rattle.book.specs.Format.{Sound, Macro, le16Bytes, code, magic, encodeItems, encodeMacros, encode, soundItem, soundItems, soundMacro, soundMacros, wellFormed, width}
+use Rattle.book.specs.Reading.{got, refused, next, itemOf, le16, timesIn, checkItem, readItem, readItems, readMacro, readMacros, hasMagic, readHeader, versionIn, readAll, readIn, readBook}
+use Rattle.book.specs.Format.{SoundIn, Sound, versions, Repeated, repeated, Macro, le16Bytes, code, magic, encodeItem, encodeItems, encodeMacros, encode, soundTarget, soundItem, soundItems, soundMacro, soundMacros, wellFormed, itemFits, itemsFit, fits, width}
 use Rattle.book.specs.Offset.{size, offset, bodyPart}
-use Rattle.book.proofs.Readings.{more-got}
+use Rattle.book.proofs.Items.{width-least, width-one, width-other}
+use Rattle.book.proofs.Readings.{more-got, same-got}
 use Rattle.book.proofs.Walks.{item-got}
-use Rattle.book.proofs.Offsets.{items-got, macro-parts, item-is, macro-got, whole, book-at}
-use Rattle.runs.specs.Keys.{Bytes}
+use Rattle.book.proofs.Offsets.{items-got, macro-parts, frontItem, item-is, macro-got, whole, version-there, book-at}
+use Rattle.runs.specs.Keys.{Bytes, member}
+use Rattle.runs.proofs.Tests.{and-both, and-parts, by-test}
 
 -- items that were read are sound
-items-sound : (n k : ℕ) (b rest : List ℕ) (is : List Item) → readItems n k b ≡ got is rest → soundItems n is ≡ true
+items-sound : (version n k : ℕ) (b rest : List ℕ) (is : Macro) → readItems version n k b ≡ got is rest → soundItems n is ≡ true
 unfolding readItems soundItems
-items-sound n zero b rest is e = let none : is ≡ [] = cc in rw none
-items-sound n (suc k) b rest is e =
-    let (i, js, mid, same, one, others) = more-got (readItem n b) (readItems n k) is rest e in
-    rw (same, item-is n b mid i one .1) (items-sound n k mid rest js others)
+items-sound version n zero b rest is e = let none : is ≡ [] = cc in rw none
+items-sound version n (suc k) b rest is e =
+    let (i, js, mid, same, one, others) = more-got (readItem version n b) (readItems version n k) is rest e in
+    rw (same, item-is version n b mid i one .1) (items-sound version n k mid rest js others)
 
 -- a macro that was read is sound
-macro-sound : (n : ℕ) (b rest : List ℕ) (m : Macro) → readMacro n b ≡ got m rest → soundMacro n m ≡ true
+macro-sound : (version n : ℕ) (b rest : List ℕ) (m : Macro) → readMacro version n b ≡ got m rest → soundMacro n m ≡ true
 unfolding soundMacro
-macro-sound n b rest m e =
-    let (two, low, high, items) = macro-parts n b rest m e in
-    let (count, last, fits) = items-got n (le16 b) (drop 2 b) rest m items in
-    rw (count, le-leb _ _ low, le-leb _ _ high) (items-sound n (le16 b) (drop 2 b) rest m items)
+macro-sound version n b rest m e =
+    let (two, low, high, items) = macro-parts version n b rest m e in
+    let (count, last, room) = items-got version n (le16 b) (drop 2 b) rest m items in
+    rw (count, le-leb _ _ low, le-leb _ _ high) (items-sound version n (le16 b) (drop 2 b) rest m items)
 
 -- and so are macros
-macros-sound : (n k : ℕ) (b rest : List ℕ) (ms : List Macro) → readMacros n k b ≡ got ms rest → soundMacros n ms ≡ true
+macros-sound : (version n k : ℕ) (b rest : List ℕ) (ms : List Macro) → readMacros version n k b ≡ got ms rest → soundMacros n ms ≡ true
 unfolding readMacros soundMacros
-macros-sound n zero b rest ms e = let none : ms ≡ [] = cc in rw none
-macros-sound n (suc k) b rest ms e =
-    let (m, ns, mid, same, one, others) = more-got (readMacro n b) (readMacros (suc n) k) ms rest e in
-    rw (same, macro-sound n b mid m one) (macros-sound (suc n) k mid rest ns others)
+macros-sound version n zero b rest ms e = let none : ms ≡ [] = cc in rw none
+macros-sound version n (suc k) b rest ms e =
+    let (m, ns, mid, same, one, others) = more-got (readMacro version n b) (readMacros version (suc n) k) ms rest e in
+    rw (same, macro-sound version n b mid m one) (macros-sound version (suc n) k mid rest ns others)
 
 -- the macros of a book that was read are well-formed
-pub read-well : (b : List ℕ) (ms : List Macro) (rest : List ℕ) → readBook b ≡ got ms rest → wellFormed ms ≡ true
+pub read-well : (taken b : List ℕ) (ms : List Macro) (rest : List ℕ) → readIn taken b ≡ got ms rest → wellFormed ms ≡ true
 unfolding wellFormed
-read-well b ms rest e =
-    let w = whole b ms rest e in
-    rw (le-leb _ _ (w .some), le-leb _ _ (w .few)) (macros-sound 0 (length ms) (drop 7 b) [] ms (w .macros))
+read-well taken b ms rest e =
+    let w = whole taken b ms rest e in
+    rw (le-leb _ _ (w .some), le-leb _ _ (w .few)) (macros-sound (versionIn b) 0 (length ms) (drop 7 b) [] ms (w .macros))
 
 -- a part of some bytes is bytes
 bytes-drop : (k : ℕ) (b : List ℕ) → Bytes b → Bytes (drop k b)
@@ -78,32 +81,62 @@ code-item c = go (ltb c 256) refl
     go true h = refl
     go false h = omega (arith, ltb-false c 256 h)
 
--- items that were read and what is left, written again
-items-encode : (n k : ℕ) (b rest : List ℕ) (is : List Item) → Bytes b → readItems n k b ≡ got is rest → encodeItems is ++ rest ≡ b
-unfolding readItems encodeItems
-items-encode n zero b rest is h e = let none : is ≡ [] = cc in rw none (cc)
-items-encode n (suc k) b rest is h e =
-    let (i, js, mid, same, one, others) = more-got (readItem n b) (readItems n k) is rest e in
-    let (there, room) = item-got n b mid i one in
-    let item : code i ≡ le16 b = rw (← item-is n b mid i one .0) (code-item (le16 b)) in
-    let byte : Bytes mid = rw there (bytes-drop width b h) in
-    rw (same, items-encode n k mid rest js byte others, item, there) (word-number b h room)
+-- a number of two bytes
+le16-small : (b : List ℕ) → Bytes b → le16 b ≤ 65535
+le16-small b h = omega (arith, h 0, h 1)
+
+-- The item at the front of some bytes: it can be written in their version, and is then these bytes again.
+module _ (b : List ℕ) (h : Bytes b) (version : ℕ) where
+  front-fits : itemFits version (frontItem version b) ≡ true
+  unfolding itemFits timesIn
+  front-fits = go (eqb version 1)
+    where
+      go : (t : Bool) → cond t (eqb (cond t 1 (le16 (drop 2 b))) 1) (leb (cond t 1 (le16 (drop 2 b))) 65535) ≡ true
+      go true = refl
+      go false = le-leb _ _ (le16-small (drop 2 b) (bytes-drop 2 b h))
+
+  front-encode : width version ≤ length b → encodeItem version (frontItem version b) ++ drop (width version) b ≡ b
+  unfolding encodeItem timesIn width
+  front-encode = rw (code-item (le16 b)) (go (eqb version 1))
+    where
+      go : (t : Bool) → cond t 2 4 ≤ length b → (le16Bytes (le16 b) ++ cond t [] (le16Bytes (cond t 1 (le16 (drop 2 b))))) ++ drop (cond t 2 4) b ≡ b
+      go true l = word-number b h l
+      go false l =
+          let two : 2 ≤ length b = omega arith in
+          let more : 2 ≤ length (drop 2 b) = rw length-drop (omega arith) in
+          let rest : le16Bytes (le16 (drop 2 b)) ++ drop 4 b ≡ drop 2 b = ap (λ (l : List ℕ). le16Bytes (le16 (drop 2 b)) ++ l) (sym (drop-drop 2 2 b)) ∙ word-number (drop 2 b) (bytes-drop 2 b h) more in
+          ap (λ (l : List ℕ). le16Bytes (le16 b) ++ l) rest ∙ word-number b h two
+
+-- items that were read can be written in the version; and they and what is left, written again
+items-encode : (version n k : ℕ) (b rest : List ℕ) (is : Macro) → Bytes b → readItems version n k b ≡ got is rest → (itemsFit version is ≡ true) × (encodeItems version is ++ rest ≡ b)
+unfolding readItems encodeItems itemsFit
+items-encode version n zero b rest is h e = let none : is ≡ [] = cc in rw none (refl, cc)
+items-encode version n (suc k) b rest is h e =
+    let (i, js, mid, same, one, others) = more-got (readItem version n b) (readItems version n k) is rest e in
+    let (there, room) = item-got version n b mid i one in
+    let item = item-is version n b mid i one .0 in
+    let byte : Bytes mid = rw there (bytes-drop (width version) b h) in
+    let (fit, more) = items-encode version n k mid rest js byte others in
+    (rw same (and-both (itemFits version i) (itemsFit version js) (rw (← item) (front-fits b h version)) fit), rw (same, append-assoc (encodeItem version i) (encodeItems version js) rest, more, ← item, there) (front-encode b h version room))
 
 -- and so for a macro
-macro-encode : (n : ℕ) (b rest : List ℕ) (m : Macro) → Bytes b → readMacro n b ≡ got m rest → le16Bytes (length m) ++ (encodeItems m ++ rest) ≡ b
-macro-encode n b rest m h e =
-    let (two, low, high, items) = macro-parts n b rest m e in
-    let (count, last, fits) = items-got n (le16 b) (drop 2 b) rest m items in
-    rw (count, items-encode n (le16 b) (drop 2 b) rest m (bytes-drop 2 b h) items) (word-number b h two)
+macro-encode : (version n : ℕ) (b rest : List ℕ) (m : Macro) → Bytes b → readMacro version n b ≡ got m rest → (itemsFit version m ≡ true) × (le16Bytes (length m) ++ (encodeItems version m ++ rest) ≡ b)
+macro-encode version n b rest m h e =
+    let (two, low, high, items) = macro-parts version n b rest m e in
+    let (count, last, room) = items-got version n (le16 b) (drop 2 b) rest m items in
+    let (fit, same) = items-encode version n (le16 b) (drop 2 b) rest m (bytes-drop 2 b h) items in
+    (fit, rw (count, same) (word-number b h two))
 
 -- and for macros
-macros-encode : (n k : ℕ) (b rest : List ℕ) (ms : List Macro) → Bytes b → readMacros n k b ≡ got ms rest → encodeMacros ms ++ rest ≡ b
-unfolding readMacros encodeMacros
-macros-encode n zero b rest ms h e = let none : ms ≡ [] = cc in rw none (cc)
-macros-encode n (suc k) b rest ms h e =
-    let (m, ns, mid, same, one, others) = more-got (readMacro n b) (readMacros (suc n) k) ms rest e in
-    let byte : Bytes mid = rw (macro-got n b mid m one .0) (bytes-drop (size m) b h) in
-    rw (same, append-assoc (encodeItems m) (encodeMacros ns) rest, macros-encode (suc n) k mid rest ns byte others) (macro-encode n b mid m h one)
+macros-encode : (version n k : ℕ) (b rest : List ℕ) (ms : List Macro) → Bytes b → readMacros version n k b ≡ got ms rest → (fits version ms ≡ true) × (encodeMacros version ms ++ rest ≡ b)
+unfolding readMacros encodeMacros fits
+macros-encode version n zero b rest ms h e = let none : ms ≡ [] = cc in rw none (refl, cc)
+macros-encode version n (suc k) b rest ms h e =
+    let (m, ns, mid, same, one, others) = more-got (readMacro version n b) (readMacros version (suc n) k) ms rest e in
+    let byte : Bytes mid = rw (macro-got version n b mid m one .0) (bytes-drop (size (width version) m) b h) in
+    let (fit, this) = macro-encode version n b mid m h one in
+    let (more, behind) = macros-encode version (suc n) k mid rest ns byte others in
+    (rw same (and-both (itemsFit version m) (fits version ns) fit more), rw (same, append-assoc (encodeItems version m) (encodeMacros version ns) rest, behind) this)
 
 -- the mark is the first three bytes
 mark-front : (b : List ℕ) → 3 ≤ length b → hasMagic b ≡ true → b ≡ magic ++ drop 3 b
@@ -115,16 +148,23 @@ mark-front (x ∷ y ∷ z ∷ b) l h =
     let (r, s) = and-eq-true-iff _ _ .0 q in
     rw (eqb-true x 0x4D p, eqb-true y 0x42 r, eqb-true z 0x4B s)
 
--- a book that was read is the encoding of its macros
-pub read-encode : (b : List ℕ) → Bytes b → (ms : List Macro) (rest : List ℕ) → readBook b ≡ got ms rest → b ≡ encode ms
-unfolding encode
-read-encode b h ms rest e =
-    let w = whole b ms rest e in
-    let long : 7 ≤ length b = w .long in
-    let version : drop 3 b ≡ le16Bytes 1 ++ drop 5 b = rw (w .version) at (word-at b h 3 (omega arith)) in
-    let count : drop 5 b ≡ le16Bytes (length ms) ++ drop 7 b = rw (w .count) at (word-at b h 5 (omega arith)) in
-    let all : encodeMacros ms ++ [] ≡ drop 7 b = macros-encode 0 (length ms) (drop 7 b) [] ms (bytes-drop 7 b h) (w .macros) in
-    mark-front b (omega arith) (w .magic) ∙ rw (version, count, ← all, append-nil)
+-- a book that was read is the encoding of its macros in its version
+module _ (taken b : List ℕ) (h : Bytes b) (ms : List Macro) (rest : List ℕ) (e : readIn taken b ≡ got ms rest) where
+  all-encoded : (fits (versionIn b) ms ≡ true) × (encodeMacros (versionIn b) ms ++ [] ≡ drop 7 b)
+  all-encoded = macros-encode (versionIn b) 0 (length ms) (drop 7 b) [] ms (bytes-drop 7 b h) (whole taken b ms rest e .macros)
+
+  pub read-fits : fits (versionIn b) ms ≡ true
+  read-fits = all-encoded .0
+
+  pub read-encode : b ≡ encode (versionIn b) ms
+  unfolding encode
+  read-encode =
+      let w = whole taken b ms rest e in
+      let long : 7 ≤ length b = w .long in
+      let version : drop 3 b ≡ le16Bytes (versionIn b) ++ drop 5 b = rw (w .version) at (word-at b h 3 (omega arith)) in
+      let count : drop 5 b ≡ le16Bytes (length ms) ++ drop 7 b = rw (w .count) at (word-at b h 5 (omega arith)) in
+      let all : encodeMacros (versionIn b) ms ++ [] ≡ drop 7 b = all-encoded .1 in
+      mark-front b (omega arith) (w .magic) ∙ ap (λ (l : List ℕ). magic ++ l) (version ∙ ap (λ (l : List ℕ). le16Bytes (versionIn b) ++ l) (count ∙ ap (λ (l : List ℕ). le16Bytes (length ms) ++ l) (sym all ∙ append-nil (encodeMacros (versionIn b) ms))))
 
 -- a count that was tested, and what was tested with it
 between : (k n : ℕ) (c : Bool) → leb 1 k && (leb k n && c) ≡ true → (1 ≤ k) × (k ≤ n) × (c ≡ true)
@@ -137,65 +177,171 @@ between k n c h =
 number-word : (c : ℕ) → c % 256 + 256 * (c / 256) ≡ c
 number-word c = omega arith
 
--- an item that was written is read again
-item-read : (n : ℕ) (i : Item) (rest : List ℕ) → soundItem n i ≡ true → readItem n (le16Bytes (code i) ++ rest) ≡ got i rest
-unfolding soundItem readItem
-item-read n (Key k) rest h =
-    let long : width ≤ length (le16Bytes k ++ rest) = omega arith in
-    let (low, high) = and-eq-true-iff (leb 1 k) (leb k 255) .0 h in
-    let some : k ≡ 0 → ⊥ = omega (arith, leb-true 1 k low) in
-    let small : k < 256 = omega (arith, leb-true k 255 high) in
-    rw (le-ltb _ _ long, number-word k, lt-ltb _ _ small, ne-eqb _ _ some)
-item-read n (Call j) rest h =
-    let long : width ≤ length (le16Bytes (256 + j) ++ rest) = omega arith in
-    let large : 256 ≤ 256 + j = omega arith in
-    let less : 256 + j - 256 ≡ j = omega arith in
-    rw (le-ltb _ _ long, number-word (256 + j), le-ltb _ _ large, less, h)
+-- an item whose numbers the bytes show is read
+module _ (version n : ℕ) (i : Repeated) (h : soundItem n i ≡ true) where
+  target-read : (rest : List ℕ) → checkItem n (itemOf (code (i .item))) (i .times) rest ≡ got i rest
+  unfolding soundItem soundTarget
+  target-read rest = go (i .item) (and-parts (soundTarget n (i .item)) (leb 1 (i .times)) h .0)
+    where
+      some : eqb (i .times) 0 ≡ false
+      some =
+          let low : 1 ≤ i .times = leb-true 1 (i .times) (and-parts (soundTarget n (i .item)) (leb 1 (i .times)) h .1) in
+          let no : i .times ≡ 0 → ⊥ = omega arith in
+          ne-eqb _ _ no
+
+      go : (x : Item) → soundTarget n x ≡ true → checkItem n (itemOf (code x)) (i .times) rest ≡ got (repeated x (i .times)) rest
+      go (Key k) s =
+          let (low, high) = and-parts (leb 1 k) (leb k 255) s in
+          let none : k ≡ 0 → ⊥ = omega (arith, leb-true 1 k low) in
+          let small : k < 256 = omega (arith, leb-true k 255 high) in
+          rw (lt-ltb _ _ small, ne-eqb _ _ none, some)
+      go (Call j) s =
+          let large : 256 ≤ 256 + j = omega arith in
+          let less : 256 + j - 256 ≡ j = omega arith in
+          rw (le-ltb _ _ large, less, s, some)
+
+  shown-read : (b rest : List ℕ) → width version ≤ length b → le16 b ≡ code (i .item) → timesIn version b ≡ i .times → drop (width version) b ≡ rest → readItem version n b ≡ got i rest
+  unfolding readItem
+  shown-read b rest long same often behind = rw (le-ltb _ _ long, same, often, behind) (target-read rest)
+
+  -- so one that was written is read again
+  module _ (f : itemFits version i ≡ true) (rest : List ℕ) where
+    written-long : width version ≤ length (encodeItem version i ++ rest)
+    unfolding encodeItem width
+    written-long = go (eqb version 1)
+      where
+        go : (t : Bool) → cond t 2 4 ≤ length ((le16Bytes (code (i .item)) ++ cond t [] (le16Bytes (i .times))) ++ rest)
+        go true = omega arith
+        go false = omega arith
+
+    written-code : le16 (encodeItem version i ++ rest) ≡ code (i .item)
+    unfolding encodeItem
+    written-code = number-word (code (i .item))
+
+    written-times : timesIn version (encodeItem version i ++ rest) ≡ i .times
+    unfolding encodeItem timesIn itemFits
+    written-times = go (eqb version 1) f
+      where
+        go : (t : Bool) → cond t (eqb (i .times) 1) (leb (i .times) 65535) ≡ true → cond t 1 (le16 (drop 2 ((le16Bytes (code (i .item)) ++ cond t [] (le16Bytes (i .times))) ++ rest))) ≡ i .times
+        go true e = sym (eqb-true (i .times) 1 e)
+        go false e = number-word (i .times)
+
+    written-rest : drop (width version) (encodeItem version i ++ rest) ≡ rest
+    unfolding encodeItem width
+    written-rest = go (eqb version 1)
+      where
+        go : (t : Bool) → drop (cond t 2 4) ((le16Bytes (code (i .item)) ++ cond t [] (le16Bytes (i .times))) ++ rest) ≡ rest
+        go true = refl
+        go false = refl
+
+    item-read : readItem version n (encodeItem version i ++ rest) ≡ got i rest
+    item-read = shown-read (encodeItem version i ++ rest) rest written-long written-code written-times written-rest
 
 -- and so are items
-items-read : (n : ℕ) (is : List Item) (rest : List ℕ) → soundItems n is ≡ true → readItems n (length is) (encodeItems is ++ rest) ≡ got is rest
-unfolding soundItems readItems encodeItems
-items-read n [] rest h = refl
-items-read n (i ∷ is) rest h =
-    let (one, others) = and-eq-true-iff _ _ .0 h in
-    rw (item-read n i (encodeItems is ++ rest) one, items-read n is rest others)
+items-read : (version n : ℕ) (is : Macro) (rest : List ℕ) → soundItems n is ≡ true → itemsFit version is ≡ true → readItems version n (length is) (encodeItems version is ++ rest) ≡ got is rest
+unfolding soundItems readItems encodeItems itemsFit
+items-read version n [] rest h f = refl
+items-read version n (i ∷ is) rest h f =
+    let (one, others) = and-parts (soundItem n i) (soundItems n is) h in
+    let (fit, more) = and-parts (itemFits version i) (itemsFit version is) f in
+    rw (append-assoc (encodeItem version i) (encodeItems version is) rest, item-read version n i one fit (encodeItems version is ++ rest), items-read version n is rest others more)
 
 -- and a macro
-macro-read : (n : ℕ) (m : Macro) (rest : List ℕ) → soundMacro n m ≡ true → readMacro n (le16Bytes (length m) ++ (encodeItems m ++ rest)) ≡ got m rest
+macro-read : (version n : ℕ) (m : Macro) (rest : List ℕ) → soundMacro n m ≡ true → itemsFit version m ≡ true → readMacro version n (le16Bytes (length m) ++ (encodeItems version m ++ rest)) ≡ got m rest
 unfolding soundMacro readMacro
-macro-read n m rest h =
+macro-read version n m rest h f =
     let (low, high, items) = between (length m) 64 (soundItems n m) h in
-    let long : 2 ≤ length (le16Bytes (length m) ++ (encodeItems m ++ rest)) = omega arith in
-    rw (le-ltb _ _ long, number-word (length m), le-leb _ _ low, le-leb _ _ high) (items-read n m rest items)
+    let long : 2 ≤ length (le16Bytes (length m) ++ (encodeItems version m ++ rest)) = omega arith in
+    rw (le-ltb _ _ long, number-word (length m), le-leb _ _ low, le-leb _ _ high) (items-read version n m rest items f)
 
 -- and macros
-macros-read : (n : ℕ) (ms : List Macro) (rest : List ℕ) → soundMacros n ms ≡ true → readMacros n (length ms) (encodeMacros ms ++ rest) ≡ got ms rest
-unfolding soundMacros readMacros encodeMacros
-macros-read n [] rest h = refl
-macros-read n (m ∷ ms) rest h =
-    let (one, others) = and-eq-true-iff _ _ .0 h in
-    rw (append-assoc (encodeItems m) (encodeMacros ms) rest, macro-read n m (encodeMacros ms ++ rest) one, macros-read (suc n) ms rest others)
+macros-read : (version n : ℕ) (ms : List Macro) (rest : List ℕ) → soundMacros n ms ≡ true → fits version ms ≡ true → readMacros version n (length ms) (encodeMacros version ms ++ rest) ≡ got ms rest
+unfolding soundMacros readMacros encodeMacros fits
+macros-read version n [] rest h f = refl
+macros-read version n (m ∷ ms) rest h f =
+    let (one, others) = and-parts (soundMacro n m) (soundMacros (suc n) ms) h in
+    let (fit, more) = and-parts (itemsFit version m) (fits version ms) f in
+    rw (append-assoc (encodeItems version m) (encodeMacros version ms) rest, macro-read version n m (encodeMacros version ms ++ rest) one fit, macros-read version (suc n) ms rest others more)
 
--- the encoding of well-formed macros is read as these macros
-pub encode-read : (ms : List Macro) → wellFormed ms ≡ true → readBook (encode ms) ≡ got ms []
-unfolding wellFormed encode readBook readHeader readAll
-encode-read ms h =
+-- the version that an encoding gives
+pub encode-version : (version : ℕ) (ms : List Macro) → versionIn (encode version ms) ≡ version
+unfolding encode versionIn
+encode-version version ms =
+    let long : 5 ≤ length (encode version ms) = omega arith in
+    rw (le-ltb _ _ long) (number-word version)
+
+-- the encoding of well-formed macros is read as these macros, wherever its version is taken
+pub encode-read : (taken : List ℕ) (version : ℕ) → member version taken ≡ true → (ms : List Macro) → wellFormed ms ≡ true → fits version ms ≡ true → readIn taken (encode version ms) ≡ got ms []
+unfolding wellFormed readIn readAll readHeader encode
+encode-read taken version known ms h f = rw (encode-version version ms) (
     let (low, high, all) = between (length ms) 1024 (soundMacros 0 ms) h in
-    let long : 7 ≤ length (encode ms) = omega arith in
-    let read : readMacros 0 (length ms) (encodeMacros ms) ≡ got ms [] = rw append-nil at (macros-read 0 ms [] all) in
-    rw (le-leb _ _ long, number-word (length ms), le-leb _ _ low, le-leb _ _ high, read)
+    let long : 7 ≤ length (encode version ms) = omega arith in
+    let read : readMacros version 0 (length ms) (encodeMacros version ms) ≡ got ms [] = rw append-nil at (macros-read version 0 ms [] all f) in
+    rw (le-leb _ _ long, number-word version, known, number-word (length ms), le-leb _ _ low, le-leb _ _ high, read))
 
--- a book is sound exactly if it is the encoding of well-formed macros
-pub sound-iff : (b : List ℕ) → Bytes b → (ms : List Macro) → (readBook b ≡ got ms []) ↔ ((wellFormed ms ≡ true) × (b ≡ encode ms))
-sound-iff b h ms = (λ e. (read-well b ms [] e, read-encode b h ms [] e), λ (w, e). rw e (encode-read ms w))
+-- a book is sound exactly if it is the encoding of well-formed macros in its version, which is taken
+pub record Encodes (taken b : List ℕ) (ms : List Macro) : Type 0 where
+  pub known : member (versionIn b) taken ≡ true
+  pub well : wellFormed ms ≡ true
+  pub written : fits (versionIn b) ms ≡ true
+  pub bytes : b ≡ encode (versionIn b) ms
+
+pub sound-iff : (taken b : List ℕ) → Bytes b → (ms : List Macro) → (readIn taken b ≡ got ms []) ↔ Encodes taken b ms
+sound-iff taken b h ms = (
+  λ e. record { known = whole taken b ms [] e .known; well = read-well taken b ms [] e; written = read-fits taken b h ms [] e; bytes = read-encode taken b h ms [] e },
+  λ s. ap (readIn taken) (s .bytes) ∙ encode-read taken (versionIn b) (s .known) ms (s .well) (s .written),
+)
 
 -- so the check accepts a book exactly if it is sound
-pub sound-accepted : (b : List ℕ) → Bytes b → Sound b ↔ ((ms : List Macro) × (readBook b ≡ got ms []))
-sound-accepted b h = (λ (ms, w, e). (ms, sound-iff b h ms .1 (w, e)), λ (ms, e). (ms, sound-iff b h ms .0 e .0, sound-iff b h ms .0 e .1))
+pub sound-accepted : (taken b : List ℕ) → Bytes b → SoundIn taken b ↔ ((ms : List Macro) × (readIn taken b ≡ got ms []))
+sound-accepted taken b h = (
+  λ s. (s .macros, ap (readIn taken) (s .bytes) ∙ encode-read taken (s .version) (s .known) (s .macros) (s .well) (s .written)),
+  λ (ms, e). let i = sound-iff taken b h ms .0 e in record { version = versionIn b; macros = ms; known = i .known; well = i .well; written = i .written; bytes = i .bytes },
+)
 
--- an encoding has one reading
-pub one-reading : (ms ns : List Macro) → wellFormed ms ≡ true → wellFormed ns ≡ true → encode ms ≡ encode ns → ms ≡ ns
-one-reading ms ns h g e = cc (encode-read ms h, encode-read ns g)
+-- an encoding has one reading, and one version
+pub one-reading : (v w : ℕ) (ms ns : List Macro) → wellFormed ms ≡ true → wellFormed ns ≡ true → fits v ms ≡ true → fits w ns ≡ true → encode v ms ≡ encode w ns → (v ≡ w) × (ms ≡ ns)
+one-reading v w ms ns h g f k e =
+    let version : v ≡ w = sym (encode-version v ms) ∙ ap versionIn e ∙ encode-version w ns in
+    let first : readIn (v ∷ []) (encode v ms) ≡ got ms [] = encode-read (v ∷ []) v (itself v) ms h f in
+    let second : readIn (v ∷ []) (encode w ns) ≡ got ns [] = encode-read (v ∷ []) w (ap (λ (x : ℕ). member x (v ∷ [])) (sym version) ∙ itself v) ns g k in
+    (version, same-got (sym first ∙ ap (readIn (v ∷ [])) e ∙ second) .0)
+  where
+    itself : (x : ℕ) → member x (x ∷ []) ≡ true
+    itself x = rw (eq-eqb x x refl) refl
+
+-- Versions that are taken.
+
+-- a book in none of them is refused with 2, once it has its header and its mark
+pub version-refused : (taken b : List ℕ) → 7 ≤ length b → hasMagic b ≡ true → member (versionIn b) taken ≡ false → readIn taken b ≡ refused UnsupportedVersion
+unfolding readIn readHeader
+version-refused taken b long mark none =
+    let same : member (le16 (drop 3 b)) taken ≡ false = ap (λ (x : ℕ). member x taken) (version-there b long) ∙ none in
+    rw (le-leb _ _ long, mark, same)
+
+-- "a version 1 reader refuses a version 2 book with 2"
+pub one-refuses-two : (ms : List Macro) → readIn (1 ∷ []) (encode 2 ms) ≡ refused UnsupportedVersion
+unfolding encode
+one-refuses-two ms = version-refused (1 ∷ []) (encode 2 ms) (omega arith) refl (ap (λ (v : ℕ). member v (1 ∷ [])) (encode-version 2 ms))
+
+-- what is read depends on whether the book's own version is taken, and on no other
+pub taken-alike : (s t b : List ℕ) → member (versionIn b) s ≡ member (versionIn b) t → readIn s b ≡ readIn t b
+unfolding readIn readHeader
+taken-alike s t b e = by-test (leb 7 (length b)) long short
+  where
+    long : leb 7 (length b) ≡ true → readIn s b ≡ readIn t b
+    long l =
+        let there = version-there b (leb-true 7 (length b) l) in
+        let same : member (le16 (drop 3 b)) s ≡ member (le16 (drop 3 b)) t = ap (λ (x : ℕ). member x s) there ∙ e ∙ ap (λ (x : ℕ). member x t) (sym there) in
+        rw same refl
+
+    short : leb 7 (length b) ≡ false → readIn s b ≡ readIn t b
+    short l = rw l refl
+
+-- "Version 1 books are read as ever"
+pub one-read-alike : (b : List ℕ) → versionIn b ≡ 1 → readBook b ≡ readIn (1 ∷ []) b
+unfolding readBook
+one-read-alike b e = taken-alike versions (1 ∷ []) b (rw e refl)
 
 -- a byte and some bytes are bytes
 bytes-more : (x : ℕ) (b : List ℕ) → x < 256 → Bytes b → Bytes (x ∷ b)
@@ -211,48 +357,71 @@ bytes-mark : (b : List ℕ) → Bytes b → Bytes (magic ++ b)
 bytes-mark b h = bytes-more 0x4D (0x42 ∷ 0x4B ∷ b) (omega arith) (bytes-more 0x42 (0x4B ∷ b) (omega arith) (bytes-more 0x4B b (omega arith) h))
 
 -- the code of a sound item is below 65,536, as a macro has a number of at most 1,024
-code-small : (n : ℕ) (i : Item) → n ≤ 1024 → soundItem n i ≡ true → code i < 65536
-unfolding soundItem
+code-small : (n : ℕ) (i : Item) → n ≤ 1024 → soundTarget n i ≡ true → code i < 65536
+unfolding soundTarget
 code-small n (Key k) l h = omega (arith, leb-true k 255 (and-eq-true-iff (leb 1 k) (leb k 255) .0 h .1))
 code-small n (Call j) l h = omega (arith, ltb-true j n h)
 
--- so sound items are written as bytes
-items-bytes : (n : ℕ) (is : List Item) (b : List ℕ) → n ≤ 1024 → soundItems n is ≡ true → Bytes b → Bytes (encodeItems is ++ b)
-unfolding soundItems encodeItems
-items-bytes n [] b l h g = g
-items-bytes n (i ∷ is) b l h g =
-    let (one, others) = and-eq-true-iff (soundItem n i) (soundItems n is) .0 h in
-    bytes-word (code i) (encodeItems is ++ b) (code-small n i l one) (items-bytes n is b l others g)
+-- so a sound item is written as bytes
+item-bytes : (version n : ℕ) (i : Repeated) (b : List ℕ) → n ≤ 1024 → soundItem n i ≡ true → itemFits version i ≡ true → Bytes b → Bytes (encodeItem version i ++ b)
+unfolding soundItem itemFits encodeItem
+item-bytes version n i b l h f g = go (eqb version 1) f
+  where
+    small : code (i .item) < 65536
+    small = code-small n (i .item) l (and-parts (soundTarget n (i .item)) (leb 1 (i .times)) h .0)
 
--- and so are sound macros
-macros-bytes : (n : ℕ) (ms : List Macro) → n + length ms ≤ 1024 → soundMacros n ms ≡ true → Bytes (encodeMacros ms)
-unfolding soundMacros soundMacro encodeMacros
-macros-bytes n [] l h = λ i. omega arith
-macros-bytes n (m ∷ ms) l h =
-    let (one, others) = and-eq-true-iff (soundMacro n m) (soundMacros (suc n) ms) .0 h in
+    go : (t : Bool) → cond t (eqb (i .times) 1) (leb (i .times) 65535) ≡ true → Bytes ((le16Bytes (code (i .item)) ++ cond t [] (le16Bytes (i .times))) ++ b)
+    go true e = bytes-word (code (i .item)) b small g
+    go false e = bytes-word (code (i .item)) (le16Bytes (i .times) ++ b) small (bytes-word (i .times) b (omega (arith, leb-true (i .times) 65535 e)) g)
+
+-- and so are sound items
+items-bytes : (version n : ℕ) (is : Macro) (b : List ℕ) → n ≤ 1024 → soundItems n is ≡ true → itemsFit version is ≡ true → Bytes b → Bytes (encodeItems version is ++ b)
+unfolding soundItems encodeItems itemsFit
+items-bytes version n [] b l h f g = g
+items-bytes version n (i ∷ is) b l h f g =
+    let (one, others) = and-parts (soundItem n i) (soundItems n is) h in
+    let (fit, more) = and-parts (itemFits version i) (itemsFit version is) f in
+    rw (append-assoc (encodeItem version i) (encodeItems version is) b) (item-bytes version n i (encodeItems version is ++ b) l one fit (items-bytes version n is b l others more g))
+
+-- and sound macros
+macros-bytes : (version n : ℕ) (ms : List Macro) → n + length ms ≤ 1024 → soundMacros n ms ≡ true → fits version ms ≡ true → Bytes (encodeMacros version ms)
+unfolding soundMacros soundMacro encodeMacros fits
+macros-bytes version n [] l h f = λ i. omega arith
+macros-bytes version n (m ∷ ms) l h f =
+    let (one, others) = and-parts (soundMacro n m) (soundMacros (suc n) ms) h in
+    let (fit, more) = and-parts (itemsFit version m) (fits version ms) f in
     let (low, high, items) = between (length m) 64 (soundItems n m) one in
-    bytes-word (length m) (encodeItems m ++ encodeMacros ms) (omega arith)
-    (items-bytes n m (encodeMacros ms) (omega arith) items (macros-bytes (suc n) ms (omega arith) others))
+    bytes-word (length m) (encodeItems version m ++ encodeMacros version ms) (omega arith)
+    (items-bytes version n m (encodeMacros version ms) (omega arith) items fit (macros-bytes version (suc n) ms (omega arith) others more))
 
--- the encoding of well-formed macros is bytes
-pub encode-bytes : (ms : List Macro) → wellFormed ms ≡ true → Bytes (encode ms)
+-- the encoding of well-formed macros in a version of two bytes is bytes
+pub encode-bytes : (version : ℕ) → version < 65536 → (ms : List Macro) → wellFormed ms ≡ true → fits version ms ≡ true → Bytes (encode version ms)
 unfolding wellFormed encode
-encode-bytes ms h =
+encode-bytes version small ms h f =
     let (low, high, all) = between (length ms) 1024 (soundMacros 0 ms) h in
-    let all-bytes : Bytes (encodeMacros ms) = macros-bytes 0 ms (omega arith) all in
-    let counted : List ℕ = le16Bytes (length ms) ++ encodeMacros ms in
-    bytes-mark (le16Bytes 1 ++ counted) (bytes-word 1 counted (omega arith) (bytes-word (length ms) (encodeMacros ms) (omega arith) all-bytes))
+    let all-bytes : Bytes (encodeMacros version ms) = macros-bytes version 0 ms (omega arith) all f in
+    let counted : List ℕ = le16Bytes (length ms) ++ encodeMacros version ms in
+    bytes-mark (le16Bytes version ++ counted) (bytes-word version counted small (bytes-word (length ms) (encodeMacros version ms) (omega arith) all-bytes))
 
 -- an item is written in its bytes
-pub length-items : (is : List Item) → length (encodeItems is) ≡ width * length is
+item-length : (version : ℕ) (i : Repeated) → length (encodeItem version i) ≡ width version
+unfolding encodeItem width
+item-length version i = go (eqb version 1)
+  where
+    go : (t : Bool) → length (le16Bytes (code (i .item)) ++ cond t [] (le16Bytes (i .times))) ≡ cond t 2 4
+    go true = refl
+    go false = refl
+
+pub length-items : (version : ℕ) (is : Macro) → length (encodeItems version is) ≡ width version * length is
 unfolding encodeItems
-length-items [] = refl
-length-items (i ∷ is) = let h : length (encodeItems is) ≡ width * length is = length-items is in omega arith
+length-items version [] = omega arith
+length-items version (i ∷ is) = rw (length-append (encodeItem version i) (encodeItems version is), item-length version i, length-items version is) (omega arith)
 
 -- the body of a macro of a book that was read is its items, encoded
-pub body-encoded : (b : List ℕ) → Bytes b → (ms : List Macro) (rest : List ℕ) → readBook b ≡ got ms rest → (i : ℕ) → i < length ms → bodyPart b ms i ≡ encodeItems (getD ms i [])
-body-encoded b h ms rest e i l =
+pub body-encoded : (taken b : List ℕ) → Bytes b → (ms : List Macro) (rest : List ℕ) → readIn taken b ≡ got ms rest → (i : ℕ) → i < length ms → bodyPart (versionIn b) b ms i ≡ encodeItems (versionIn b) (getD ms i [])
+body-encoded taken b h ms rest e i l =
+    let v : ℕ = versionIn b in
     let m : Macro = getD ms i [] in
-    let after : List ℕ = drop (offset ms (i + 1)) b in
-    let same = macro-encode i (drop (offset ms i) b) after m (bytes-drop (offset ms i) b h) (book-at b ms rest e i l) in
-    rw (← drop-drop 2 (offset ms i) b, ← same) (take-at (encodeItems m) after (width * length m) (length-items m))
+    let after : List ℕ = drop (offset v ms (i + 1)) b in
+    let same = macro-encode v i (drop (offset v ms i) b) after m (bytes-drop (offset v ms i) b h) (book-at taken b ms rest e i l) .1 in
+    rw (← drop-drop 2 (offset v ms i) b, ← same) (take-at (encodeItems v m) after (width v * length m) (length-items v m))

@@ -1,6 +1,6 @@
 -- Laws of a macro's written-out run.
-use Prim.Native.Nat.{ℕ, zero, suc, _+_, _<_, _≤_}
-use native.Mathlib.Nat.{add-zero, add-suc, suc-add, zero-add}
+use Prim.Native.Nat.{ℕ, zero, suc, _+_, _*_, _<_, _≤_}
+use native.Mathlib.Nat.{mul-pos, add-zero, add-suc, suc-add, zero-add}
 use native.Mathlib.Omega.{arith}
 use mathlib.Core.Path.{_≡_, refl, sym, ap, _∙_}
 use mathlib.Core.Logic.{⊎-elim}
@@ -11,11 +11,14 @@ use lib.ListN.{length, getD, length-append}
 use borrow.Author.Tests.{ltb-true, leb-true}
 use Rattle.book.specs.declared.item.Item.{Item}
 use Rattle.book.specs.declared.item.Item.the-variants.{Key, Call}
-use Rattle.book.specs.Format.{Macro, soundItem, soundItems, soundMacro, soundMacros, wellFormed}
-use Rattle.book.specs.Reach.{Calls}
-use Rattle.book.specs.Expansion.{keysOf, expand, expandTo, expansion}
+use Rattle.book.specs.Format.{Repeated, repeated, Macro, soundTarget, soundItem, soundItems, soundMacro, soundMacros, wellFormed}
+use Rattle.book.specs.Reach.{CallsIn, Calls}
+use Rattle.book.specs.Expansion.{keysOf, keysTimes, expand, expandTo, expansion}
 use Rattle.runs.specs.Keys.{isKey, isRun}
+use Rattle.runs.specs.Kept.{times}
+use Rattle.runs.proofs.Tests.{and-parts}
 use Rattle.runs.proofs.KeyLaws.{run-keys}
+use Rattle.runs.proofs.KeptLaws.{times-one, times-add, times-length, times-member}
 
 -- what a sound macro has: an item, and sound items
 macro-parts : (n : ℕ) (m : Macro) → soundMacro n m ≡ true → (1 ≤ length m) × (soundItems n m ≡ true)
@@ -75,73 +78,119 @@ pub well-short : (ms : List Macro) → wellFormed ms ≡ true → (i : ℕ) → 
 well-short ms h = sound-short ms 0 (well-macros ms h)
 
 -- what sound items have: a sound first one, and sound others
-items-parts : (n : ℕ) (i : Item) (is : List Item) → soundItems n (i ∷ is) ≡ true → (soundItem n i ≡ true) × (soundItems n is ≡ true)
+items-parts : (n : ℕ) (i : Repeated) (is : Macro) → soundItems n (i ∷ is) ≡ true → (soundItem n i ≡ true) × (soundItems n is ≡ true)
 unfolding soundItems
-items-parts n i is h = and-eq-true-iff (soundItem n i) (soundItems n is) .0 h
+items-parts n i is h = and-parts (soundItem n i) (soundItems n is) h
 
--- a call among the sound items of macro n goes to a lower macro
-call-lower : {n j : ℕ} (is : List Item) → soundItems n is ≡ true → List·Memᴰ (Call j) is → j < n
+-- what a sound item has: a key or a lower macro, and a repeat count
+pub item-parts : (n : ℕ) (i : Repeated) → soundItem n i ≡ true → (soundTarget n (i .item) ≡ true) × (1 ≤ i .times)
 unfolding soundItem
-call-lower [] h c = absurd (List·Memᴰ·not-nil c)
-call-lower {n} {j} (i ∷ is) h c =
-    let p = items-parts n i is h in
-    let rest : List·Memᴰ (Call j) is → j < n = λ d. call-lower is (p .1) d in
-    ⊎-elim (λ e. ltb-true j n (rw (← e) at (p .0))) rest (List·Memᴰ·cases-cons c)
+item-parts n i h =
+    let p = and-parts (soundTarget n (i .item)) (leb 1 (i .times)) h in
+    (p .0, leb-true 1 (i .times) (p .1))
 
--- calls go to lower macros
-pub calls-lower : (ms : List Macro) → wellFormed ms ≡ true → {m j : ℕ} → Calls ms m j → j < m
-calls-lower ms well {m} c = call-lower (getD ms m []) (well-items ms well m) c
+-- each item of a macro is sound for it
+item-sound : (n : ℕ) {i : Repeated} (is : Macro) → soundItems n is ≡ true → List·Memᴰ i is → soundItem n i ≡ true
+item-sound n [] h m = absurd (List·Memᴰ·not-nil m)
+item-sound n (j ∷ is) h m = ⊎-elim (λ e. rw e (items-parts n j is h .0)) (λ l. item-sound n is (items-parts n j is h .1) l) (List·Memᴰ·cases-cons m)
+
+module _ (ms : List Macro) (well : wellFormed ms ≡ true) where
+  -- what each item of macro m has
+  target : (m : ℕ) {i : Repeated} → List·Memᴰ i (getD ms m []) → soundTarget m (i .item) ≡ true
+  target m {i} c = item-parts m i (item-sound m (getD ms m []) (well-items ms well m) c) .0
+
+  -- each key is one from 1 to 255
+  pub well-key : (m : ℕ) {k n : ℕ} → List·Memᴰ (repeated (Key k) n) (getD ms m []) → isKey k ≡ true
+  unfolding soundTarget
+  well-key m c = target m c
+
+  -- calls go to lower macros
+  pub call-lower : (m : ℕ) {j n : ℕ} → List·Memᴰ (repeated (Call j) n) (getD ms m []) → j < m
+  unfolding soundTarget
+  call-lower m {j} c = ltb-true j m (target m c)
+
+  pub calls-lower : {m j : ℕ} → Calls ms m j → j < m
+  calls-lower {m} (n, c) = call-lower m c
+
+  -- each item stands there once or more
+  pub well-times : (m : ℕ) {i : Repeated} → List·Memᴰ i (getD ms m []) → 1 ≤ i .times
+  well-times m {i} c = item-parts m i (item-sound m (getD ms m []) (well-items ms well m) c) .1
+
+-- what an item writes is the same where the run that it calls is
+keys-same : (f g : ℕ → List ℕ) (i : Item) → ((j : ℕ) → i ≡ Call j → f j ≡ g j) → keysOf f i ≡ keysOf g i
+keys-same f g (Key k) e = refl
+keys-same f g (Call j) e = e j refl
 
 -- what is written is the same where the called runs are
-pub expand-same : (f g : ℕ → List ℕ) (is : List Item) → ((j : ℕ) → List·Memᴰ (Call j) is → f j ≡ g j) → expand f is ≡ expand g is
+pub expand-same : (f g : ℕ → List ℕ) (is : Macro) → ((j : ℕ) → CallsIn is j → f j ≡ g j) → expand f is ≡ expand g is
 unfolding expand
 expand-same f g [] e = refl
-expand-same f g (Key k ∷ is) e = ap (λ (l : List ℕ). k ∷ l) (expand-same f g is (λ j c. e j (List·Memᴰ·tail c)))
-expand-same f g (Call i ∷ is) e = rw (e i (List·Memᴰ·head refl), expand-same f g is (λ j c. e j (List·Memᴰ·tail c)))
+expand-same f g (i ∷ is) e =
+    rw (keys-same f g (i .item) (λ j s. e j (i .times, List·Memᴰ·head (ap (λ (x : Item). repeated x (i .times)) (sym s)))), expand-same f g is (λ j (n, c). e j (n, List·Memᴰ·tail c)))
 
 -- nothing is written of no items
 pub expand-none : (called : ℕ → List ℕ) → expand called [] ≡ []
 unfolding expand
 expand-none called = refl
 
--- of one item its keys
-pub expand-one : (called : ℕ → List ℕ) (i : Item) → expand called (i ∷ []) ≡ keysOf called i
+-- of one item its keys, as often as it stands there
+pub expand-one : (called : ℕ → List ℕ) (i : Repeated) → expand called (i ∷ []) ≡ keysTimes called i
 unfolding expand
-expand-one called i = append-nil (keysOf called i)
+expand-one called i = append-nil (keysTimes called i)
+
+-- and of an item that stands there once its keys
+pub expand-single : (called : ℕ → List ℕ) (i : Item) → expand called (repeated i 1 ∷ []) ≡ keysOf called i
+expand-single called i = expand-one called (repeated i 1) ∙ times-one (keysOf called i)
 
 -- of some items after others what they write, one after the other
-pub expand-append : (called : ℕ → List ℕ) (is js : List Item) → expand called (is ++ js) ≡ expand called is ++ expand called js
+pub expand-append : (called : ℕ → List ℕ) (is js : Macro) → expand called (is ++ js) ≡ expand called is ++ expand called js
 unfolding expand
 expand-append called [] js = refl
 expand-append called (i ∷ is) js =
-    ap (λ (l : List ℕ). keysOf called i ++ l) (expand-append called is js)
-    ∙ sym (append-assoc (keysOf called i) (expand called is) (expand called js))
+    ap (λ (l : List ℕ). keysTimes called i ++ l) (expand-append called is js)
+    ∙ sym (append-assoc (keysTimes called i) (expand called is) (expand called js))
 
 -- so one item more writes its keys behind
-pub expand-more : (called : ℕ → List ℕ) (is : List Item) (i : Item) → expand called (is ++ (i ∷ [])) ≡ expand called is ++ keysOf called i
+pub expand-more : (called : ℕ → List ℕ) (is : Macro) (i : Repeated) → expand called (is ++ (i ∷ [])) ≡ expand called is ++ keysTimes called i
 expand-more called is i = expand-append called is (i ∷ []) ∙ ap (λ (l : List ℕ). expand called is ++ l) (expand-one called i)
 
--- something is written if there is an item, and each called run is not empty
-expand-nonempty : (f : ℕ → List ℕ) (is : List Item) → 1 ≤ length is → ((j : ℕ) → List·Memᴰ (Call j) is → 0 < length (f j)) → 0 < length (expand f is)
+-- an item that stands there twice or more, in two parts
+pub expand-split : (called : ℕ → List ℕ) (i : Item) (m n : ℕ) → expand called (repeated i (m + n) ∷ []) ≡ expand called (repeated i m ∷ repeated i n ∷ [])
 unfolding expand
-expand-nonempty f [] h e = absurd (omega arith)
-expand-nonempty f (Key k ∷ is) h e = omega arith
-expand-nonempty f (Call i ∷ is) h e = simp length-append (omega (arith, e i (List·Memᴰ·head refl)))
+expand-split called i m n =
+    ap (λ (l : List ℕ). l ++ []) (times-add m n (keysOf called i))
+    ∙ append-assoc (times m (keysOf called i)) (times n (keysOf called i)) []
+
+-- something is written if there is an item, each stands there, and each called run is not empty
+expand-nonempty : (f : ℕ → List ℕ) (is : Macro) → 1 ≤ length is → ((i : Repeated) → List·Memᴰ i is → 1 ≤ i .times) → ((j : ℕ) → CallsIn is j → 0 < length (f j)) → 0 < length (expand f is)
+unfolding expand
+expand-nonempty f [] h g e = absurd (omega arith)
+expand-nonempty f (i ∷ is) h g e =
+    let some : 0 < length (keysOf f (i .item)) = keys (i .item) (λ j s. e j (i .times, List·Memᴰ·head (ap (λ (x : Item). repeated x (i .times)) (sym s)))) in
+    let often : 0 < i .times * length (keysOf f (i .item)) = mul-pos (g i (List·Memᴰ·head refl)) some in
+    rw (length-append (keysTimes f i) (expand f is), times-length (i .times) (keysOf f (i .item))) (omega arith)
+  where
+    keys : (x : Item) → ((j : ℕ) → x ≡ Call j → 0 < length (f j)) → 0 < length (keysOf f x)
+    keys (Key k) s = omega arith
+    keys (Call j) s = s j refl
 
 -- "An item from 1 to 255 is a key."
 abbrev Keyed : ℕ → Type 0
 Keyed k = (1 ≤ k) × (k ≤ 255)
 
 -- what sound items write are keys, if the called runs are
-expand-keys : (f : ℕ → List ℕ) (n : ℕ) (is : List Item) → soundItems n is ≡ true → ((j k : ℕ) → List·Memᴰ k (f j) → Keyed k) → (k : ℕ) → List·Memᴰ k (expand f is) → Keyed k
-unfolding expand soundItem
+expand-keys : (f : ℕ → List ℕ) (n : ℕ) (is : Macro) → soundItems n is ≡ true → ((j k : ℕ) → List·Memᴰ k (f j) → Keyed k) → (k : ℕ) → List·Memᴰ k (expand f is) → Keyed k
+unfolding expand soundTarget
 expand-keys f n [] h e k c = absurd (List·Memᴰ·not-nil c)
-expand-keys f n (Key x ∷ is) h e k c =
-    let p = items-parts n (Key x) is h in
-    let q = and-eq-true-iff (leb 1 x) (leb x 255) .0 (p .0) in
-    ⊎-elim (λ s. omega (arith, leb-true 1 x (q .0), leb-true x 255 (q .1))) (λ d. expand-keys f n is (p .1) e k d) (List·Memᴰ·cases-cons c)
-expand-keys f n (Call j ∷ is) h e k c =
-    ⊎-elim (e j k) (λ d. expand-keys f n is (items-parts n (Call j) is h .1) e k d) (List·Memᴰ·append-cases (f j) c)
+expand-keys f n (i ∷ is) h e k c =
+    let p = items-parts n i is h in
+    ⊎-elim (λ d. keys (i .item) (item-parts n i (p .0) .0) (times-member (i .times) (keysOf f (i .item)) d)) (λ d. expand-keys f n is (p .1) e k d) (List·Memᴰ·append-cases (keysTimes f i) c)
+  where
+    keys : (x : Item) → soundTarget n x ≡ true → List·Memᴰ k (keysOf f x) → Keyed k
+    keys (Key x) s d =
+        let q = and-parts (leb 1 x) (leb x 255) s in
+        ⊎-elim (λ same. omega (arith, leb-true 1 x (q .0), leb-true x 255 (q .1))) (λ m. absurd (List·Memᴰ·not-nil m)) (List·Memᴰ·cases-cons d)
+    keys (Call j) s d = e j k d
 
 module _ (ms : List Macro) (well : wellFormed ms ≡ true) where
   -- the depth is no matter where it is greater than the macro's number
@@ -167,7 +216,7 @@ module _ (ms : List Macro) (well : wellFormed ms ≡ true) where
   unfolding expandTo
   expandTo-nonempty zero m h l = absurd (omega arith)
   expandTo-nonempty (suc d) m h l =
-      expand-nonempty (λ j. expandTo d ms j) (getD ms m []) (well-nonempty ms well m l) λ j c.
+      expand-nonempty (λ j. expandTo d ms j) (getD ms m []) (well-nonempty ms well m l) (λ i c. well-times ms well m c) λ j c.
       let lower : j < m = calls-lower ms well c in
       expandTo-nonempty d j (omega arith) (omega arith)
 
@@ -190,13 +239,3 @@ module _ (ms : List Macro) (well : wellFormed ms ≡ true) where
   -- and is one
   pub expansion-run : (m : ℕ) → isRun (expansion ms m) ≡ true
   expansion-run m = run-keys (expansion ms m) (expansion-keys m)
-
--- each item of a macro is sound for it
-item-sound : (n : ℕ) {i : Item} (is : List Item) → soundItems n is ≡ true → List·Memᴰ i is → soundItem n i ≡ true
-item-sound n [] h m = absurd (List·Memᴰ·not-nil m)
-item-sound n (j ∷ is) h m = ⊎-elim (λ e. rw e (items-parts n j is h .0)) (λ l. item-sound n is (items-parts n j is h .1) l) (List·Memᴰ·cases-cons m)
-
--- so each key is one from 1 to 255
-pub well-key : (ms : List Macro) → wellFormed ms ≡ true → (i : ℕ) {k : ℕ} → List·Memᴰ (Key k) (getD ms i []) → isKey k ≡ true
-unfolding soundItem
-well-key ms h i m = item-sound i (getD ms i []) (well-items ms h i) m

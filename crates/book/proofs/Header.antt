@@ -5,10 +5,12 @@ use mathlib.Core.Bool.{Bool, true, false, not, _&&_}
 use mathlib.Core.List.{List}
 use lib.Dec.{leb}
 use lib.ListN.{length, drop}
-use borrow.Author.Tests.{lt-leb, le-leb, eq-eqb, ne-eqb, not-true, not-false, leb-true, eqb-true}
+use borrow.Author.Tests.{lt-leb, le-leb, not-true, not-false, leb-true}
 use Rattle.refusal.specs.declared.Refusal.{Refusal}
 use Rattle.refusal.specs.declared.Refusal.the-variants.{BadMagic, UnsupportedVersion, BadMacroCount}
 use Rattle.book.specs.declared.layout.Header.{Header}
+use Rattle.runs.specs.Keys.{member}
+use Rattle.book.specs.Format.{versions}
 use Rattle.book.specs.Reading.{Reading, got, refused, hasMagic, le16, readHeader}
 use Rattle.book.specs.Promises.{headerOf}
 use Rattle.book.proofs.Readings.{test-got, same-got}
@@ -23,7 +25,7 @@ module _ (s : List ℕ) where
   mark-told h = simp (le-leb _ _ h)
 
   module _ (m : Bool) (e : m ≡ leb 7 (length s) && hasMagic s) where
-    pub header-magic : not m ≡ true → Header.Refused BadMagic ≡ headerOf (readHeader s)
+    pub header-magic : not m ≡ true → Header.Refused BadMagic ≡ headerOf (readHeader versions s)
     unfolding readHeader
     header-magic f = rw (sym e ∙ not-true m f)
 
@@ -31,33 +33,33 @@ module _ (s : List ℕ) where
       pub header-long : 7 ≤ length s
       header-long = leb-true 7 (length s) (and-fst (leb 7 (length s)) (hasMagic s) (sym e ∙ not-false m f))
 
-      module _ (v : ℕ) (ev : v ≡ le16 (drop 3 s)) where
-        pub header-version : (v ≡ 1 → ⊥) → Header.Refused UnsupportedVersion ≡ headerOf (readHeader s)
+      module _ (v : ℕ) (ev : v ≡ le16 (drop 3 s)) (t : Bool) (et : t ≡ member v versions) where
+        pub header-version : not t ≡ true → Header.Refused UnsupportedVersion ≡ headerOf (readHeader versions s)
         unfolding readHeader
-        header-version n = rw (sym e ∙ not-false m f, ← ev, ne-eqb _ _ n)
+        header-version n = rw (sym e ∙ not-false m f, ← ev, sym et ∙ not-true t n)
 
-        module _ (one : v ≡ 1) (k : ℕ) (ek : k ≡ le16 (drop 5 s)) where
-          pub header-count : not (leb 1 k && leb k 1024) ≡ true → Header.Refused BadMacroCount ≡ headerOf (readHeader s)
+        module _ (known : not t ≡ false) (k : ℕ) (ek : k ≡ le16 (drop 5 s)) where
+          pub header-count : not (leb 1 k && leb k 1024) ≡ true → Header.Refused BadMacroCount ≡ headerOf (readHeader versions s)
           unfolding readHeader
-          header-count l = rw (sym e ∙ not-false m f, ← ev, eq-eqb _ _ one, ← ek, not-true (leb 1 k && leb k 1024) l)
+          header-count l = rw (sym e ∙ not-false m f, ← ev, sym et ∙ not-false t known, ← ek, not-true (leb 1 k && leb k 1024) l)
 
-          pub header-good : not (leb 1 k && leb k 1024) ≡ false → Header.Macros k ≡ headerOf (readHeader s)
+          pub header-good : not (leb 1 k && leb k 1024) ≡ false → Header.Macros k ≡ headerOf (readHeader versions s)
           unfolding readHeader
-          header-good l = rw (sym e ∙ not-false m f, ← ev, eq-eqb _ _ one, ← ek, not-false (leb 1 k && leb k 1024) l)
+          header-good l = rw (sym e ∙ not-false m f, ← ev, sym et ∙ not-false t known, ← ek, not-false (leb 1 k && leb k 1024) l)
 
 -- what some bytes have whose header was read: it took seven of them
-pub record Headed (b : List ℕ) (k : ℕ) (rest : List ℕ) : Type 0 where
+pub record Headed (taken b : List ℕ) (k : ℕ) (rest : List ℕ) : Type 0 where
   pub long : 7 ≤ length b
   pub magic : hasMagic b ≡ true
-  pub version : le16 (drop 3 b) ≡ 1
+  pub version : member (le16 (drop 3 b)) taken ≡ true
   pub count : le16 (drop 5 b) ≡ k
   pub some : 1 ≤ k
   pub few : k ≤ 1024
   pub behind : rest ≡ drop 7 b
 
-pub header-got : (b : List ℕ) (k : ℕ) (rest : List ℕ) → readHeader b ≡ got k rest → Headed b k rest
+pub header-got : (taken b : List ℕ) (k : ℕ) (rest : List ℕ) → readHeader taken b ≡ got k rest → Headed taken b k rest
 unfolding readHeader
-header-got b k rest e =
+header-got taken b k rest e =
     let (first, e1) = test-got _ _ BadMagic k rest e in
     let (one, e2) = test-got _ _ UnsupportedVersion k rest e1 in
     let (counted, e3) = test-got _ _ BadMacroCount k rest e2 in
@@ -67,7 +69,7 @@ header-got b k rest e =
     record {
       long = leb-true _ _ long;
       magic = magic;
-      version = eqb-true _ _ one;
+      version = one;
       count = count;
       some = rw count at (leb-true 1 (le16 (drop 5 b)) low);
       few = rw count at (leb-true (le16 (drop 5 b)) 1024 high);

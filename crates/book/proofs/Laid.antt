@@ -13,10 +13,10 @@ use Rattle.book.specs.declared.layout.Checked.{Checked}
 use Rattle.book.specs.declared.layout.Header.{Header}
 use Rattle.book.specs.declared.layout.Layout.{Layout}
 use Rattle.book.specs.declared.layout.Walk.{Walk}
-use Rattle.book.specs.Format.{Macro}
+use Rattle.book.specs.Format.{Macro, versions, width}
 use Rattle.book.specs.Offset.{size, starts}
-use Rattle.book.specs.Reading.{Reading, got, refused, next, done, readHeader, readMacro, readMacros, readAll, readBook}
-use Rattle.book.specs.Answer.{layoutFigures, layoutResult, layoutFor}
+use Rattle.book.specs.Reading.{Reading, got, refused, next, done, readHeader, readMacro, readMacros, readAll, readIn, readBook, versionIn}
+use Rattle.book.specs.Answer.{layoutFigures, bookLayout, layoutFor}
 use Rattle.book.specs.Promises.{walkOf, headerOf}
 use Rattle.book.proofs.LayoutLaws.{figures-laid}
 use Rattle.book.proofs.Header.{header-got, headed-macros, headed-refused}
@@ -37,73 +37,73 @@ unfolding prepend
 prepend-more p m (got ms rest) = rw append-assoc
 prepend-more p m (refused r) = refl
 
-macros-step : (n k : ℕ) (b rest : List ℕ) (m : Macro) → readMacro n b ≡ got m rest → readMacros n (suc k) b ≡ next (readMacros (suc n) k rest) (λ ms. done (m ∷ ms))
+macros-step : (version n k : ℕ) (b rest : List ℕ) (m : Macro) → readMacro version n b ≡ got m rest → readMacros version n (suc k) b ≡ next (readMacros version (suc n) k rest) (λ ms. done (m ∷ ms))
 unfolding readMacros
-macros-step n k b rest m e = rw e
+macros-step version n k b rest m e = rw e
 
--- n of `count` macros were read, the last one ends at `at`, and `offsets` has their offsets
-pub record Laid (s : List ℕ) (count : ℕ) (offsets : List ℕ) (at n : ℕ) : Type 0 where
+-- n of `count` macros of a version were read, the last one ends at `at`, and `offsets` has their offsets
+pub record Laid (version : ℕ) (s : List ℕ) (count : ℕ) (offsets : List ℕ) (at n : ℕ) : Type 0 where
   pub macros : List Macro
   pub many : length macros ≡ n
-  pub here : getD (starts 7 macros) n 0 ≡ at
-  pub table : offsets ≡ starts 7 macros ++ replicate (1024 - n) 0
-  pub reading : readMacros 0 count (drop 7 s) ≡ prepend macros (readMacros n (count - n) (drop at s))
+  pub here : getD (starts (width version) 7 macros) n 0 ≡ at
+  pub table : offsets ≡ starts (width version) 7 macros ++ replicate (1024 - n) 0
+  pub reading : readMacros version 0 count (drop 7 s) ≡ prepend macros (readMacros version n (count - n) (drop at s))
 
-module _ (s : List ℕ) (count : ℕ) where
-  pub laid-none : (offsets : List ℕ) → offsets ≡ 7 ∷ replicate 1024 0 → Laid s count offsets 7 0
+module _ (version : ℕ) (s : List ℕ) (count : ℕ) where
+  pub laid-none : (offsets : List ℕ) → offsets ≡ 7 ∷ replicate 1024 0 → Laid version s count offsets 7 0
   unfolding starts
   laid-none offsets e =
       let all : count ≡ count - 0 = omega arith in
-      record { macros = []; many = refl; here = refl; table = e; reading = prepend-none _ ∙ ap (λ (k : ℕ). prepend [] (readMacros 0 k (drop 7 s))) all }
+      record { macros = []; many = refl; here = refl; table = e; reading = prepend-none _ ∙ ap (λ (k : ℕ). prepend [] (readMacros version 0 k (drop 7 s))) all }
 
-  module _ (offsets : List ℕ) (at n : ℕ) (l : Laid s count offsets at n) (w : Walk) (h : n < count) (e : w ≡ walkOf (length s) (readMacro n (drop at s))) where
+  module _ (offsets : List ℕ) (at n : ℕ) (l : Laid version s count offsets at n) (w : Walk) (h : n < count) (e : w ≡ walkOf (length s) (readMacro version n (drop at s))) where
     less : count - n ≡ suc (count - (n + 1))
     less = omega arith
 
-    pub laid-refused : (r : Refusal) (x : Layout) → w ≡ Walk.Refused r → x ≡ layoutFor (refused r) → x ≡ layoutFor (readAll count (drop 7 s))
+    pub laid-refused : (r : Refusal) (x : Layout) → w ≡ Walk.Refused r → x ≡ layoutFor 1 (refused r) → x ≡ layoutFor version (readAll version count (drop 7 s))
     unfolding readAll readMacros prepend
     laid-refused r x f g =
-        let stop : readMacro n (drop at s) ≡ refused r = walked-refused (length s) (readMacro n (drop at s)) r (sym e ∙ f) in
+        let stop : readMacro version n (drop at s) ≡ refused r = walked-refused (length s) (readMacro version n (drop at s)) r (sym e ∙ f) in
         g ∙ rw (l .reading, less, stop)
 
-    pub laid-more : (p : ℕ) → at ≤ length s → count ≤ 1024 → w ≡ Walk.At p → (p ≤ length s) × Laid s count (set offsets (n + 1) p) p (n + 1)
-    laid-more p in-s few f = on (walked-at (length s) (readMacro n (drop at s)) p (sym e ∙ f))
+    pub laid-more : (p : ℕ) → at ≤ length s → count ≤ 1024 → w ≡ Walk.At p → (p ≤ length s) × Laid version s count (set offsets (n + 1) p) p (n + 1)
+    laid-more p in-s few f = on (walked-at (length s) (readMacro version n (drop at s)) p (sym e ∙ f))
       where
-        on : ((m : Macro) × (rest : List ℕ) × (readMacro n (drop at s) ≡ got m rest) × (p ≡ length s - length rest)) → (p ≤ length s) × Laid s count (set offsets (n + 1) p) p (n + 1)
+        on : ((m : Macro) × (rest : List ℕ) × (readMacro version n (drop at s) ≡ got m rest) × (p ≡ length s - length rest)) → (p ≤ length s) × Laid version s count (set offsets (n + 1) p) p (n + 1)
         on (m, rest, g, q) =
-            let (same, long, small) = macro-got n (drop at s) rest m g in
-            let fits : size m ≤ length s - at = rw length-drop at long in
-            let left : length rest ≡ length s - at - size m = rw (same, length-drop, length-drop) in
-            let offset : p ≡ at + size m = omega arith in
-            let there : rest ≡ drop p s = rw (same, offset, drop-drop (size m) at s) in
-            let more : starts 7 (l .macros ++ (m ∷ [])) ≡ starts 7 (l .macros) ++ (p ∷ []) =
-            rw (offset, ← (l .here), ← (l .many)) (starts-more 7 (l .macros) m) in
-            let wide : length (starts 7 (l .macros)) ≡ n + 1 = rw (← (l .many)) (starts-length 7 (l .macros)) in
+            let (same, long, small) = macro-got version n (drop at s) rest m g in
+            let fits : size (width version) m ≤ length s - at = rw length-drop at long in
+            let left : length rest ≡ length s - at - size (width version) m = rw (same, length-drop, length-drop) in
+            let offset : p ≡ at + size (width version) m = omega arith in
+            let there : rest ≡ drop p s = rw (same, offset, drop-drop (size (width version) m) at s) in
+            let more : starts (width version) 7 (l .macros ++ (m ∷ [])) ≡ starts (width version) 7 (l .macros) ++ (p ∷ []) =
+            rw (offset, ← (l .here), ← (l .many)) (starts-more (width version) 7 (l .macros) m) in
+            let wide : length (starts (width version) 7 (l .macros)) ≡ n + 1 = rw (← (l .many)) (starts-length (width version) 7 (l .macros)) in
             let room : 1024 - n ≡ suc (1024 - (n + 1)) = omega arith in (
               omega arith,
               record {
                 macros = l .macros ++ (m ∷ []);
                 many = rw length-append (ap (λ (k : ℕ). k + 1) (l .many));
-                here = rw more (getD-at (starts 7 (l .macros)) p [] 0 (n + 1) wide);
-                table = rw (more, append-snoc, l .table, room) (set-at (starts 7 (l .macros)) 0 (replicate (1024 - (n + 1)) 0) p (n + 1) wide);
-                reading = l .reading ∙ rw (less, macros-step n (count - (n + 1)) (drop at s) rest m g, prepend-more (l .macros) m (readMacros (suc n) (count - (n + 1)) rest), there, add-one n);
+                here = rw more (getD-at (starts (width version) 7 (l .macros)) p [] 0 (n + 1) wide);
+                table = rw (more, append-snoc, l .table, room) (set-at (starts (width version) 7 (l .macros)) 0 (replicate (1024 - (n + 1)) 0) p (n + 1) wide);
+                reading = l .reading ∙ rw (less, macros-step version n (count - (n + 1)) (drop at s) rest m g, prepend-more (l .macros) m (readMacros version (suc n) (count - (n + 1)) rest), there, add-one n);
               },
             )
 
-  module _ (offsets : List ℕ) (at n : ℕ) (l : Laid s count offsets at n) (h : count ≤ n) (k : n ≤ count) where
-    all : readMacros 0 count (drop 7 s) ≡ got (l .macros) (drop at s)
+  module _ (offsets : List ℕ) (at n : ℕ) (l : Laid version s count offsets at n) (h : count ≤ n) (k : n ≤ count) where
+    all : readMacros version 0 count (drop 7 s) ≡ got (l .macros) (drop at s)
     unfolding readMacros prepend
     all =
         let none : count - n ≡ 0 = omega arith in
         l .reading ∙ rw (none, append-nil)
 
-    pub laid-left : (x : Layout) → at < length s → x ≡ layoutFor (refused MalformedBody) → x ≡ layoutFor (readAll count (drop 7 s))
+    pub laid-left : (x : Layout) → at < length s → x ≡ layoutFor 1 (refused MalformedBody) → x ≡ layoutFor version (readAll version count (drop 7 s))
     unfolding readAll
     laid-left x i f =
         let some : length (drop at s) ≡ 0 → ⊥ = rw length-drop (omega arith) in
         f ∙ rw (all, ne-eqb _ _ some)
 
-    pub laid-end : (x : Layout) → length s ≤ at → x ≡ record { answer = Checked.Sound count; offsets = offsets } → x ≡ layoutFor (readAll count (drop 7 s))
+    pub laid-end : (x : Layout) → length s ≤ at → x ≡ record { answer = Checked.Sound count; offsets = offsets } → x ≡ layoutFor version (readAll version count (drop 7 s))
     unfolding readAll
     laid-end x i f =
         let none : length (drop at s) ≡ 0 = rw length-drop (omega arith) in
@@ -112,19 +112,19 @@ module _ (s : List ℕ) (count : ℕ) where
         f ∙ rw (all, eq-eqb _ _ none, same, l .table, exact)
 
 -- the whole book, after its header
-module _ (s : List ℕ) (g : Header) (e : g ≡ headerOf (readHeader s)) where
+module _ (s : List ℕ) (g : Header) (e : g ≡ headerOf (readHeader versions s)) where
   pub header-fits : (k : ℕ) → g ≡ Header.Macros k → (7 ≤ length s) × (k ≤ 1024)
   header-fits k f =
-      let (rest, h) = headed-macros (readHeader s) k (sym e ∙ f) in
-      let r = header-got s k rest h in
+      let (rest, h) = headed-macros (readHeader versions s) k (sym e ∙ f) in
+      let r = header-got versions s k rest h in
       (r .long, r .few)
 
-  pub whole-macros : (x : Layout) (k : ℕ) → g ≡ Header.Macros k → x ≡ layoutFor (readAll k (drop 7 s)) → layoutFigures x ≡ layoutResult (readBook s)
-  unfolding readBook
+  pub whole-macros : (x : Layout) (k : ℕ) → g ≡ Header.Macros k → x ≡ layoutFor (versionIn s) (readAll (versionIn s) k (drop 7 s)) → layoutFigures x ≡ bookLayout s
+  unfolding readBook readIn
   whole-macros x k f i =
-      let (rest, h) = headed-macros (readHeader s) k (sym e ∙ f) in
-      figures-laid x (readBook s) (i ∙ rw (h, header-got s k rest h .behind))
+      let (rest, h) = headed-macros (readHeader versions s) k (sym e ∙ f) in
+      figures-laid (versionIn s) x (readBook s) (i ∙ rw (h, header-got versions s k rest h .behind))
 
-  pub whole-refused : (x : Layout) (r : Refusal) → g ≡ Header.Refused r → x ≡ layoutFor (refused r) → layoutFigures x ≡ layoutResult (readBook s)
-  unfolding readBook
-  whole-refused x r f i = figures-laid x (readBook s) (i ∙ rw (headed-refused (readHeader s) r (sym e ∙ f)))
+  pub whole-refused : (x : Layout) (r : Refusal) → g ≡ Header.Refused r → x ≡ layoutFor 1 (refused r) → layoutFigures x ≡ bookLayout s
+  unfolding readBook readIn
+  whole-refused x r f i = figures-laid (versionIn s) x (readBook s) (i ∙ rw (headed-refused (readHeader versions s) r (sym e ∙ f)))

@@ -1,4 +1,4 @@
--- No byte behind the first 133,128 of a book plays a part: what is answered to these is answered to the whole.
+-- No byte behind the first 264,200 of a book plays a part: what is answered to these is answered to the whole.
 use Prim.Native.Nat.{ℕ, zero, suc, _+_, _-_, _*_, _<_, _≤_, min}
 use native.Mathlib.Omega.{arith}
 use mathlib.Core.Path.{_≡_, refl}
@@ -9,11 +9,14 @@ use lib.ListN.{length, take, drop, getD, length-take}
 use lib.Seq.{getD-take, getD-drop}
 use borrow.Author.Tests.{lt-ltb, le-ltb, lt-leb, le-leb, ltb-true, ltb-false, leb-true, leb-false, ne-eqb}
 use Rattle.refusal.specs.declared.Refusal.{Refusal}
-use Rattle.refusal.specs.declared.Refusal.the-variants.{BadMagic, UnsupportedVersion, BadMacroCount, MalformedBody, InvalidKey, ForwardReference}
+use Rattle.refusal.specs.declared.Refusal.the-variants.{BadMagic, UnsupportedVersion, BadMacroCount, MalformedBody, InvalidKey, ForwardReference, ZeroRepeatCount}
+use Rattle.runs.specs.Keys.{member}
 use Rattle.runs.proofs.Tests.{and-parts}
 use Rattle.book.specs.declared.item.Item.{Item}
 use Rattle.book.specs.declared.item.Item.the-variants.{Key, Call}
-use Rattle.book.specs.Reading.{Reading, Reader, got, refused, next, done, le16, itemOf, checkItem, readItem, readItems, readMacro, readMacros, hasMagic, readHeader, atEnd, readAll, readBook}
+use Rattle.book.specs.Reading.{Reading, Reader, got, refused, next, done, le16, itemOf, timesIn, checkTimes, checkItem, readItem, readItems, readMacro, readMacros, hasMagic, readHeader, versionIn, atEnd, readAll, readIn, readBook}
+use Rattle.book.specs.Format.{repeated, versions, width}
+use Rattle.book.proofs.Items.{width-least, width-most}
 use Rattle.book.proofs.Header.{header-got}
 use Rattle.book.proofs.MacroItems.{drop-take}
 
@@ -77,16 +80,25 @@ done-within : {A : Type 0} (a : A) → Within 0 (done a)
 done-within a n b h = (n, omega arith, refl)
 
 -- An item, and what is tested of it.
-checked-within : (n : ℕ) (i : Item) (k m : ℕ) (rest : List ℕ) → k ≤ 2 + m → Agrees 2 k (checkItem n i (take m rest)) (checkItem n i rest)
-checked-within n (Key c) k m rest h = agrees-untest 2 k (got (Key c) (take m rest)) (got (Key c) rest) InvalidKey (eqb c 0) (λ e. (m, h, refl))
-checked-within n (Call j) k m rest h = agrees-test 2 k (got (Call j) (take m rest)) (got (Call j) rest) ForwardReference (ltb j n) (λ e. (m, h, refl))
+times-within : (i : Item) (t k m : ℕ) (rest : List ℕ) → k ≤ 4 + m → Agrees 4 k (checkTimes i t (take m rest)) (checkTimes i t rest)
+times-within i t k m rest h = agrees-untest 4 k (got (repeated i t) (take m rest)) (got (repeated i t) rest) ZeroRepeatCount (eqb t 0) (λ e. (m, h, refl))
 
-item-within : (n : ℕ) → Within 2 (readItem n)
+checked-within : (n : ℕ) (i : Item) (t k m : ℕ) (rest : List ℕ) → k ≤ 4 + m → Agrees 4 k (checkItem n i t (take m rest)) (checkItem n i t rest)
+checked-within n (Key c) t k m rest h = agrees-untest 4 k (checkTimes (Key c) t (take m rest)) (checkTimes (Key c) t rest) InvalidKey (eqb c 0) (λ e. times-within (Key c) t k m rest h)
+checked-within n (Call j) t k m rest h = agrees-test 4 k (checkTimes (Call j) t (take m rest)) (checkTimes (Call j) t rest) ForwardReference (ltb j n) (λ e. times-within (Call j) t k m rest h)
+
+times-take : (version n : ℕ) (b : List ℕ) → 4 ≤ n → timesIn version (take n b) ≡ timesIn version b
+unfolding timesIn
+times-take version n b h = rw (le16-take 2 n b (omega arith)) refl
+
+item-within : (v n : ℕ) → Within 4 (readItem v n)
 unfolding readItem
-item-within n k b h =
-    rw (few-take 2 k b h, le16-take 0 k b h, drop-take 2 k b)
-    (agrees-untest 2 k (checkItem n (itemOf (le16 b)) (take (k - 2) (drop 2 b))) (checkItem n (itemOf (le16 b)) (drop 2 b)) MalformedBody (ltb (length b) 2)
-    (λ e. checked-within n (itemOf (le16 b)) k (k - 2) (drop 2 b) (omega arith)))
+item-within v n k b h =
+    let wide = width-most v in
+    let least = width-least v in
+    rw (few-take (width v) k b (omega arith), le16-take 0 k b (omega arith), times-take v k b h, drop-take (width v) k b)
+    (agrees-untest 4 k (checkItem n (itemOf (le16 b)) (timesIn v b) (take (k - width v) (drop (width v) b))) (checkItem n (itemOf (le16 b)) (timesIn v b) (drop (width v) b)) MalformedBody (ltb (length b) (width v))
+    (λ e. checked-within n (itemOf (le16 b)) (timesIn v b) k (k - width v) (drop (width v) b) (omega arith)))
 
 -- Elements, each by a reader that takes at most k bytes.
 module _ {A : Type 0} (j k n : ℕ) (rest : Reader (List A)) (others : Within k rest) (room : j + k ≤ n) where
@@ -98,45 +110,45 @@ module _ {A : Type 0} (j k n : ℕ) (rest : Reader (List A)) (others : Within k 
           agrees-more (k + 0) k m m (omega arith) (next (rest (take m b)) (λ xs. done (a ∷ xs))) (next (rest b) (λ xs. done (a ∷ xs)))
           (agrees-next k 0 m (λ xs. done (a ∷ xs)) (λ xs. done-within (a ∷ xs)) (omega arith) (rest (take m b)) (rest b) (others m b l))
 
-items-within : (n k : ℕ) → Within (2 * k) (readItems n k)
+items-within : (v n k : ℕ) → Within (4 * k) (readItems v n k)
 unfolding readItems
-items-within n zero m b h = (m, omega arith, refl)
-items-within n (suc k) m b h =
-    agrees-more (2 + 2 * k) (2 * suc k) m m (omega arith) (readItems n (suc k) (take m b)) (readItems n (suc k) b)
-    (agrees-cons 2 (2 * k) m (readItems n k) (items-within n k) (omega arith) (readItem n (take m b)) (readItem n b) (item-within n m b (omega arith)))
+items-within v n zero m b h = (m, omega arith, refl)
+items-within v n (suc k) m b h =
+    agrees-more (4 + 4 * k) (4 * suc k) m m (omega arith) (readItems v n (suc k) (take m b)) (readItems v n (suc k) b)
+    (agrees-cons 4 (4 * k) m (readItems v n k) (items-within v n k) (omega arith) (readItem v n (take m b)) (readItem v n b) (item-within v n m b (omega arith)))
 
 -- A macro has its count, and 64 items at the most.
-macro-within : (n : ℕ) → Within 130 (readMacro n)
+macro-within : (v n : ℕ) → Within 258 (readMacro v n)
 unfolding readMacro
-macro-within n m b h =
+macro-within v n m b h =
     rw (few-take 2 m b (omega arith), le16-take 0 m b (omega arith), drop-take 2 m b)
-    (agrees-untest 130 m (cond (counted (le16 b)) (readItems n (le16 b) (take (m - 2) (drop 2 b))) (refused MalformedBody)) (cond (counted (le16 b)) (readItems n (le16 b) (drop 2 b)) (refused MalformedBody)) MalformedBody (ltb (length b) 2)
-    (λ e. agrees-test 130 m (readItems n (le16 b) (take (m - 2) (drop 2 b))) (readItems n (le16 b) (drop 2 b)) MalformedBody (counted (le16 b))
+    (agrees-untest 258 m (cond (counted (le16 b)) (readItems v n (le16 b) (take (m - 2) (drop 2 b))) (refused MalformedBody)) (cond (counted (le16 b)) (readItems v n (le16 b) (drop 2 b)) (refused MalformedBody)) MalformedBody (ltb (length b) 2)
+    (λ e. agrees-test 258 m (readItems v n (le16 b) (take (m - 2) (drop 2 b))) (readItems v n (le16 b) (drop 2 b)) MalformedBody (counted (le16 b))
     (λ f.
     let few : le16 b ≤ 64 = leb-true (le16 b) 64 (and-parts (leb 1 (le16 b)) (leb (le16 b) 64) f .1) in
-    agrees-more (2 * le16 b) 130 (m - 2) m (omega arith) (readItems n (le16 b) (take (m - 2) (drop 2 b))) (readItems n (le16 b) (drop 2 b))
-    (items-within n (le16 b) (m - 2) (drop 2 b) (omega arith)))))
+    agrees-more (4 * le16 b) 258 (m - 2) m (omega arith) (readItems v n (le16 b) (take (m - 2) (drop 2 b))) (readItems v n (le16 b) (drop 2 b))
+    (items-within v n (le16 b) (m - 2) (drop 2 b) (omega arith)))))
   where
     counted : ℕ → Bool
     counted c = leb 1 c && leb c 64
 
-macros-within : (n k : ℕ) → Within (130 * k) (readMacros n k)
+macros-within : (v n k : ℕ) → Within (258 * k) (readMacros v n k)
 unfolding readMacros
-macros-within n zero m b h = (m, omega arith, refl)
-macros-within n (suc k) m b h =
-    agrees-more (130 + 130 * k) (130 * suc k) m m (omega arith) (readMacros n (suc k) (take m b)) (readMacros n (suc k) b)
-    (agrees-cons 130 (130 * k) m (readMacros (suc n) k) (macros-within (suc n) k) (omega arith) (readMacro n (take m b)) (readMacro n b) (macro-within n m b (omega arith)))
+macros-within v n zero m b h = (m, omega arith, refl)
+macros-within v n (suc k) m b h =
+    agrees-more (258 + 258 * k) (258 * suc k) m m (omega arith) (readMacros v n (suc k) (take m b)) (readMacros v n (suc k) b)
+    (agrees-cons 258 (258 * k) m (readMacros v (suc n) k) (macros-within v (suc n) k) (omega arith) (readMacro v n (take m b)) (readMacro v n b) (macro-within v n m b (omega arith)))
 
 -- The header.
 magic-take : (n : ℕ) (b : List ℕ) → 3 ≤ n → hasMagic (take n b) ≡ hasMagic b
 magic-take n b h = rw (getD-take n b 0 0 (omega arith), getD-take n b 1 0 (omega arith), getD-take n b 2 0 (omega arith)) refl
 
-header-within : Within 7 readHeader
+header-within : (taken : List ℕ) → Within 7 (readHeader taken)
 unfolding readHeader
-header-within n b h =
+header-within taken n b h =
     rw (many-take 7 n b h, magic-take n b (omega arith), le16-take 3 n b (omega arith), le16-take 5 n b (omega arith), drop-take 7 n b)
     (agrees-test 7 n (version short) (version whole) BadMagic (leb 7 (length b) && hasMagic b)
-    (λ e. agrees-test 7 n (count short) (count whole) UnsupportedVersion (eqb (le16 (drop 3 b)) 1)
+    (λ e. agrees-test 7 n (count short) (count whole) UnsupportedVersion (member (le16 (drop 3 b)) taken)
     (λ f. agrees-test 7 n short whole BadMacroCount (leb 1 (le16 (drop 5 b)) && leb (le16 (drop 5 b)) 1024) (λ g. (n - 7, omega arith, refl)))))
   where
     short : Reading ℕ
@@ -149,7 +161,7 @@ header-within n b h =
     count g = cond (leb 1 (le16 (drop 5 b)) && leb (le16 (drop 5 b)) 1024) g (refused BadMacroCount)
 
     version : Reading ℕ → Reading ℕ
-    version g = cond (eqb (le16 (drop 3 b)) 1) (count g) (refused UnsupportedVersion)
+    version g = cond (member (le16 (drop 3 b)) taken) (count g) (refused UnsupportedVersion)
 
 -- Nothing follows: one byte behind the macros is enough to see that something does.
 end-alike : {A : Type 0} (k n : ℕ) → k < n → (short whole : Reading A) → Agrees k n short whole → next short atEnd ≡ next whole atEnd
@@ -164,13 +176,18 @@ end-alike k n h short (got a rest) (m, l, e) = rw e (go m rest (omega arith))
         let more : suc (length w) ≡ 0 → ⊥ = omega arith in
         rw (ne-eqb _ _ some, ne-eqb _ _ more) refl
 
--- a book of any length is read as its first 133,128 bytes: the header's 7, 1,024 macros of at most 130, and one
-pub book-prefix : (n : ℕ) (b : List ℕ) → 133128 ≤ n → readBook (take n b) ≡ readBook b
-unfolding readBook readAll
-book-prefix n b h = go (readHeader (take n b)) (readHeader b) refl (header-within n b (omega arith))
+-- the version stands in the first five bytes
+pub version-prefix : (n : ℕ) (b : List ℕ) → 5 ≤ n → versionIn (take n b) ≡ versionIn b
+unfolding versionIn
+version-prefix n b h = rw (few-take 5 n b h, le16-take 3 n b h) refl
+
+-- a book of any length is read as its first 264,200 bytes: the header's 7, 1,024 macros of at most 258, and one
+pub book-prefix : (n : ℕ) (b : List ℕ) → 264200 ≤ n → readBook (take n b) ≡ readBook b
+unfolding readBook readIn readAll
+book-prefix n b h = rw (version-prefix n b (omega arith)) (go (readHeader versions (take n b)) (readHeader versions b) refl (header-within versions n b (omega arith)))
   where
-    go : (short whole : Reading ℕ) → readHeader b ≡ whole → Agrees 7 n short whole → next short readAll ≡ next whole readAll
+    go : (short whole : Reading ℕ) → readHeader versions b ≡ whole → Agrees 7 n short whole → next short (λ k. readAll (versionIn b) k) ≡ next whole (λ k. readAll (versionIn b) k)
     go short (refused r) d e = rw e refl
     go short (got k rest) d (m, l, e) =
-        let few : k ≤ 1024 = header-got b k rest d .few in
-        rw e (end-alike (130 * k) m (omega arith) (readMacros 0 k (take m rest)) (readMacros 0 k rest) (macros-within 0 k m rest (omega arith)))
+        let few : k ≤ 1024 = header-got versions b k rest d .few in
+        rw e (end-alike (258 * k) m (omega arith) (readMacros (versionIn b) 0 k (take m rest)) (readMacros (versionIn b) 0 k rest) (macros-within (versionIn b) 0 k m rest (omega arith)))

@@ -11,7 +11,7 @@ use Rattle.runs.proofs.Tests.{clash}
 use Rattle.refusal.specs.declared.Refusal.{Refusal}
 use Rattle.refusal.specs.declared.Refusal.the-variants.{NoSuchMacro, InsufficientSpace}
 use Rattle.book.specs.Reading.{readBook, macrosIn}
-use Rattle.book.specs.Answer.{layoutFigures, layoutResult}
+use Rattle.book.specs.Answer.{layoutFigures, bookLayout}
 use Rattle.book.specs.declared.layout.Checked.{Checked}
 use Rattle.book.specs.declared.layout.Layout.{Layout}
 use Rattle.book.specs.declared.space.Space.{Space}
@@ -19,7 +19,7 @@ use Rattle.book.specs.Steps.{refused, settled, _>>=_, answerBy, bookStep
 use Rattle.book.proofs.LayoutLaws.{layout-figures, layout-table, layout-refused, layout-sound, layout-count}
 
 -- The book, by what `layout_of` answers.
-module _ (book : List ℕ) (l : Layout) (e : layoutFigures l ≡ layoutResult (readBook book)) where
+module _ (book : List ℕ) (l : Layout) (e : layoutFigures l ≡ bookLayout book) where
   pub book-refuses : {r : Refusal} → l .answer ≡ Checked.Refused r → bookStep (readBook book) ≡ refused r
   book-refuses f = ap bookStep (layout-refused book (layout-figures book e) f)
 

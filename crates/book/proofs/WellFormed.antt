@@ -1,31 +1,36 @@
--- A book is well-formed exactly if each of its macros is sound, item by item.
-use Prim.Native.Nat.{ℕ, suc, _+_, _<_, _≤_}
+-- A book is well-formed exactly if each of its macros is sound, item by item; and it can be written in a version exactly if each item can.
+use Prim.Native.Nat.{ℕ, zero, suc, _+_, _<_, _≤_}
 use native.Mathlib.Nat.{add-zero, add-suc, suc-add, zero-add}
 use native.Mathlib.Omega.{arith}
-use mathlib.Core.Path.{_≡_, refl}
-use mathlib.Core.Logic.{_↔_}
+use mathlib.Core.Path.{_≡_, refl, ap}
+use mathlib.Core.Logic.{_↔_, ⊎-elim}
 use mathlib.Core.Bool.{true, _&&_}
-use mathlib.Core.List.{List, [], _∷_, List·Memᴰ, List·Memᴰ·head, List·Memᴰ·tail}
+use mathlib.Core.List.{List, [], _∷_, List·Memᴰ, List·Memᴰ·head, List·Memᴰ·tail, List·Memᴰ·not-nil, List·Memᴰ·cases-cons}
 use lib.Dec.{leb}
 use lib.ListN.{length, getD}
-use borrow.Author.Tests.{leb-true, lt-ltb, le-leb}
+use borrow.Author.Tests.{leb-true, lt-ltb, le-leb, eqb-true, eq-eqb}
 use Rattle.book.specs.declared.item.Item.{Item}
 use Rattle.book.specs.declared.item.Item.the-variants.{Key, Call}
-use Rattle.book.specs.Format.{Macro, soundItem, soundItems, soundMacro, soundMacros, wellFormed}
-use Rattle.book.proofs.Expansion.{well-nonempty, well-short, well-key, calls-lower}
+use Rattle.book.specs.Format.{Repeated, repeated, Macro, soundTarget, soundItem, soundItems, soundMacro, soundMacros, wellFormed, itemFits, itemsFit, fits}
+use Rattle.book.proofs.Expansion.{well-nonempty, well-short, well-key, call-lower, well-times}
 use Rattle.runs.specs.Keys.{isKey}
 use Rattle.runs.proofs.Tests.{and-both, and-parts}
 
--- what the format asks of an item of macro n
-abbrev pub ItemSound : ℕ → Item → Type 0
-ItemSound n (Key k) = isKey k ≡ true
-ItemSound n (Call j) = j < n
+-- what the format asks of a key or a call in macro n
+abbrev pub TargetSound : ℕ → Item → Type 0
+TargetSound n (Key k) = isKey k ≡ true
+TargetSound n (Call j) = j < n
+
+-- of an item of macro n
+pub record ItemSound (n : ℕ) (i : Repeated) : Type 0 where
+  pub target : TargetSound n (i .item)
+  pub some : 1 ≤ i .times
 
 -- of macro n
 pub record MacroSound (n : ℕ) (items : Macro) : Type 0 where
   pub some : 1 ≤ length items
   pub few : length items ≤ 64
-  pub each : (i : Item) → List·Memᴰ i items → ItemSound n i
+  pub each : (i : Repeated) → List·Memᴰ i items → ItemSound n i
 
 -- and of a book's macros
 pub record BookSound (ms : List Macro) : Type 0 where
@@ -33,14 +38,18 @@ pub record BookSound (ms : List Macro) : Type 0 where
   pub few : length ms ≤ 1024
   pub each : (i : ℕ) → i < length ms → MacroSound i (getD ms i [])
 
-items-from : (n : ℕ) (is : List Item) → ((i : Item) → List·Memᴰ i is → ItemSound n i) → soundItems n is ≡ true
-unfolding soundItems soundItem
-items-from n [] e = refl
-items-from n (i ∷ is) e = and-both (soundItem n i) (soundItems n is) (item i (e i (List·Memᴰ·head refl))) (items-from n is (λ j c. e j (List·Memᴰ·tail c)))
+item-from : (n : ℕ) (i : Repeated) → ItemSound n i → soundItem n i ≡ true
+unfolding soundItem soundTarget
+item-from n i s = and-both (soundTarget n (i .item)) (leb 1 (i .times)) (target (i .item) (s .target)) (le-leb 1 (i .times) (s .some))
   where
-    item : (i : Item) → ItemSound n i → soundItem n i ≡ true
-    item (Key k) h = h
-    item (Call j) h = lt-ltb j n h
+    target : (x : Item) → TargetSound n x → soundTarget n x ≡ true
+    target (Key k) h = h
+    target (Call j) h = lt-ltb j n h
+
+items-from : (n : ℕ) (is : Macro) → ((i : Repeated) → List·Memᴰ i is → ItemSound n i) → soundItems n is ≡ true
+unfolding soundItems
+items-from n [] e = refl
+items-from n (i ∷ is) e = and-both (soundItem n i) (soundItems n is) (item-from n i (e i (List·Memᴰ·head refl))) (items-from n is (λ j c. e j (List·Memᴰ·tail c)))
 
 macro-from : (n : ℕ) (m : Macro) → MacroSound n m → soundMacro n m ≡ true
 unfolding soundMacro
@@ -72,6 +81,44 @@ well-iff ms = (
       (and-both (leb (length ms) 1024) (soundMacros 0 ms) (le-leb (length ms) 1024 (s .few)) (macros-from 0 ms (λ i l. rw zero-add (s .each i l)))),
 )
   where
-    item : wellFormed ms ≡ true → (i : ℕ) (x : Item) → List·Memᴰ x (getD ms i []) → ItemSound i x
-    item h i (Key k) c = well-key ms h i c
-    item h i (Call j) c = calls-lower ms h c
+    target : wellFormed ms ≡ true → (i : ℕ) (x : Item) (n : ℕ) → List·Memᴰ (repeated x n) (getD ms i []) → TargetSound i x
+    target h i (Key k) n c = well-key ms h i c
+    target h i (Call j) n c = call-lower ms h i c
+
+    item : wellFormed ms ≡ true → (i : ℕ) (x : Repeated) → List·Memᴰ x (getD ms i []) → ItemSound i x
+    item h i x c = record { target = target h i (x .item) (x .times) c; some = well-times ms h i c }
+
+-- Items that can be written in a version.
+items-fit : (version : ℕ) (is : Macro) → (itemsFit version is ≡ true) ↔ ((i : Repeated) → List·Memᴰ i is → itemFits version i ≡ true)
+unfolding itemsFit
+items-fit version [] = (λ e i c. absurd (List·Memᴰ·not-nil c), λ e. refl)
+items-fit version (x ∷ is) = (
+  λ e i c. let (one, others) = and-parts (itemFits version x) (itemsFit version is) e in ⊎-elim (λ s. rw s one) (items-fit version is .0 others i) (List·Memᴰ·cases-cons c),
+  λ e. and-both (itemFits version x) (itemsFit version is) (e x (List·Memᴰ·head refl)) (items-fit version is .1 (λ i c. e i (List·Memᴰ·tail c))),
+)
+
+-- each item of each macro
+pub fits-iff : (version : ℕ) (ms : List Macro) → (fits version ms ≡ true) ↔ ((m : ℕ) (i : Repeated) → List·Memᴰ i (getD ms m []) → itemFits version i ≡ true)
+unfolding fits
+fits-iff version [] = (λ e m i c. absurd (List·Memᴰ·not-nil c), λ e. refl)
+fits-iff version (x ∷ ms) = (
+  λ e m. let (one, others) = and-parts (itemsFit version x) (fits version ms) e in at one (fits-iff version ms .0 others) m,
+  λ e. and-both (itemsFit version x) (fits version ms) (items-fit version x .1 (e 0)) (fits-iff version ms .1 (λ m. e (suc m))),
+)
+  where
+    at : itemsFit version x ≡ true → ((m : ℕ) (i : Repeated) → List·Memᴰ i (getD ms m []) → itemFits version i ≡ true) → (m : ℕ) (i : Repeated) → List·Memᴰ i (getD (x ∷ ms) m []) → itemFits version i ≡ true
+    at one others zero = items-fit version x .0 one
+    at one others (suc m) = others m
+
+-- "a version 1 item stands once"
+pub fits-once : (i : Repeated) → (itemFits 1 i ≡ true) ↔ (i .times ≡ 1)
+unfolding itemFits
+fits-once i = (eqb-true (i .times) 1, eq-eqb (i .times) 1)
+
+-- so what can be written in version 1 can be written in version 2
+pub one-fits-two : (ms : List Macro) → fits 1 ms ≡ true → fits 2 ms ≡ true
+unfolding itemFits
+one-fits-two ms h = fits-iff 2 ms .1 (λ m i c. two i (fits-once i .0 (fits-iff 1 ms .0 h m i c)))
+  where
+    two : (i : Repeated) → i .times ≡ 1 → itemFits 2 i ≡ true
+    two i e = le-leb (i .times) 65535 (omega arith)

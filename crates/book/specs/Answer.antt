@@ -9,9 +9,9 @@ use Rattle.refusal.specs.Number as Number
 use Rattle.refusal.specs.Figures.{Figures, answered, refusedFor}
 use Rattle.book.specs.declared.layout.Checked.{Checked}
 use Rattle.book.specs.declared.layout.Layout.{Layout}
-use Rattle.book.specs.Format.{Macro}
 use Rattle.book.specs.Offset.{starts, bodyPart, offset}
-use Rattle.book.specs.Reading.{Reading, Reader, got, refused, _>>=_, readBook}
+use Rattle.book.specs.Format.{Macro, width}
+use Rattle.book.specs.Reading.{Reading, Reader, got, refused, _>>=_, readBook, versionIn}
 
 -- the check of a book: its macro count
 abbrev pub checkedFigures : Checked → Figures ℕ
@@ -31,20 +31,24 @@ abbrev pub layoutFigures : Layout → LayoutFigures
 layoutFigures l = record { check = checkedFigures (l .answer); offsets = l .offsets }
 
 -- zeros in the offsets that are left over, or where it is refused
-abbrev pub offsetsOf : Reading (List Macro) → List ℕ
-offsetsOf (got ms rest) = starts 7 ms ++ replicate (1024 - length ms) 0
-offsetsOf (refused r) = replicate 1025 0
+abbrev pub offsetsOf : ℕ → Reading (List Macro) → List ℕ
+offsetsOf version (got ms rest) = starts (width version) 7 ms ++ replicate (1024 - length ms) 0
+offsetsOf version (refused r) = replicate 1025 0
 
-abbrev pub layoutResult : Reading (List Macro) → LayoutFigures
-layoutResult g = record { check = checkResult g; offsets = offsetsOf g }
+abbrev pub layoutResult : ℕ → Reading (List Macro) → LayoutFigures
+layoutResult version g = record { check = checkResult g; offsets = offsetsOf version g }
+
+-- the layout of a book's bytes, by its version
+abbrev pub bookLayout : List ℕ → LayoutFigures
+bookLayout b = layoutResult (versionIn b) (readBook b)
 
 -- the layout with these figures, and that of a book's bytes; no public contract cites it
-abbrev pub layoutFor : Reading (List Macro) → Layout
-layoutFor (got ms rest) = record { answer = Checked.Sound (length ms); offsets = offsetsOf (got ms rest) }
-layoutFor (refused r) = record { answer = Checked.Refused r; offsets = offsetsOf (refused r) }
+abbrev pub layoutFor : ℕ → Reading (List Macro) → Layout
+layoutFor version (got ms rest) = record { answer = Checked.Sound (length ms); offsets = offsetsOf version (got ms rest) }
+layoutFor version (refused r) = record { answer = Checked.Refused r; offsets = offsetsOf version (refused r) }
 
 unfoldable pub layout : List ℕ → Layout
-layout b = layoutFor (readBook b)
+layout b = layoutFor (versionIn b) (readBook b)
 
 -- 10 after 1 to 6: "m not below M"
 unfoldable pub requireMacro : ℕ → Reader (List Macro)
@@ -54,13 +58,13 @@ requireMacro m = do
 
 -- the body of macro m; "a refused body is an empty part"
 abbrev pub bodyOf : List ℕ → ℕ → Reading (List Macro) → List ℕ
-bodyOf b m (got ms rest) = bodyPart b ms m
+bodyOf b m (got ms rest) = bodyPart (versionIn b) b ms m
 bodyOf b m (refused r) = []
 
--- where the body of macro m stands, in a book that stands at p
-abbrev pub bodyAt : ℕ × ℕ → ℕ → Reading (List Macro) → ℕ × ℕ
-bodyAt p m (got ms rest) = (p .0, offset ms m + 2 + p .1)
-bodyAt p m (refused r) = p
+-- where the body of macro m stands, in a book of a version that stands at p
+abbrev pub bodyAt : ℕ × ℕ → ℕ → ℕ → Reading (List Macro) → ℕ × ℕ
+bodyAt p version m (got ms rest) = (p .0, offset version ms m + 2 + p .1)
+bodyAt p version m (refused r) = p
 
 -- "its refusal stands in a lent number (0 if accepted)"
 abbrev pub refusalOf : {A : Type 0} → Reading A → ℕ

@@ -1,13 +1,12 @@
 -- The items of one macro, found by a table of offsets, and the bytes that hold them.
 use Prim.Native.Nat.{ℕ, zero, suc, _+_, _-_, _/_, min}
 use mathlib.Core.Bool.{Bool, _&&_, cond}
-use mathlib.Core.List.{List, [], _∷_, _++_, map}
+use mathlib.Core.List.{List, [], _∷_, _++_}
 use lib.Dec.{leb, ltb}
 use lib.ListN.{length, drop, getD, replicate, take}
-use Rattle.book.specs.declared.item.Item.{Item}
 use Rattle.book.specs.declared.macro_items.Items.{Items}
-use Rattle.book.specs.Format.{width}
-use Rattle.book.specs.Reading.{itemOf, le16}
+use Rattle.book.specs.Format.{Repeated, repeated, Macro, width}
+use Rattle.book.specs.Reading.{itemOf, le16, timesIn, versionIn}
 
 -- where the items of macro i start, behind its two-byte item count, and where they end, at the next macro
 abbrev pub itemsStart : List ℕ → ℕ → ℕ
@@ -32,23 +31,37 @@ partFrom b offsets i = cond (placed b offsets i) (between (itemsStart offsets i)
 unfoldable pub partAt : ℕ × ℕ → List ℕ → List ℕ → ℕ → ℕ × ℕ
 partAt p b offsets i = cond (placed b offsets i) (p .0, itemsStart offsets i + p .1) p
 
--- the numbers of the first k items that some bytes hold
-unfoldable pub codesIn : ℕ → List ℕ → List ℕ
-codesIn zero b = []
-codesIn (suc k) b = le16 b ∷ codesIn k (drop width b)
+-- a number of each of the first k items that some bytes hold, of so many bytes each
+unfoldable pub eachIn : (List ℕ → ℕ) → ℕ → ℕ → List ℕ → List ℕ
+eachIn f wide zero b = []
+eachIn f wide (suc k) b = f b ∷ eachIn f wide k (drop wide b)
 
 -- k items, and zeros up to 64
-abbrev pub itemsUpTo : ℕ → List ℕ → Items
-itemsUpTo k b = record { codes = codesIn k b ++ replicate (64 - k) 0; count = k }
+abbrev pub itemsUpTo : ℕ → ℕ → List ℕ → Items
+itemsUpTo version k b =
+    record {
+      codes = eachIn le16 (width version) k b ++ replicate (64 - k) 0;
+      times = eachIn (timesIn version) (width version) k b ++ replicate (64 - k) 0;
+      count = k;
+    }
 
--- the items that some bytes hold, 64 at the most
-unfoldable pub itemsIn : List ℕ → Items
-itemsIn b = itemsUpTo (min 64 (length b / width)) b
+-- the items of a version that some bytes hold, 64 at the most
+unfoldable pub itemsIn : ℕ → List ℕ → Items
+itemsIn version b = itemsUpTo version (min 64 (length b / width version)) b
 
 -- the items of macro i of b, where `offsets` says where the macros start
 unfoldable pub itemsFrom : List ℕ → List ℕ → ℕ → Items
-itemsFrom b offsets i = itemsIn (partFrom b offsets i)
+itemsFrom b offsets i = itemsIn (versionIn b) (partFrom b offsets i)
 
--- what the first `count` numbers stand for
-unfoldable pub decoded : Items → List Item
-decoded r = map itemOf (take (r .count) (r .codes))
+-- what the numbers of item k stand for
+abbrev pub itemAt : Items → ℕ → Repeated
+itemAt r k = repeated (itemOf (getD (r .codes) k 0)) (getD (r .times) k 0)
+
+-- and those of the first n
+unfoldable pub decodedTo : ℕ → Items → Macro
+decodedTo zero r = []
+decodedTo (suc n) r = decodedTo n r ++ (itemAt r n ∷ [])
+
+-- and those of all
+unfoldable pub decoded : Items → Macro
+decoded r = decodedTo (r .count) r

@@ -9,11 +9,11 @@ use Rattle.book.specs.declared.item.ItemRead.the-variants.{Found, Short}
 use Rattle.book.specs.declared.layout.Header.{Header}
 use Rattle.book.specs.declared.layout.Walk.{Walk}
 use Rattle.book.specs.Format.{width}
-use Rattle.book.specs.Reading.{Reading, got, refused, le16}
+use Rattle.book.specs.Reading.{Reading, got, refused, le16, timesIn}
 
--- the number of the item at the front of some bytes, where they are enough
-abbrev pub codeAt : List ℕ → ItemRead
-codeAt b = cond (ltb (length b) width) Short (Found (le16 b))
+-- the numbers of the item at the front of some bytes, where they are enough
+abbrev pub numbersAt : ℕ → List ℕ → ItemRead
+numbersAt version b = cond (ltb (length b) (width version)) Short (Found (le16 b) (timesIn version b))
 
 -- where reading goes on in a book of n bytes
 abbrev pub walkOf : {A : Type 0} → ℕ → Reading A → Walk

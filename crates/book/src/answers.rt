@@ -1,5 +1,4 @@
 // What is asked of a whole book.
-use crate::item::le16_at;
 use crate::layout::Checked;
 use crate::layout::layout_of;
 use crate::macro_items::part_of;
@@ -18,20 +17,10 @@ pub fn check(book: &[u8]) -> Checked
     found.answer
 }
 
-// The version that a book's bytes give, 0 where they do not reach so far.
-pub fn version_of(book: &[u8]) -> u16
-    ensures { λ r. ⌜ r ≡ versionIn (now (book .entry)) ⌝ }
-{
-    if book.len() < 5 {
-        return 0;
-    }
-    le16_at(book, 3)
-}
-
 // The body of macro m, as that part of the book; the refusal's number goes to `refused`, 0 if there is none.
 pub fn body<'a>(book: &'a [u8], m: usize, refused: &mut u8) -> &'a [u8]
     ensures part { λ r. ⌜ now r ≡ bodyOf (now (book .entry)) m (requireMacro m (now (book .entry))) ⌝ }
-    ensures offset { λ r. ⌜ ptr r ≡ bodyAt (ptr (book .entry)) m (requireMacro m (now (book .entry))) ⌝ }
+    ensures offset { λ r. ⌜ ptr r ≡ bodyAt (ptr (book .entry)) (versionIn (now (book .entry))) m (requireMacro m (now (book .entry))) ⌝ }
     ensures number { λ _. ⌜ now (refused .exit) ≡ refusalOf (requireMacro m (now (book .entry))) ⌝ }
 {
     let found = layout_of(book);

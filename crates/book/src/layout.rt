@@ -1,19 +1,24 @@
-// The check of a whole book, in reading order (document 01, "Refused", 1 to 6), and the places of its macros.
+// The check of a whole book, in reading order (document 01, "Refused", 1 to 6, and document 02's 20), and the places of its macros.
 use crate::item::Item;
 use crate::item::ItemRead;
-use crate::item::WIDTH;
 use crate::item::item_of;
-use crate::item::le16_at;
 use crate::item::read_item;
+use crate::number::le16_at;
+use crate::version::is_taken;
+use crate::version::version_of;
+use crate::version::width_of;
 use refusal::Refusal;
 ghost use mathlib.Core.Path.{_≡_};
 ghost use Prim.Native.Nat.{_≤_};
-ghost use mathlib.Core.Bool.{_&&_};
+ghost use mathlib.Core.Bool.{_&&_, cond};
 ghost use mathlib.Core.List.{_∷_};
-ghost use lib.Dec.{leb};
+ghost use lib.Dec.{eqb, leb};
 ghost use lib.ListN.{length, drop, replicate};
-ghost use Rattle.book.specs.Reading.{hasMagic, readAll, readBook, readHeader, readItem, readItems, readMacro, refused};
-ghost use Rattle.book.specs.Answer.{layoutFigures, layoutFor, layoutResult};
+ghost use Rattle.refusal.specs.declared.Refusal.the-variants.{ZeroRepeatCount};
+ghost use Rattle.book.specs.declared.layout.Walk.{Walk};
+ghost use Rattle.book.specs.Format.{versions};
+ghost use Rattle.book.specs.Reading.{hasMagic, readAll, readHeader, readItem, readItems, readMacro, refused, versionIn};
+ghost use Rattle.book.specs.Answer.{bookLayout, layoutFigures, layoutFor};
 ghost use Rattle.book.specs.Promises.{headerOf, walkOf};
 
 // Document 01's mark, which a book begins with.
@@ -55,12 +60,12 @@ fn has_magic(s: &[u8]) -> bool
 }
 
 fn read_header(s: &[u8]) -> Header
-    ensures { λ r. ⌜ r ≡ headerOf (readHeader (now (s .entry))) ⌝ }
+    ensures { λ r. ⌜ r ≡ headerOf (readHeader versions (now (s .entry))) ⌝ }
 {
     if !has_magic(s) {
         return Header::Refused(Refusal::BadMagic);
     }
-    if le16_at(s, 3) != 1 {
+    if !is_taken(le16_at(s, 3)) {
         return Header::Refused(Refusal::UnsupportedVersion);
     }
     let count = le16_at(s, 5);
@@ -70,39 +75,50 @@ fn read_header(s: &[u8]) -> Header
     Header::Macros(count)
 }
 
-// One item of macro n.
-fn check_item(s: &[u8], at: usize, n: u16) -> Walk
-    ensures { λ r. ⌜ r ≡ walkOf (length (now (s .entry))) (readItem n (drop at (now (s .entry)))) ⌝ }
+// On to the next item, or 20.
+fn check_times(times: u16, next: usize) -> Walk
+    ensures { λ r. ⌜ r ≡ cond (eqb times 0) (Walk.Refused ZeroRepeatCount) (Walk.At next) ⌝ }
 {
-    let read = read_item(s, at);
-    let ItemRead::Found(code) = read else {
+    if times == 0 {
+        return Walk::Refused(Refusal::ZeroRepeatCount);
+    }
+    Walk::At(next)
+}
+
+// One item of macro n, in a book of a version.
+fn check_item(s: &[u8], at: usize, n: u16, version: u16) -> Walk
+    ensures { λ r. ⌜ r ≡ walkOf (length (now (s .entry))) (readItem version n (drop at (now (s .entry)))) ⌝ }
+{
+    let read = read_item(s, at, version);
+    let ItemRead::Found(code, times) = read else {
         return Walk::Refused(Refusal::MalformedBody);
     };
+    let next = at + width_of(version);
     match item_of(code) {
         Item::Key(k) => {
             if k == 0 {
                 return Walk::Refused(Refusal::InvalidKey);
             }
-            Walk::At(at + WIDTH)
+            check_times(times, next)
         }
         Item::Call(j) => {
             if n <= j {
                 return Walk::Refused(Refusal::ForwardReference);
             }
-            Walk::At(at + WIDTH)
+            check_times(times, next)
         }
     }
 }
 
 // The items of macro n: `count` of them.
-fn check_items(s: &[u8], start: usize, count: u16, n: u16) -> Walk
+fn check_items(s: &[u8], start: usize, count: u16, n: u16, version: u16) -> Walk
     requires { ⌜ start ≤ length (now s) ⌝ }
-    ensures { λ r. ⌜ r ≡ walkOf (length (now (s .entry))) (readItems n count (drop start (now (s .entry)))) ⌝ }
+    ensures { λ r. ⌜ r ≡ walkOf (length (now (s .entry))) (readItems version n count (drop start (now (s .entry)))) ⌝ }
 {
     let mut at = start;
     let mut left = count;
     while 0 < left {
-        match check_item(s, at, n) {
+        match check_item(s, at, n, version) {
             Walk::At(next) => {
                 at = next;
             }
@@ -116,9 +132,9 @@ fn check_items(s: &[u8], start: usize, count: u16, n: u16) -> Walk
 }
 
 // Macro n, its item count and its items.
-fn check_macro(s: &[u8], at: usize, n: u16) -> Walk
+fn check_macro(s: &[u8], at: usize, n: u16, version: u16) -> Walk
     requires { ⌜ at ≤ length (now s) ⌝ }
-    ensures { λ r. ⌜ r ≡ walkOf (length (now (s .entry))) (readMacro n (drop at (now (s .entry)))) ⌝ }
+    ensures { λ r. ⌜ r ≡ walkOf (length (now (s .entry))) (readMacro version n (drop at (now (s .entry)))) ⌝ }
 {
     if s.len() - at < 2 {
         return Walk::Refused(Refusal::MalformedBody);
@@ -127,11 +143,11 @@ fn check_macro(s: &[u8], at: usize, n: u16) -> Walk
     if !((1 <= count) & (count <= 64)) {
         return Walk::Refused(Refusal::MalformedBody);
     }
-    check_items(s, at + 2, count, n)
+    check_items(s, at + 2, count, n, version)
 }
 
 fn refused_layout(r: Refusal) -> Layout
-    ensures { λ x. ⌜ x ≡ layoutFor (refused r) ⌝ }
+    ensures { λ x. ⌜ x ≡ layoutFor 1 (refused r) ⌝ }
 {
     Layout {
         answer: Checked::Refused(r),
@@ -151,13 +167,14 @@ fn first_offset() -> [usize; 1025]
 // The macros of a book whose header gives `count`.
 fn layout_macros(s: &[u8], count: u16) -> Layout
     requires { ⌜ (7 ≤ length (now s)) × (count ≤ 1024) ⌝ }
-    ensures { λ r. ⌜ r ≡ layoutFor (readAll count (drop 7 (now (s .entry)))) ⌝ }
+    ensures { λ r. ⌜ r ≡ layoutFor (versionIn (now (s .entry))) (readAll (versionIn (now (s .entry))) count (drop 7 (now (s .entry)))) ⌝ }
 {
+    let version = version_of(s);
     let mut offsets = first_offset();
     let mut at = 7;
     let mut n = 0;
     while n < count {
-        match check_macro(s, at, n) {
+        match check_macro(s, at, n, version) {
             Walk::At(next) => {
                 at = next;
             }
@@ -179,7 +196,7 @@ fn layout_macros(s: &[u8], count: u16) -> Layout
 
 // One walk over the book: the check of each byte, and the places.
 pub fn layout_of(book: &[u8]) -> Layout
-    ensures { λ r. ⌜ layoutFigures r ≡ layoutResult (readBook (now (book .entry))) ⌝ }
+    ensures { λ r. ⌜ layoutFigures r ≡ bookLayout (now (book .entry)) ⌝ }
 {
     match read_header(book) {
         Header::Macros(count) => layout_macros(book, count),

@@ -5,13 +5,13 @@ use mathlib.Core.List.{List, [], _∷_}
 use mathlib.Core.Path.{_≡_, refl, ap, sym, _∙_}
 use lib.ListN.{getD}
 use Rattle.refusal.specs.declared.Refusal.{Refusal}
-use Rattle.refusal.specs.declared.Refusal.the-variants.{BadMagic, UnsupportedVersion, BadMacroCount, MalformedBody, InvalidKey, ForwardReference, PatternLength, PatternSyntax, TooManyAtoms, NoSuchMacro, InsufficientSpace, CountOverflow, ReportMismatch, InputTooLong, InvalidDelimiters, RunTooLong}
+use Rattle.refusal.specs.declared.Refusal.the-variants.{BadMagic, UnsupportedVersion, BadMacroCount, MalformedBody, InvalidKey, ForwardReference, PatternLength, PatternSyntax, TooManyAtoms, NoSuchMacro, InsufficientSpace, CountOverflow, ReportMismatch, InputTooLong, InvalidDelimiters, RunTooLong, ZeroRepeatCount}
 use Rattle.refusal.specs.Number.{number}
 
 -- the refusals in the order of their numbers; no refusal has 15 to 17
 table : List Refusal
 table =
-    BadMagic ∷ UnsupportedVersion ∷ BadMacroCount ∷ MalformedBody ∷ InvalidKey ∷ ForwardReference ∷ PatternLength ∷ PatternSyntax ∷ TooManyAtoms ∷ NoSuchMacro ∷ InsufficientSpace ∷ CountOverflow ∷ ReportMismatch ∷ InputTooLong ∷ BadMagic ∷ BadMagic ∷ BadMagic ∷ InvalidDelimiters ∷ RunTooLong ∷ []
+    BadMagic ∷ UnsupportedVersion ∷ BadMacroCount ∷ MalformedBody ∷ InvalidKey ∷ ForwardReference ∷ PatternLength ∷ PatternSyntax ∷ TooManyAtoms ∷ NoSuchMacro ∷ InsufficientSpace ∷ CountOverflow ∷ ReportMismatch ∷ InputTooLong ∷ BadMagic ∷ BadMagic ∷ BadMagic ∷ InvalidDelimiters ∷ RunTooLong ∷ ZeroRepeatCount ∷ []
 
 named : ℕ → Refusal
 named n = getD table (n - 1) BadMagic
@@ -34,6 +34,7 @@ named-number ReportMismatch = refl
 named-number InputTooLong = refl
 named-number InvalidDelimiters = refl
 named-number RunTooLong = refl
+named-number ZeroRepeatCount = refl
 
 -- no two refusals have the same number
 pub number-injective : (r s : Refusal) → number r ≡ number s → r ≡ s
@@ -57,3 +58,4 @@ number-positive ReportMismatch = omega arith
 number-positive InputTooLong = omega arith
 number-positive InvalidDelimiters = omega arith
 number-positive RunTooLong = omega arith
+number-positive ZeroRepeatCount = omega arith

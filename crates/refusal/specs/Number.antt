@@ -1,7 +1,7 @@
 -- Document 01, "Refused", and document 02: the number of each refusal.
 use Prim.Native.Nat.{ℕ}
 use Rattle.refusal.specs.declared.Refusal.{Refusal}
-use Rattle.refusal.specs.declared.Refusal.the-variants.{BadMagic, UnsupportedVersion, BadMacroCount, MalformedBody, InvalidKey, ForwardReference, PatternLength, PatternSyntax, TooManyAtoms, NoSuchMacro, InsufficientSpace, CountOverflow, ReportMismatch, InputTooLong, InvalidDelimiters, RunTooLong}
+use Rattle.refusal.specs.declared.Refusal.the-variants.{BadMagic, UnsupportedVersion, BadMacroCount, MalformedBody, InvalidKey, ForwardReference, PatternLength, PatternSyntax, TooManyAtoms, NoSuchMacro, InsufficientSpace, CountOverflow, ReportMismatch, InputTooLong, InvalidDelimiters, RunTooLong, ZeroRepeatCount}
 
 -- the column "No" of the table
 abbrev pub number : Refusal → ℕ
@@ -22,3 +22,5 @@ number InputTooLong = 14
 -- document 02, S-6: "18 the two keys are equal, or one is 0 or 10; 19 the macro's run is longer than 2^62 keys"
 number InvalidDelimiters = 18
 number RunTooLong = 19
+-- S-8: "20 a repeat count of 0"
+number ZeroRepeatCount = 20

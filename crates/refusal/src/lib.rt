@@ -6,7 +6,7 @@ ghost use Rattle.refusal.specs.Number.{number};
 pub enum Refusal {
     // 1, "no book": under 7 bytes, or another mark.
     BadMagic,
-    // 2, "strange version".
+    // 2, "strange version": neither 1 nor 2 (document 02, S-8).
     UnsupportedVersion,
     // 3, "macro count": 0 or over 1,024.
     BadMacroCount,
@@ -36,6 +36,8 @@ pub enum Refusal {
     InvalidDelimiters,
     // 19: the macro's run is longer than 2^62 keys.
     RunTooLong,
+    // S-8. 20: a repeat count of 0.
+    ZeroRepeatCount,
 }
 
 // The number that the table gives a refusal.
@@ -59,5 +61,6 @@ pub fn code(r: Refusal) -> u8
         Refusal::InputTooLong => 14,
         Refusal::InvalidDelimiters => 18,
         Refusal::RunTooLong => 19,
+        Refusal::ZeroRepeatCount => 20,
     }
 }

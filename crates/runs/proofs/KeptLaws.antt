@@ -4,12 +4,15 @@ use native.Mathlib.Omega.{arith}
 use native.Mathlib.Numerals.{add-one}
 use mathlib.Core.Path.{_≡_, refl, sym, ap, _∙_}
 use mathlib.Core.Bool.{Bool, true, false}
-use mathlib.Core.List.{List, [], _++_, append-assoc}
+use mathlib.Core.Logic.{⊎-elim}
+use mathlib.Core.List.{List, [], _++_, append-assoc, append-nil, List·Memᴰ, List·Memᴰ·not-nil, List·Memᴰ·append-cases}
 use lib.Dec.{ltb}
 use borrow.Author.Tests.{ltb-true, ltb-false}
 use lib.ListN.{length, getD, take, drop, replicate, length-append, length-drop}
 use lib.Seq.{take-at, drop-at, drop-append-add, drop-drop}
+use Rattle.runs.specs.Keys.{isRun}
 use Rattle.runs.specs.Kept.{over, firstWords, wordsOver, times}
+use Rattle.runs.proofs.KeyLaws.{run-append}
 
 -- there is as much as before
 pub over-length : (front list : List ℕ) → length front ≤ length list → length (over front list) ≡ length list
@@ -66,6 +69,36 @@ pub times-add : (m n : ℕ) (w : List ℕ) → times (m + n) w ≡ times m w ++ 
 unfolding times
 times-add zero n w = let e : 0 + n ≡ n = omega arith in rw e refl
 times-add (suc m) n w = let e : suc m + n ≡ suc (m + n) = omega arith in rw e (ap (λ (l : List ℕ). w ++ l) (times-add m n w) ∙ sym (append-assoc w (times m w) (times n w)))
+
+-- a run once
+pub times-one : (w : List ℕ) → times 1 w ≡ w
+unfolding times
+times-one w = append-nil w
+
+-- a run 0 times, and one time more
+pub times-none : (w : List ℕ) → times 0 w ≡ []
+unfolding times
+times-none w = refl
+
+pub times-more : (n : ℕ) (w : List ℕ) → times (n + 1) w ≡ w ++ times n w
+unfolding times
+times-more n w = rw (add-one n) refl
+
+pub times-length : (n : ℕ) (w : List ℕ) → length (times n w) ≡ n * length w
+unfolding times
+times-length zero w = omega arith
+times-length (suc n) w = rw (length-append w (times n w), times-length n w) (omega arith)
+
+-- its keys are those of the run
+pub times-member : {k : ℕ} (n : ℕ) (w : List ℕ) → List·Memᴰ k (times n w) → List·Memᴰ k w
+unfolding times
+times-member zero w m = absurd (List·Memᴰ·not-nil m)
+times-member (suc n) w m = ⊎-elim (λ h. h) (λ h. times-member n w h) (List·Memᴰ·append-cases w m)
+
+pub times-run : (n : ℕ) (w : List ℕ) → isRun w ≡ true → isRun (times n w) ≡ true
+unfolding times
+times-run zero w h = refl
+times-run (suc n) w h = run-append w (times n w) h (times-run n w h)
 
 -- zeros
 pub zeros-at : (n i : ℕ) → _≡_ {A = ℕ} (getD (replicate n 0) i 0) 0

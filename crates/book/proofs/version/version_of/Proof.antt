@@ -1,8 +1,8 @@
--- `answers::version_of`: the two bytes behind the mark.
+-- `version::version_of`: the two bytes behind the mark.
 use borrow.Author.Needs.{needs}
 use Rattle.book.proofs.LayoutLaws.{version-short, version-told}
-use Rattle.book.proofs.answers.version_of.Statement.{statement}
-use Rattle.book.proofs.answers.version_of.Tie as tie
+use Rattle.book.proofs.version.version_of.Statement.{statement}
+use Rattle.book.proofs.version.version_of.Tie as tie
 
 returns : tie.Need-returns
 returns c = search (version-short)

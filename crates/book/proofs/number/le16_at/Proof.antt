@@ -2,8 +2,8 @@
 use denote.Ref.{now}
 use borrow.Author.Needs.{needs}
 use Rattle.book.proofs.Items.{le16-of-bytes}
-use Rattle.book.proofs.item.le16_at.Statement.{statement}
-use Rattle.book.proofs.item.le16_at.Tie as tie
+use Rattle.book.proofs.number.le16_at.Statement.{statement}
+use Rattle.book.proofs.number.le16_at.Tie as tie
 
 shared-slice-read-wide : tie.Need-shared-slice-read-wide
 shared-slice-read-wide c = search needs
