@@ -68,23 +68,38 @@ module _ (s : List ℕ) (at : ℕ) where
     pub times-first : version ≡ 1 → 1 ≡ timesIn version (drop at s)
     times-first e = times-once version (drop at s) e
 
-    pub times-second : (version ≡ 1 → ⊥) → le16 (drop (at + 2) s) ≡ timesIn version (drop at s)
-    times-second e = rw (← drop-drop 2 at s) (times-counted version (drop at s) e)
+    pub times-second : (version ≡ 1 → ⊥) → {k : ℕ} → k ≡ le16 (drop (at + 2) s) → k ≡ timesIn version (drop at s)
+    times-second e f = f ∙ rw (← drop-drop 2 at s) (times-counted version (drop at s) e)
 
     -- and its four bytes are there
     pub times-there : (version ≡ 1 → ⊥) → at + width version ≤ length s → at + 2 + 1 < length s
     times-there e h = omega (arith, width-other version e)
 
-    -- the two answers of `read_item`
-    pub code-short : length s < at + width version → Short ≡ numbersAt version (drop at s)
-    code-short h =
-        let f : length s - at < width version = omega (arith, width-least version) in
-        simp (length-drop, lt-ltb _ _ f)
+    -- the ways out of `read_item`
+    module _ (wide : ℕ) (e : wide ≡ width version) where
+      short : length s < at + width version → Short ≡ numbersAt version (drop at s)
+      short h =
+          let f : length s - at < width version = omega (arith, width-least version) in
+          simp (length-drop, lt-ltb _ _ f)
 
-    pub code-found : at + width version ≤ length s → Found (le16 (drop at s)) (timesIn version (drop at s)) ≡ numbersAt version (drop at s)
-    code-found h =
-        let f : width version ≤ length s - at = omega (arith, width-least version) in
-        simp (length-drop, le-ltb _ _ f)
+      pub code-short : length s < wide → Short ≡ numbersAt version (drop at s)
+      code-short h = short (omega arith)
+
+      module _ (room : wide ≤ length s) where
+        pub code-cut : length s - wide < at → Short ≡ numbersAt version (drop at s)
+        code-cut h = short (omega arith)
+
+        module _ (h : at ≤ length s - wide) where
+          pub code-fits : at + width version ≤ length s
+          code-fits = omega (arith, room)
+
+          pub code-there : at + 1 < length s
+          code-there = omega (arith, room, width-least version)
+
+          pub code-found : {k n : ℕ} → k ≡ le16 (drop at s) → n ≡ timesIn version (drop at s) → Found k n ≡ numbersAt version (drop at s)
+          code-found c t =
+              let f : width version ≤ length s - at = omega (arith, room, width-least version) in
+              rw (c, t, length-drop at s, le-ltb _ _ f) refl
 
 -- numbers that were found are at the front of the bytes, which are enough for an item
 pub found-at : (version : ℕ) (b : List ℕ) (k n : ℕ) → numbersAt version b ≡ Found k n → (width version ≤ length b) × (k ≡ le16 b) × (n ≡ timesIn version b)

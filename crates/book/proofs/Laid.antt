@@ -49,7 +49,10 @@ pub record Laid (version : ℕ) (s : List ℕ) (count : ℕ) (offsets : List ℕ
   pub table : offsets ≡ starts (width version) 7 macros ++ replicate (1024 - n) 0
   pub reading : readMacros version 0 count (drop 7 s) ≡ prepend macros (readMacros version n (count - n) (drop at s))
 
-module _ (version : ℕ) (s : List ℕ) (count : ℕ) where
+module _ (version : ℕ) (s : List ℕ) (ev : version ≡ versionIn s) (count : ℕ) where
+  as-read : (x : Layout) → x ≡ layoutFor version (readAll version count (drop 7 s)) → x ≡ layoutFor (versionIn s) (readAll (versionIn s) count (drop 7 s))
+  as-read x e = rw ev at e
+
   pub laid-none : (offsets : List ℕ) → offsets ≡ 7 ∷ replicate 1024 0 → Laid version s count offsets 7 0
   unfolding starts
   laid-none offsets e =
@@ -60,11 +63,11 @@ module _ (version : ℕ) (s : List ℕ) (count : ℕ) where
     less : count - n ≡ suc (count - (n + 1))
     less = omega arith
 
-    pub laid-refused : (r : Refusal) (x : Layout) → w ≡ Walk.Refused r → x ≡ layoutFor 1 (refused r) → x ≡ layoutFor version (readAll version count (drop 7 s))
+    pub laid-refused : (r : Refusal) (x : Layout) → w ≡ Walk.Refused r → x ≡ layoutFor 1 (refused r) → x ≡ layoutFor (versionIn s) (readAll (versionIn s) count (drop 7 s))
     unfolding readAll readMacros prepend
     laid-refused r x f g =
         let stop : readMacro version n (drop at s) ≡ refused r = walked-refused (length s) (readMacro version n (drop at s)) r (sym e ∙ f) in
-        g ∙ rw (l .reading, less, stop)
+        as-read x (g ∙ rw (l .reading, less, stop))
 
     pub laid-more : (p : ℕ) → at ≤ length s → count ≤ 1024 → w ≡ Walk.At p → (p ≤ length s) × Laid version s count (set offsets (n + 1) p) p (n + 1)
     laid-more p in-s few f = on (walked-at (length s) (readMacro version n (drop at s)) p (sym e ∙ f))
@@ -97,19 +100,19 @@ module _ (version : ℕ) (s : List ℕ) (count : ℕ) where
         let none : count - n ≡ 0 = omega arith in
         l .reading ∙ rw (none, append-nil)
 
-    pub laid-left : (x : Layout) → at < length s → x ≡ layoutFor 1 (refused MalformedBody) → x ≡ layoutFor version (readAll version count (drop 7 s))
+    pub laid-left : (x : Layout) → at < length s → x ≡ layoutFor 1 (refused MalformedBody) → x ≡ layoutFor (versionIn s) (readAll (versionIn s) count (drop 7 s))
     unfolding readAll
     laid-left x i f =
         let some : length (drop at s) ≡ 0 → ⊥ = rw length-drop (omega arith) in
-        f ∙ rw (all, ne-eqb _ _ some)
+        as-read x (f ∙ rw (all, ne-eqb _ _ some))
 
-    pub laid-end : (x : Layout) → length s ≤ at → x ≡ record { answer = Checked.Sound count; offsets = offsets } → x ≡ layoutFor version (readAll version count (drop 7 s))
+    pub laid-end : (x : Layout) → length s ≤ at → x ≡ record { answer = Checked.Sound count; offsets = offsets } → x ≡ layoutFor (versionIn s) (readAll (versionIn s) count (drop 7 s))
     unfolding readAll
     laid-end x i f =
         let none : length (drop at s) ≡ 0 = rw length-drop (omega arith) in
         let same : length (l .macros) ≡ count = omega arith in
         let exact : count ≡ n = omega arith in
-        f ∙ rw (all, eq-eqb _ _ none, same, l .table, exact)
+        as-read x (f ∙ rw (all, eq-eqb _ _ none, same, l .table, exact))
 
 -- the whole book, after its header
 module _ (s : List ℕ) (g : Header) (e : g ≡ headerOf (readHeader versions s)) where

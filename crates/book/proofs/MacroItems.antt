@@ -1,6 +1,6 @@
 -- The items of one macro: laws of what `items_of` answers, for those that fold over it, and of how it is read.
 use Prim.Native.Nat.{ℕ, zero, suc, _+_, _-_, _*_, _/_, _<_, _≤_, min}
-use native.Mathlib.Nat.{suc-add}
+use native.Mathlib.Nat.{suc-add, mul-le-mul}
 use native.Mathlib.Omega.{arith}
 use native.Mathlib.Numerals.{add-one}
 use mathlib.Core.Path.{_≡_, refl, sym, ap, _∙_}
@@ -20,7 +20,7 @@ use Rattle.book.specs.Offset.{offset}
 use Rattle.book.specs.Promises.{numbersAt}
 use Rattle.book.specs.Reading.{itemOf, le16, timesIn, versionIn, macrosIn}
 use Rattle.book.specs.Answer.{layout}
-use Rattle.book.proofs.Items.{width-least, found-at, short-at}
+use Rattle.book.proofs.Items.{width-least, width-most, found-at, short-at}
 use Rattle.book.proofs.Bodies.{part-offsets, part-is}
 use Rattle.book.proofs.LayoutLaws.{read-in, read-with}
 use Rattle.book.proofs.Offsets.{frontItem, frontItems, book-few, book-front}
@@ -115,6 +115,10 @@ count-most version n count = go (eqb version 1)
     go : (t : Bool) → cond t 2 4 * count ≤ n → count ≤ n / cond t 2 4
     go true g = omega arith
     go false g = omega arith
+
+-- where an item stands is a small number
+pub place-most : (version wide : ℕ) → wide ≡ width version → (count : ℕ) → count < 64 → wide * count ≤ 256
+place-most version wide e count h = let four : wide ≤ 4 = omega (arith, width-most version) in let few : count ≤ 64 = omega arith in let most : wide * count ≤ 4 * 64 = mul-le-mul four few in omega arith
 
 module _ (version wide : ℕ) (ew : wide ≡ width version) (s codes times : List ℕ) (count : ℕ) (x : ItemsSoFar version s codes times count) where
   module _ (r : ItemRead) (e : r ≡ numbersAt version (drop (wide * count) s)) where

@@ -12,12 +12,12 @@ use Rattle.book.proofs.layout.check_items.Statement.{statement}
 use Rattle.book.proofs.layout.check_items.Tie as tie
 
 abbrev Inv-loop : tie.InvT-loop
-Inv-loop s start count n at₀ left₀ at left =
+Inv-loop s start count n version at₀ left₀ at left =
     (at ≤ length s)
-    × (walkOf (length s) (readItems n left (drop at s)) ≡ walkOf (length s) (readItems n count (drop start s)))
+    × (walkOf (length s) (readItems version n left (drop at s)) ≡ walkOf (length s) (readItems version n count (drop start s)))
 
 abbrev μ-loop : tie.MeasureT-loop
-μ-loop s start count n at₀ left₀ at left = left
+μ-loop s start count n version at₀ left₀ at left = left
 
 loop-holds : tie.Need-loop-holds Inv-loop μ-loop
 loop-holds c = (search needs, refl)
@@ -45,7 +45,7 @@ loop-again c =
     let k = c .before .before .before in
     let l = k .before .before in
     let a = l .before .before .args in
-    items-on (now (a .s)) (a .n) (l .loop .at) (l .loop .left) _ _ (k .check-item .ensures) (l .loop .inv .1) (omega arith) _ (l .loop .inv .0) (c .before .next .given .1)
+    items-on (now (a .s)) (a .version) (a .n) (l .loop .at) (l .loop .left) _ _ (k .check-item .ensures) (l .loop .inv .1) (omega arith) _ (l .loop .inv .0) (c .before .next .given .1)
 
 returns-2 : tie.Need-returns-2 Inv-loop μ-loop
 returns-2 c = search items-done

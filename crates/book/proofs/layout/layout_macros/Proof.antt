@@ -9,18 +9,22 @@ use Rattle.book.proofs.layout.layout_macros.Statement.{statement}
 use Rattle.book.proofs.layout.layout_macros.Tie as tie
 
 abbrev Inv-loop : tie.InvT-loop
-Inv-loop s count offsets₀ at₀ n₀ offsets at n = (n ≤ count) × (at ≤ length s) × Laid s count offsets at n
+Inv-loop s count version offsets₀ at₀ n₀ offsets at n = (n ≤ count) × (at ≤ length s) × Laid version s count offsets at n
 
 abbrev μ-loop : tie.MeasureT-loop
-μ-loop s count offsets₀ at₀ n₀ offsets at n = count - n
+μ-loop s count version offsets₀ at₀ n₀ offsets at n = count - n
+
+version-of-requires : tie.Need-version-of-requires Inv-loop μ-loop
+version-of-requires c κs = search needs
 
 first-offset-requires : tie.Need-first-offset-requires Inv-loop μ-loop
 first-offset-requires c κs = search needs
 
 loop-holds : tie.Need-loop-holds Inv-loop μ-loop
 loop-holds c =
-    let a = c .before .before .args in
-    (omega arith, omega arith, laid-none (now (a .s)) (a .count) _ (c .first-offset .ensures))
+    let v = c .before in
+    let a = v .before .before .args in
+    (omega arith, omega arith, laid-none _ (now (a .s)) (v .version-of .ensures) (a .count) _ (c .first-offset .ensures))
 
 check-macro-requires : tie.Need-check-macro-requires Inv-loop μ-loop
 check-macro-requires c κs = search needs
@@ -56,9 +60,10 @@ loop-again : tie.Need-loop-again Inv-loop μ-loop
 loop-again c =
     let k = c .before .before .before in
     let l = k .before .before in
-    let a = l .before .before .before .args in
+    let v = l .before .before in
+    let a = v .before .before .args in
     let x = l .loop in
-    let more = laid-more (now (a .s)) (a .count) (x .offsets) (x .at) (x .n) (x .inv .2) _ (omega arith) (k .check-macro .ensures) _ (x .inv .1) (omega arith) (c .before .next .given .1) in
+    let more = laid-more _ (now (a .s)) (v .version-of .ensures) (a .count) (x .offsets) (x .at) (x .n) (x .inv .2) _ (omega arith) (k .check-macro .ensures) _ (x .inv .1) (omega arith) (c .before .next .given .1) in
     (omega arith, more .0, more .1)
 
 refused-layout-requires-2 : tie.Need-refused-layout-requires-2 Inv-loop μ-loop
@@ -76,6 +81,7 @@ layout-macros-spec =
     (tie.spec
     Inv-loop
     μ-loop
+    version-of-requires
     first-offset-requires
     loop-holds
     check-macro-requires

@@ -17,13 +17,16 @@ le16-at-requires c κs =
     let h = c .before in
     omega (arith, header-long (now (h .before .before .args .s)) _ (h .has-magic .ensures) (c .if1 .left))
 
+is-taken-requires : tie.Need-is-taken-requires
+is-taken-requires c κs = search needs
+
 returns-2 : tie.Need-returns-2
 returns-2 c = search header-version
 
 le16-at-requires-2 : tie.Need-le16-at-requires-2
 le16-at-requires-2 c κs =
-    let h = c .before .before .before in
-    omega (arith, header-long (now (h .before .before .args .s)) _ (h .has-magic .ensures) (c .before .before .if1 .left))
+    let h = c .before .before .before .before in
+    omega (arith, header-long (now (h .before .before .args .s)) _ (h .has-magic .ensures) (c .before .before .before .if1 .left))
 
 returns-3 : tie.Need-returns-3
 returns-3 c = search header-count
@@ -38,6 +41,7 @@ read-header-spec =
     has-magic-requires
     returns
     le16-at-requires
+    is-taken-requires
     returns-2
     le16-at-requires-2
     returns-3

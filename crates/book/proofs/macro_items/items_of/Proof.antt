@@ -4,6 +4,9 @@ use borrow.Author.Needs.{needs}
 use Rattle.book.proofs.macro_items.items_of.Statement.{statement}
 use Rattle.book.proofs.macro_items.items_of.Tie as tie
 
+version-of-requires : tie.Need-version-of-requires
+version-of-requires c κs = search needs
+
 part-of-requires : tie.Need-part-of-requires
 part-of-requires c κs = search needs
 
@@ -14,4 +17,4 @@ returns : tie.Need-returns
 returns c = search items-from
 
 pub items-of-spec : {M : Type 1} → statement M
-items-of-spec = tie.close (tie.spec part-of-requires items-in-requires returns)
+items-of-spec = tie.close (tie.spec version-of-requires part-of-requires items-in-requires returns)
