@@ -1,24 +1,23 @@
 -- Laws of a macro's written-out run.
-use Prim.Native.Nat.{ℕ, zero, suc, _+_, _*_, _<_, _≤_}
-use native.Mathlib.Nat.{mul-pos, add-zero, add-suc, suc-add, zero-add}
+use Prim.Native.Nat.{ℕ, zero, suc, _+_, _<_, _≤_}
+use native.Mathlib.Nat.{add-zero, add-suc, suc-add, zero-add}
 use native.Mathlib.Omega.{arith}
 use mathlib.Core.Path.{_≡_, refl, sym, ap, _∙_}
 use mathlib.Core.Logic.{⊎-elim}
 use mathlib.Core.Bool.{true, _&&_, and-eq-true-iff}
-use mathlib.Core.List.{List, [], _∷_, _++_, append-assoc, append-nil, List·Memᴰ, List·Memᴰ·head, List·Memᴰ·tail, List·Memᴰ·not-nil, List·Memᴰ·cases-cons, List·Memᴰ·append-cases}
+use mathlib.Core.List.{List, [], _∷_, _++_, append-assoc, append-nil, List·Memᴰ, List·Memᴰ·head, List·Memᴰ·tail, List·Memᴰ·not-nil, List·Memᴰ·cases-cons, List·Memᴰ·append-cases, Memᴰ·append-left, Memᴰ·append-right}
 use lib.Dec.{leb}
-use lib.ListN.{length, getD, length-append}
+use lib.ListN.{length, getD, replicate, length-append}
 use borrow.Author.Tests.{ltb-true, leb-true}
 use Rattle.book.specs.declared.item.Item.{Item}
 use Rattle.book.specs.declared.item.Item.the-variants.{Key, Call}
 use Rattle.book.specs.Format.{Repeated, repeated, Macro, soundTarget, soundItem, soundItems, soundMacro, soundMacros, wellFormed}
-use Rattle.book.specs.Reach.{CallsIn, Calls}
-use Rattle.book.specs.Expansion.{keysOf, keysTimes, expand, expandTo, expansion}
+use Rattle.book.specs.Reach.{Calls}
+use Rattle.book.specs.Expansion.{keysOf, expand, unrolled, expandTo, expansion}
 use Rattle.runs.specs.Keys.{isKey, isRun}
 use Rattle.runs.specs.Kept.{times}
 use Rattle.runs.proofs.Tests.{and-parts}
 use Rattle.runs.proofs.KeyLaws.{run-keys}
-use Rattle.runs.proofs.KeptLaws.{times-one, times-add, times-length, times-member}
 
 -- what a sound macro has: an item, and sound items
 macro-parts : (n : ℕ) (m : Macro) → soundMacro n m ≡ true → (1 ≤ length m) × (soundItems n m ≡ true)
@@ -83,7 +82,7 @@ unfolding soundItems
 items-parts n i is h = and-parts (soundItem n i) (soundItems n is) h
 
 -- what a sound item has: a key or a lower macro, and a repeat count
-pub item-parts : (n : ℕ) (i : Repeated) → soundItem n i ≡ true → (soundTarget n (i .item) ≡ true) × (1 ≤ i .times)
+item-parts : (n : ℕ) (i : Repeated) → soundItem n i ≡ true → (soundTarget n (i .item) ≡ true) × (1 ≤ i .times)
 unfolding soundItem
 item-parts n i h =
     let p = and-parts (soundTarget n (i .item)) (leb 1 (i .times)) h in
@@ -94,103 +93,136 @@ item-sound : (n : ℕ) {i : Repeated} (is : Macro) → soundItems n is ≡ true 
 item-sound n [] h m = absurd (List·Memᴰ·not-nil m)
 item-sound n (j ∷ is) h m = ⊎-elim (λ e. rw e (items-parts n j is h .0)) (λ l. item-sound n is (items-parts n j is h .1) l) (List·Memᴰ·cases-cons m)
 
+-- Items as often as they stand there.
+
+pub unrolled-none : unrolled [] ≡ []
+unfolding unrolled
+unrolled-none = refl
+
+pub unrolled-append : (is js : Macro) → unrolled (is ++ js) ≡ unrolled is ++ unrolled js
+unfolding unrolled
+unrolled-append [] js = refl
+unrolled-append (i ∷ is) js = ap (λ (l : List Item). replicate (i .times) (i .item) ++ l) (unrolled-append is js) ∙ sym (append-assoc (replicate (i .times) (i .item)) (unrolled is) (unrolled js))
+
+pub unrolled-one : (i : Repeated) → unrolled (i ∷ []) ≡ replicate (i .times) (i .item)
+unfolding unrolled
+unrolled-one i = append-nil (replicate (i .times) (i .item))
+
+-- one item more
+pub unrolled-more : (is : Macro) (i : Repeated) → unrolled (is ++ (i ∷ [])) ≡ unrolled is ++ replicate (i .times) (i .item)
+unrolled-more is i = unrolled-append is (i ∷ []) ∙ ap (λ (l : List Item). unrolled is ++ l) (unrolled-one i)
+
+replicate-member : {x y : Item} (n : ℕ) → List·Memᴰ x (replicate n y) → (x ≡ y) × (1 ≤ n)
+replicate-member zero m = absurd (List·Memᴰ·not-nil m)
+replicate-member (suc n) m = ⊎-elim (λ e. (e, omega arith)) (λ h. (replicate-member n h .0, omega arith)) (List·Memᴰ·cases-cons m)
+
+member-replicate : (n : ℕ) (x : Item) → 1 ≤ n → List·Memᴰ x (replicate n x)
+member-replicate zero x h = absurd (omega arith)
+member-replicate (suc n) x h = List·Memᴰ·head refl
+
+-- what is written out is one of the items
+pub unrolled-from : {x : Item} (is : Macro) → List·Memᴰ x (unrolled is) → (n : ℕ) × List·Memᴰ (repeated x n) is
+unfolding unrolled
+unrolled-from [] m = absurd (List·Memᴰ·not-nil m)
+unrolled-from {x} (i ∷ is) m =
+    ⊎-elim
+    (λ h. (i .times, List·Memᴰ·head (ap (λ (y : Item). repeated y (i .times)) (replicate-member (i .times) h .0))))
+    (λ h. let (n, c) = unrolled-from is h in (n, List·Memᴰ·tail c))
+    (List·Memᴰ·append-cases (replicate (i .times) (i .item)) m)
+
+-- and each item that stands there is written out
+pub unrolled-in : {i : Repeated} (is : Macro) → List·Memᴰ i is → 1 ≤ i .times → List·Memᴰ (i .item) (unrolled is)
+unfolding unrolled
+unrolled-in [] m h = absurd (List·Memᴰ·not-nil m)
+unrolled-in {i} (j ∷ is) m h =
+    ⊎-elim
+    (λ e. let here : List·Memᴰ (i .item) (replicate (j .times) (j .item)) = rw (← e) (member-replicate (i .times) (i .item) h) in Memᴰ·append-left (unrolled is) here)
+    (λ c. Memᴰ·append-right (replicate (j .times) (j .item)) (unrolled-in is c h))
+    (List·Memᴰ·cases-cons m)
+
 module _ (ms : List Macro) (well : wellFormed ms ≡ true) where
   -- what each item of macro m has
-  target : (m : ℕ) {i : Repeated} → List·Memᴰ i (getD ms m []) → soundTarget m (i .item) ≡ true
-  target m {i} c = item-parts m i (item-sound m (getD ms m []) (well-items ms well m) c) .0
+  item-well : (m : ℕ) {i : Repeated} → List·Memᴰ i (getD ms m []) → (soundTarget m (i .item) ≡ true) × (1 ≤ i .times)
+  item-well m {i} c = item-parts m i (item-sound m (getD ms m []) (well-items ms well m) c)
 
   -- each key is one from 1 to 255
   pub well-key : (m : ℕ) {k n : ℕ} → List·Memᴰ (repeated (Key k) n) (getD ms m []) → isKey k ≡ true
   unfolding soundTarget
-  well-key m c = target m c
+  well-key m c = item-well m c .0
 
-  -- calls go to lower macros
-  pub call-lower : (m : ℕ) {j n : ℕ} → List·Memᴰ (repeated (Call j) n) (getD ms m []) → j < m
+  -- each call goes to a lower macro
+  pub well-call : (m : ℕ) {j n : ℕ} → List·Memᴰ (repeated (Call j) n) (getD ms m []) → j < m
   unfolding soundTarget
-  call-lower m {j} c = ltb-true j m (target m c)
-
-  pub calls-lower : {m j : ℕ} → Calls ms m j → j < m
-  calls-lower {m} (n, c) = call-lower m c
+  well-call m {j} c = ltb-true j m (item-well m c .0)
 
   -- each item stands there once or more
   pub well-times : (m : ℕ) {i : Repeated} → List·Memᴰ i (getD ms m []) → 1 ≤ i .times
-  well-times m {i} c = item-parts m i (item-sound m (getD ms m []) (well-items ms well m) c) .1
+  well-times m c = item-well m c .1
 
--- what an item writes is the same where the run that it calls is
-keys-same : (f g : ℕ → List ℕ) (i : Item) → ((j : ℕ) → i ≡ Call j → f j ≡ g j) → keysOf f i ≡ keysOf g i
-keys-same f g (Key k) e = refl
-keys-same f g (Call j) e = e j refl
+  -- calls go to lower macros
+  pub calls-lower : {m j : ℕ} → Calls ms m j → j < m
+  calls-lower {m} c = let (n, i) = unrolled-from (getD ms m []) c in well-call m i
 
--- what is written is the same where the called runs are
-pub expand-same : (f g : ℕ → List ℕ) (is : Macro) → ((j : ℕ) → CallsIn is j → f j ≡ g j) → expand f is ≡ expand g is
+-- What is written.
+
+-- the same is written where the called runs are the same
+pub expand-same : (f g : ℕ → List ℕ) (is : List Item) → ((j : ℕ) → List·Memᴰ (Call j) is → f j ≡ g j) → expand f is ≡ expand g is
 unfolding expand
 expand-same f g [] e = refl
-expand-same f g (i ∷ is) e =
-    rw (keys-same f g (i .item) (λ j s. e j (i .times, List·Memᴰ·head (ap (λ (x : Item). repeated x (i .times)) (sym s)))), expand-same f g is (λ j (n, c). e j (n, List·Memᴰ·tail c)))
+expand-same f g (Key k ∷ is) e = ap (λ (l : List ℕ). k ∷ l) (expand-same f g is (λ j c. e j (List·Memᴰ·tail c)))
+expand-same f g (Call i ∷ is) e = rw (e i (List·Memᴰ·head refl), expand-same f g is (λ j c. e j (List·Memᴰ·tail c)))
 
 -- nothing is written of no items
 pub expand-none : (called : ℕ → List ℕ) → expand called [] ≡ []
 unfolding expand
 expand-none called = refl
 
--- of one item its keys, as often as it stands there
-pub expand-one : (called : ℕ → List ℕ) (i : Repeated) → expand called (i ∷ []) ≡ keysTimes called i
+-- of one item its keys
+pub expand-one : (called : ℕ → List ℕ) (i : Item) → expand called (i ∷ []) ≡ keysOf called i
 unfolding expand
-expand-one called i = append-nil (keysTimes called i)
-
--- and of an item that stands there once its keys
-pub expand-single : (called : ℕ → List ℕ) (i : Item) → expand called (repeated i 1 ∷ []) ≡ keysOf called i
-expand-single called i = expand-one called (repeated i 1) ∙ times-one (keysOf called i)
+expand-one called i = append-nil (keysOf called i)
 
 -- of some items after others what they write, one after the other
-pub expand-append : (called : ℕ → List ℕ) (is js : Macro) → expand called (is ++ js) ≡ expand called is ++ expand called js
+pub expand-append : (called : ℕ → List ℕ) (is js : List Item) → expand called (is ++ js) ≡ expand called is ++ expand called js
 unfolding expand
 expand-append called [] js = refl
 expand-append called (i ∷ is) js =
-    ap (λ (l : List ℕ). keysTimes called i ++ l) (expand-append called is js)
-    ∙ sym (append-assoc (keysTimes called i) (expand called is) (expand called js))
+    ap (λ (l : List ℕ). keysOf called i ++ l) (expand-append called is js)
+    ∙ sym (append-assoc (keysOf called i) (expand called is) (expand called js))
 
--- so one item more writes its keys behind
-pub expand-more : (called : ℕ → List ℕ) (is : Macro) (i : Repeated) → expand called (is ++ (i ∷ [])) ≡ expand called is ++ keysTimes called i
-expand-more called is i = expand-append called is (i ∷ []) ∙ ap (λ (l : List ℕ). expand called is ++ l) (expand-one called i)
+-- of an item that stands there n times its keys n times
+pub expand-times : (called : ℕ → List ℕ) (n : ℕ) (i : Item) → expand called (replicate n i) ≡ times n (keysOf called i)
+unfolding expand times
+expand-times called zero i = refl
+expand-times called (suc n) i = ap (λ (l : List ℕ). keysOf called i ++ l) (expand-times called n i)
 
--- an item that stands there twice or more, in two parts
-pub expand-split : (called : ℕ → List ℕ) (i : Item) (m n : ℕ) → expand called (repeated i (m + n) ∷ []) ≡ expand called (repeated i m ∷ repeated i n ∷ [])
+-- so one item more writes its keys behind, as often as it stands there
+pub expand-more : (called : ℕ → List ℕ) (is : Macro) (i : Repeated) → expand called (unrolled (is ++ (i ∷ []))) ≡ expand called (unrolled is) ++ times (i .times) (keysOf called (i .item))
+expand-more called is i =
+    ap (expand called) (unrolled-more is i)
+    ∙ expand-append called (unrolled is) (replicate (i .times) (i .item))
+    ∙ ap (λ (l : List ℕ). expand called (unrolled is) ++ l) (expand-times called (i .times) (i .item))
+
+-- something is written if there is an item, and each called run is not empty
+expand-nonempty : (f : ℕ → List ℕ) (is : List Item) → 1 ≤ length is → ((j : ℕ) → List·Memᴰ (Call j) is → 0 < length (f j)) → 0 < length (expand f is)
 unfolding expand
-expand-split called i m n =
-    ap (λ (l : List ℕ). l ++ []) (times-add m n (keysOf called i))
-    ∙ append-assoc (times m (keysOf called i)) (times n (keysOf called i)) []
-
--- something is written if there is an item, each stands there, and each called run is not empty
-expand-nonempty : (f : ℕ → List ℕ) (is : Macro) → 1 ≤ length is → ((i : Repeated) → List·Memᴰ i is → 1 ≤ i .times) → ((j : ℕ) → CallsIn is j → 0 < length (f j)) → 0 < length (expand f is)
-unfolding expand
-expand-nonempty f [] h g e = absurd (omega arith)
-expand-nonempty f (i ∷ is) h g e =
-    let some : 0 < length (keysOf f (i .item)) = keys (i .item) (λ j s. e j (i .times, List·Memᴰ·head (ap (λ (x : Item). repeated x (i .times)) (sym s)))) in
-    let often : 0 < i .times * length (keysOf f (i .item)) = mul-pos (g i (List·Memᴰ·head refl)) some in
-    rw (length-append (keysTimes f i) (expand f is), times-length (i .times) (keysOf f (i .item))) (omega arith)
-  where
-    keys : (x : Item) → ((j : ℕ) → x ≡ Call j → 0 < length (f j)) → 0 < length (keysOf f x)
-    keys (Key k) s = omega arith
-    keys (Call j) s = s j refl
+expand-nonempty f [] h e = absurd (omega arith)
+expand-nonempty f (Key k ∷ is) h e = omega arith
+expand-nonempty f (Call i ∷ is) h e = simp length-append (omega (arith, e i (List·Memᴰ·head refl)))
 
 -- "An item from 1 to 255 is a key."
 abbrev Keyed : ℕ → Type 0
 Keyed k = (1 ≤ k) × (k ≤ 255)
 
--- what sound items write are keys, if the called runs are
-expand-keys : (f : ℕ → List ℕ) (n : ℕ) (is : Macro) → soundItems n is ≡ true → ((j k : ℕ) → List·Memᴰ k (f j) → Keyed k) → (k : ℕ) → List·Memᴰ k (expand f is) → Keyed k
-unfolding expand soundTarget
-expand-keys f n [] h e k c = absurd (List·Memᴰ·not-nil c)
-expand-keys f n (i ∷ is) h e k c =
-    let p = items-parts n i is h in
-    ⊎-elim (λ d. keys (i .item) (item-parts n i (p .0) .0) (times-member (i .times) (keysOf f (i .item)) d)) (λ d. expand-keys f n is (p .1) e k d) (List·Memᴰ·append-cases (keysTimes f i) c)
-  where
-    keys : (x : Item) → soundTarget n x ≡ true → List·Memᴰ k (keysOf f x) → Keyed k
-    keys (Key x) s d =
-        let q = and-parts (leb 1 x) (leb x 255) s in
-        ⊎-elim (λ same. omega (arith, leb-true 1 x (q .0), leb-true x 255 (q .1))) (λ m. absurd (List·Memᴰ·not-nil m)) (List·Memᴰ·cases-cons d)
-    keys (Call j) s d = e j k d
+-- what items write are keys, if theirs and those of the called runs are
+expand-keys : (f : ℕ → List ℕ) (is : List Item) → ((k : ℕ) → List·Memᴰ (Key k) is → isKey k ≡ true) → ((j k : ℕ) → List·Memᴰ k (f j) → Keyed k) → (k : ℕ) → List·Memᴰ k (expand f is) → Keyed k
+unfolding expand
+expand-keys f [] h e k c = absurd (List·Memᴰ·not-nil c)
+expand-keys f (Key x ∷ is) h e k c =
+    let q = and-parts (leb 1 x) (leb x 255) (h x (List·Memᴰ·head refl)) in
+    ⊎-elim (λ s. omega (arith, leb-true 1 x (q .0), leb-true x 255 (q .1))) (λ d. expand-keys f is (λ y m. h y (List·Memᴰ·tail m)) e k d) (List·Memᴰ·cases-cons c)
+expand-keys f (Call j ∷ is) h e k c =
+    ⊎-elim (e j k) (λ d. expand-keys f is (λ y m. h y (List·Memᴰ·tail m)) e k d) (List·Memᴰ·append-cases (f j) c)
 
 module _ (ms : List Macro) (well : wellFormed ms ≡ true) where
   -- the depth is no matter where it is greater than the macro's number
@@ -199,24 +231,36 @@ module _ (ms : List Macro) (well : wellFormed ms ≡ true) where
   expandTo-agree zero e m p q = absurd (omega arith)
   expandTo-agree (suc d) zero m p q = absurd (omega arith)
   expandTo-agree (suc d) (suc e) m p q =
-      expand-same (λ j. expandTo d ms j) (λ j. expandTo e ms j) (getD ms m []) λ j c.
+      expand-same (λ j. expandTo d ms j) (λ j. expandTo e ms j) (unrolled (getD ms m [])) λ j c.
       let lower : j < m = calls-lower ms well c in
       expandTo-agree d e j (omega arith) (omega arith)
 
   -- "The run of a macro, written out, is its items in order, each call replaced by the called macro's written-out run."
-  pub expansion-law : (m : ℕ) → expansion ms m ≡ expand (λ j. expansion ms j) (getD ms m [])
+  pub expansion-law : (m : ℕ) → expansion ms m ≡ expand (λ j. expansion ms j) (unrolled (getD ms m []))
   unfolding expansion expandTo
   expansion-law m =
-      expand-same (λ j. expandTo m ms j) (λ j. expansion ms j) (getD ms m []) λ j c.
+      expand-same (λ j. expandTo m ms j) (λ j. expansion ms j) (unrolled (getD ms m [])) λ j c.
       let lower : j < m = calls-lower ms well c in
       expandTo-agree m (suc j) j (omega arith) (omega arith)
+
+  -- a macro of the book has an item that stands there
+  unrolled-nonempty : (m : ℕ) → m < length ms → 1 ≤ length (unrolled (getD ms m []))
+  unrolled-nonempty m h = go (getD ms m []) (well-nonempty ms well m h) (λ i c. well-times ms well m c)
+    where
+      some : {x : Item} (l : List Item) → List·Memᴰ x l → 1 ≤ length l
+      some [] c = absurd (List·Memᴰ·not-nil c)
+      some (y ∷ l) c = omega arith
+
+      go : (is : Macro) → 1 ≤ length is → ((i : Repeated) → List·Memᴰ i is → 1 ≤ i .times) → 1 ≤ length (unrolled is)
+      go [] l f = absurd (omega arith)
+      go (i ∷ is) l f = some (unrolled (i ∷ is)) (unrolled-in (i ∷ is) (List·Memᴰ·head refl) (f i (List·Memᴰ·head refl)))
 
   -- a macro of the book writes something, at any depth greater than its number
   expandTo-nonempty : (d m : ℕ) → m < d → m < length ms → 0 < length (expandTo d ms m)
   unfolding expandTo
   expandTo-nonempty zero m h l = absurd (omega arith)
   expandTo-nonempty (suc d) m h l =
-      expand-nonempty (λ j. expandTo d ms j) (getD ms m []) (well-nonempty ms well m l) (λ i c. well-times ms well m c) λ j c.
+      expand-nonempty (λ j. expandTo d ms j) (unrolled (getD ms m [])) (unrolled-nonempty m l) λ j c.
       let lower : j < m = calls-lower ms well c in
       expandTo-nonempty d j (omega arith) (omega arith)
 
@@ -229,7 +273,7 @@ module _ (ms : List Macro) (well : wellFormed ms ≡ true) where
   expandTo-keys : (d m k : ℕ) → List·Memᴰ k (expandTo d ms m) → Keyed k
   unfolding expandTo
   expandTo-keys zero m k c = absurd (List·Memᴰ·not-nil c)
-  expandTo-keys (suc d) m k c = expand-keys (λ j. expandTo d ms j) m (getD ms m []) (well-items ms well m) (λ j i s. expandTo-keys d j i s) k c
+  expandTo-keys (suc d) m k c = expand-keys (λ j. expandTo d ms j) (unrolled (getD ms m [])) (λ x n. let (often, i) = unrolled-from (getD ms m []) n in well-key ms well m i) (λ j i s. expandTo-keys d j i s) k c
 
   -- so a run holds keys alone
   pub expansion-keys : (m k : ℕ) → List·Memᴰ k (expansion ms m) → (1 ≤ k) × (k ≤ 255)

@@ -7,7 +7,7 @@ use mathlib.Core.Bool.{true}
 use mathlib.Core.List.{List, []}
 use lib.ListN.{getD}
 use Rattle.book.specs.Format.{Macro, wellFormed}
-use Rattle.book.specs.Expansion.{expand, expandTo, expansion}
+use Rattle.book.specs.Expansion.{expand, unrolled, expandTo, expansion}
 use Rattle.book.specs.Reach.{Calls, Reaches, AlikeReached}
 use Rattle.book.specs.Reach.Reaches.{itself, through}
 use Rattle.book.proofs.Expansion.{expand-same, calls-lower}
@@ -38,8 +38,8 @@ expandTo-alike : (ms ns : List Macro) (d m : ℕ) → AlikeReached ms ns m → e
 unfolding expandTo
 expandTo-alike ms ns zero m e = refl
 expandTo-alike ms ns (suc d) m e =
-    expand-same (λ j. expandTo d ms j) (λ j. expandTo d ns j) (getD ms m []) (λ j c. expandTo-alike ms ns d j (λ k r. e k (through c r)))
-    ∙ ap (expand (λ j. expandTo d ns j)) (e m itself .same)
+    expand-same (λ j. expandTo d ms j) (λ j. expandTo d ns j) (unrolled (getD ms m [])) (λ j c. expandTo-alike ms ns d j (λ k r. e k (through c r)))
+    ∙ ap (λ (is : Macro). expand (λ j. expandTo d ns j) (unrolled is)) (e m itself .same)
 
 -- so its whole run is the same
 pub expansion-alike : (ms ns : List Macro) (m : ℕ) → AlikeReached ms ns m → expansion ms m ≡ expansion ns m

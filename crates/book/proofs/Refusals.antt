@@ -16,14 +16,14 @@ use Rattle.runs.specs.Keys.{member}
 use Rattle.book.specs.Format.{repeated, versions, width}
 use Rattle.book.specs.Reading.{Reading, Reader, got, refused, next, done, le16, itemOf, timesIn, checkTimes, checkItem, readItem, readItems, readMacro, readMacros, hasMagic, readHeader, versionIn, atEnd, readAll, readIn, readBook}
 
--- the numbers of a book's refusals
-abbrev pub OfBook : Refusal → Type 0
-OfBook r = (number r ≤ 6) ⊎ (number r ≡ 20)
+-- the numbers of a book's refusals, and 0
+abbrev pub BookNumber : ℕ → Type 0
+BookNumber n = (n ≤ 6) ⊎ (n ≡ 20)
 
 -- a reading is got, or refused with one of them
 abbrev Early : {A : Type 0} → Reading A → Type 0
 Early (got a rest) = Unit {0}
-Early (refused r) = OfBook r
+Early (refused r) = BookNumber (number r)
 
 early-next : {A B : Type 0} (g : Reading A) (f : A → Reader B) → Early g → ((a : A) (rest : List ℕ) → Early (f a rest)) → Early (next g f)
 early-next (got a rest) f h k = k a rest
@@ -83,6 +83,6 @@ book-early taken b =
     (λ k rest. early-next (readMacros (versionIn b) 0 k rest) atEnd (macros-early (versionIn b) 0 k rest) (λ ms left. early-test (eqb (length left) 0) (got ms left) (refused MalformedBody) tt (inl (omega arith))))
 
 -- a book is refused with 1 to 6, or with 20
-pub book-refusals : (b : List ℕ) (r : Refusal) → readBook b ≡ refused r → OfBook r
+pub book-refusals : (b : List ℕ) (r : Refusal) → readBook b ≡ refused r → BookNumber (number r)
 unfolding readBook
 book-refusals b r e = rw e at (book-early versions b)

@@ -12,7 +12,7 @@ use borrow.Author.Tests.{leb-true, lt-ltb, le-leb, eqb-true, eq-eqb}
 use Rattle.book.specs.declared.item.Item.{Item}
 use Rattle.book.specs.declared.item.Item.the-variants.{Key, Call}
 use Rattle.book.specs.Format.{Repeated, repeated, Macro, soundTarget, soundItem, soundItems, soundMacro, soundMacros, wellFormed, itemFits, itemsFit, fits}
-use Rattle.book.proofs.Expansion.{well-nonempty, well-short, well-key, call-lower, well-times}
+use Rattle.book.proofs.Expansion.{well-nonempty, well-short, well-key, well-call, well-times}
 use Rattle.runs.specs.Keys.{isKey}
 use Rattle.runs.proofs.Tests.{and-both, and-parts}
 
@@ -83,7 +83,7 @@ well-iff ms = (
   where
     target : wellFormed ms ≡ true → (i : ℕ) (x : Item) (n : ℕ) → List·Memᴰ (repeated x n) (getD ms i []) → TargetSound i x
     target h i (Key k) n c = well-key ms h i c
-    target h i (Call j) n c = call-lower ms h i c
+    target h i (Call j) n c = well-call ms h i c
 
     item : wellFormed ms ≡ true → (i : ℕ) (x : Repeated) → List·Memᴰ x (getD ms i []) → ItemSound i x
     item h i x c = record { target = target h i (x .item) (x .times) c; some = well-times ms h i c }

@@ -4,15 +4,12 @@ use mathlib.Core.Path.{_≡_}
 use mathlib.Core.List.{List, [], List·Memᴰ}
 use lib.ListN.{length, getD}
 use Rattle.book.specs.declared.item.Item.the-variants.{Call}
-use Rattle.book.specs.Format.{Macro, repeated}
+use Rattle.book.specs.Format.{Macro}
+use Rattle.book.specs.Expansion.{unrolled}
 
--- one of some items calls macro j, however often
-abbrev pub CallsIn : Macro → ℕ → Type 0
-CallsIn is j = (n : ℕ) × List·Memᴰ (repeated (Call j) n) is
-
--- macro m calls macro j
+-- macro m calls macro j, however often
 abbrev pub Calls : List Macro → ℕ → ℕ → Type 0
-Calls ms m j = CallsIn (getD ms m []) j
+Calls ms m j = List·Memᴰ (Call j) (unrolled (getD ms m []))
 
 -- "A macro reaches itself and every macro it calls, directly or through others."
 pub data Reaches (ms : List Macro) : ℕ → ℕ → Type 0 where

@@ -7,9 +7,10 @@ use mathlib.Core.Logic.{⊎-elim}
 use mathlib.Core.Bool.{true}
 use mathlib.Core.List.{List, [], _∷_, _++_, map, map-append, List·Memᴰ, List·Memᴰ·head, List·Memᴰ·tail, List·Memᴰ·not-nil, List·Memᴰ·cases-cons, List·Memᴰ·append-cases, Memᴰ·append-left, Memᴰ·append-right}
 use lib.ListN.{length, getD}
+use Rattle.book.specs.declared.item.Item.{Item}
 use Rattle.book.specs.declared.item.Item.the-variants.{Key, Call}
 use Rattle.book.specs.Format.{Macro, wellFormed}
-use Rattle.book.specs.Expansion.{expansion}
+use Rattle.book.specs.Expansion.{unrolled, expansion}
 use Rattle.book.specs.Reach.{Reaches}
 use Rattle.book.proofs.Expansion.{calls-lower}
 use Rattle.reach.specs.Entries.{entriesOf, entriesTo}
@@ -21,7 +22,7 @@ abbrev pub macroOf : ℕ × ℕ → ℕ
 macroOf a = a .0
 
 -- those in some items that stand behind `at` keys; `called` gives those in a macro that does
-arrivalsOf : (ℕ → ℕ → List (ℕ × ℕ)) → List Macro → ℕ → Macro → List (ℕ × ℕ)
+arrivalsOf : (ℕ → ℕ → List (ℕ × ℕ)) → List Macro → ℕ → List Item → List (ℕ × ℕ)
 arrivalsOf called ms at [] = []
 arrivalsOf called ms at (Key k ∷ is) = arrivalsOf called ms (at + 1) is
 arrivalsOf called ms at (Call j ∷ is) = called at j ++ arrivalsOf called ms (at + length (expansion ms j)) is
@@ -29,19 +30,19 @@ arrivalsOf called ms at (Call j ∷ is) = called at j ++ arrivalsOf called ms (a
 -- those in macro m, entered behind `at` keys
 pub arrivals : ℕ → List Macro → ℕ → ℕ → List (ℕ × ℕ)
 arrivals zero ms at m = []
-arrivals (suc d) ms at m = (m, at) ∷ arrivalsOf (λ b j. arrivals d ms b j) ms at (getD ms m [])
+arrivals (suc d) ms at m = (m, at) ∷ arrivalsOf (λ b j. arrivals d ms b j) ms at (unrolled (getD ms m []))
 
 abbrev Called : Type 0
 Called = ℕ → ℕ → List (ℕ × ℕ)
 
 -- an arrival in some items is one in a call among them
-items-from : (called : Called) (ms : List Macro) (at : ℕ) (is : Macro) (a : ℕ × ℕ) → List·Memᴰ a (arrivalsOf called ms at is) → (before : Macro) × (i : ℕ) × (after : Macro) × (is ≡ before ++ (Call i ∷ after)) × List·Memᴰ a (called (at + keysIn ms before) i)
+items-from : (called : Called) (ms : List Macro) (at : ℕ) (is : List Item) (a : ℕ × ℕ) → List·Memᴰ a (arrivalsOf called ms at is) → (before : List Item) × (i : ℕ) × (after : List Item) × (is ≡ before ++ (Call i ∷ after)) × List·Memᴰ a (called (at + keysIn ms before) i)
 unfolding arrivalsOf
 items-from called ms at [] a m = absurd (List·Memᴰ·not-nil m)
 items-from called ms at (Key k ∷ is) a m =
     let (before, i, after, e, n) = items-from called ms (at + 1) is a m in
     let place : at + keysIn ms (Key k ∷ before) ≡ at + 1 + keysIn ms before = omega (arith, keys-key ms k before) in
-    (Key k ∷ before, i, after, ap (λ (r : Macro). Key k ∷ r) e, rw place n)
+    (Key k ∷ before, i, after, ap (λ (r : List Item). Key k ∷ r) e, rw place n)
 items-from called ms at (Call j ∷ is) a m =
     let place : at + keysIn ms [] ≡ at = omega (arith, keys-none ms) in
     ⊎-elim
@@ -49,11 +50,11 @@ items-from called ms at (Call j ∷ is) a m =
     (λ n.
     let (before, i, after, e, o) = items-from called ms (at + length (expansion ms j)) is a n in
     let behind : at + keysIn ms (Call j ∷ before) ≡ at + length (expansion ms j) + keysIn ms before = omega (arith, keys-call ms j before) in
-    (Call j ∷ before, i, after, ap (λ (r : Macro). Call j ∷ r) e, rw behind o))
+    (Call j ∷ before, i, after, ap (λ (r : List Item). Call j ∷ r) e, rw behind o))
     (List·Memᴰ·append-cases (called at j) m)
 
 -- and one in a call is one in the items
-items-in : (called : Called) (ms : List Macro) (at : ℕ) (before : Macro) (i : ℕ) (after : Macro) (a : ℕ × ℕ) → List·Memᴰ a (called (at + keysIn ms before) i) → List·Memᴰ a (arrivalsOf called ms at (before ++ (Call i ∷ after)))
+items-in : (called : Called) (ms : List Macro) (at : ℕ) (before : List Item) (i : ℕ) (after : List Item) (a : ℕ × ℕ) → List·Memᴰ a (called (at + keysIn ms before) i) → List·Memᴰ a (arrivalsOf called ms at (before ++ (Call i ∷ after)))
 unfolding arrivalsOf
 items-in called ms at [] i after a m =
     let place : at + keysIn ms [] ≡ at = omega (arith, keys-none ms) in
@@ -73,7 +74,7 @@ arrival-enters (suc d) ms at m a h =
     ⊎-elim
     (λ e. (0, rw e (omega arith), rw e at-once))
     (λ n.
-    let (before, i, after, e, o) = items-from (λ b j. arrivals d ms b j) ms at (getD ms m []) a n in
+    let (before, i, after, e, o) = items-from (λ b j. arrivals d ms b j) ms at (unrolled (getD ms m [])) a n in
     let (q, f, r) = arrival-enters d ms (at + keysIn ms before) i a o in
     (keysIn ms before + q, omega arith, within before after e r refl))
     (List·Memᴰ·cases-cons h)
@@ -85,13 +86,13 @@ module _ (ms : List Macro) (well : wellFormed ms ≡ true) where
   enters-arrival r zero at h = absurd (omega arith)
   enters-arrival at-once (suc d) at h = rw (add-zero at) (List·Memᴰ·head refl)
   enters-arrival (within {m} {i} {j} {p} {q} before after e r f) (suc d) at h =
-      let lower : i < m = calls-lower ms well {m = m} (parted-call (getD ms m []) before i after e) in
+      let lower : i < m = calls-lower ms well {m = m} (parted-call (unrolled (getD ms m [])) before i after e) in
       let place : at + p ≡ at + keysIn ms before + q = omega arith in
       let inner = enters-arrival r d (at + keysIn ms before) (omega arith) in
       rw (place, e) (List·Memᴰ·tail (items-in (λ b k. arrivals d ms b k) ms at before i after (j, at + keysIn ms before + q) inner))
 
 -- without the places they are the entries
-items-entries : (called : Called) (f : ℕ → List ℕ) (ms : List Macro) → ((b j : ℕ) → map macroOf (called b j) ≡ f j) → (at : ℕ) (is : Macro) → map macroOf (arrivalsOf called ms at is) ≡ entriesOf f is
+items-entries : (called : Called) (f : ℕ → List ℕ) (ms : List Macro) → ((b j : ℕ) → map macroOf (called b j) ≡ f j) → (at : ℕ) (is : List Item) → map macroOf (arrivalsOf called ms at is) ≡ entriesOf f is
 unfolding arrivalsOf entriesOf
 items-entries called f ms e at [] = refl
 items-entries called f ms e at (Key k ∷ is) = items-entries called f ms e (at + 1) is
@@ -102,7 +103,7 @@ items-entries called f ms e at (Call j ∷ is) =
 pub arrivals-entries : (d : ℕ) (ms : List Macro) (at m : ℕ) → map macroOf (arrivals d ms at m) ≡ entriesTo d ms m
 unfolding arrivals entriesTo
 arrivals-entries zero ms at m = refl
-arrivals-entries (suc d) ms at m = ap (λ (l : List ℕ). m ∷ l) (items-entries (λ b j. arrivals d ms b j) (λ j. entriesTo d ms j) ms (λ b j. arrivals-entries d ms b j) at (getD ms m []))
+arrivals-entries (suc d) ms at m = ap (λ (l : List ℕ). m ∷ l) (items-entries (λ b j. arrivals d ms b j) (λ j. entriesTo d ms j) ms (λ b j. arrivals-entries d ms b j) at (unrolled (getD ms m [])))
 
 -- The order of arrivals.
 
@@ -126,7 +127,7 @@ ordered-parted (x ∷ before) b after (Ordered.first f o) a m =
     ⊎-elim (λ e. rw e (f b (Memᴰ·append-right before (List·Memᴰ·head refl)))) (λ n. ordered-parted before b after o a n) (List·Memᴰ·cases-cons m)
 
 -- arrivals in items are ordered if those in each call are, and stay within the keys of the call
-items-ordered : (called : Called) (ms : List Macro) (at : ℕ) (is : Macro) → ((b j : ℕ) → List·Memᴰ (Call j) is → Ordered ms (called b j)) → ((b j : ℕ) → List·Memᴰ (Call j) is → (a : ℕ × ℕ) → List·Memᴰ a (called b j) → (b ≤ a .1) × (a .1 < b + length (expansion ms j))) → Ordered ms (arrivalsOf called ms at is)
+items-ordered : (called : Called) (ms : List Macro) (at : ℕ) (is : List Item) → ((b j : ℕ) → List·Memᴰ (Call j) is → Ordered ms (called b j)) → ((b j : ℕ) → List·Memᴰ (Call j) is → (a : ℕ × ℕ) → List·Memᴰ a (called b j) → (b ≤ a .1) × (a .1 < b + length (expansion ms j))) → Ordered ms (arrivalsOf called ms at is)
 unfolding arrivalsOf
 items-ordered called ms at [] o f = Ordered.none
 items-ordered called ms at (Key k ∷ is) o f = items-ordered called ms (at + 1) is (λ b j c. o b j (List·Memᴰ·tail c)) (λ b j c. f b j (List·Memᴰ·tail c))
@@ -148,7 +149,7 @@ module _ (ms : List Macro) (well : wellFormed ms ≡ true) where
   arrivals-ordered (suc d) at m h l =
       Ordered.first {a = (m, at)}
       (λ b n. let (p, e, r) = arrival-enters (suc d) ms at m b (List·Memᴰ·tail n) in (omega arith, λ s. enters-reaches r))
-      (items-ordered (λ b j. arrivals d ms b j) ms at (getD ms m [])
+      (items-ordered (λ b j. arrivals d ms b j) ms at (unrolled (getD ms m []))
       (λ b j c. let lower : j < m = calls-lower ms well {m = m} c in arrivals-ordered d b j (omega arith) (omega arith))
       (λ b j c a n.
       let lower : j < m = calls-lower ms well {m = m} c in

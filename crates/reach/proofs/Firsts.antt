@@ -1,5 +1,5 @@
 -- Laws of first occurrences, and of numbers listed behind others if they are new.
-use Prim.Native.Nat.{ℕ, zero, suc, _+_, _<_, _≤_}
+use Prim.Native.Nat.{ℕ, zero, suc, _+_, _-_, _<_, _≤_}
 use native.Mathlib.Omega.{arith}
 use mathlib.Core.Path.{_≡_, refl, sym, ap, _∙_}
 use mathlib.Core.Logic.{⊎-elim}
@@ -11,7 +11,9 @@ use borrow.Author.Tests.{eqb-true, eqb-false, eq-eqb, ne-eqb, not-true}
 use Rattle.runs.specs.Keys.{member}
 use Rattle.runs.specs.Counts.{countBelow}
 use Rattle.runs.proofs.CountLaws.{count-ext, count-le, count-more, count-none}
-use Rattle.runs.proofs.KeyLaws.{member-at, member-first, member-more, member-rest}
+use Rattle.runs.specs.Kept.{times}
+use Rattle.runs.proofs.KeptLaws.{times-more, times-member}
+use Rattle.runs.proofs.KeyLaws.{member-iff, member-at, member-first, member-more, member-rest}
 use Rattle.runs.proofs.Tests.{and-parts, by-test, or-cases, or-left, or-right, torn}
 use Rattle.reach.specs.Entries.{without, firsts}
 use Rattle.reach.specs.Promises.{extend, once}
@@ -60,6 +62,15 @@ extend-has listed (j ∷ js) k =
     swap true b c = refl
     swap false true c = refl
     swap false false c = refl
+
+-- some numbers again and again list no more than once
+pub extend-times : (listed js : List ℕ) (n : ℕ) → 1 ≤ n → extend listed (times n js) ≡ extend listed js
+extend-times listed js n h =
+    let again : n ≡ (n - 1) + 1 = omega arith in
+    ap (λ (k : ℕ). extend listed (times k js)) again
+    ∙ ap (extend listed) (times-more (n - 1) js)
+    ∙ extend-append listed js (times (n - 1) js)
+    ∙ extend-all (extend listed js) (times (n - 1) js) (λ j m. rw (extend-has listed js j) (or-right (member j listed) (member j js) (member-iff j js .1 (times-member (n - 1) js (member-iff j (times (n - 1) js) .0 m)))))
 
 -- and not less
 pub extend-longer : (listed js : List ℕ) → length listed ≤ length (extend listed js)

@@ -13,6 +13,7 @@ use Rattle.runs.specs.Keys.{member}
 use Rattle.runs.proofs.KeyLaws.{member-at, member-iff}
 use Rattle.runs.proofs.Tests.{by-test, or-cases, or-left, or-right, torn}
 use Rattle.book.specs.Format.{Macro, wellFormed}
+use Rattle.book.specs.Expansion.{unrolled}
 use Rattle.book.specs.Reach.{Reaches}
 use Rattle.book.proofs.Reach.{reach-lower}
 use Rattle.reach.specs.Entries.{entriesOf, entriesTo, entries, without, firsts, reachList}
@@ -26,7 +27,7 @@ module _ (ms : List Macro) (m : ℕ) where
   -- "the named macro at the front"
   pub list-front : (rest : List ℕ) × (reachList ms m ≡ m ∷ rest)
   unfolding reachList entries entriesTo
-  list-front = let others = entriesOf (λ j. entriesTo m ms j) (getD ms m []) in (without m (firsts others), firsts-front m others)
+  list-front = let others = entriesOf (λ j. entriesTo m ms j) (unrolled (getD ms m [])) in (without m (firsts others), firsts-front m others)
 
   -- "each once": no number stands at two places
   pub list-once : (d e : ℕ) → d < length (reachList ms m) → e < length (reachList ms m) → getD (reachList ms m) d 0 ≡ getD (reachList ms m) e 0 → d ≡ e

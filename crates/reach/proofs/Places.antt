@@ -6,9 +6,10 @@ use mathlib.Core.Logic.{⊎-elim}
 use mathlib.Core.Bool.{true}
 use mathlib.Core.List.{List, [], _∷_, _++_, append-nil, append-assoc, List·Memᴰ, List·Memᴰ·head, List·Memᴰ·not-nil, List·Memᴰ·cases-cons, Memᴰ·append-right}
 use lib.ListN.{length, getD, length-append}
+use Rattle.book.specs.declared.item.Item.{Item}
 use Rattle.book.specs.declared.item.Item.the-variants.{Key, Call}
 use Rattle.book.specs.Format.{Macro, wellFormed}
-use Rattle.book.specs.Expansion.{expand, expansion}
+use Rattle.book.specs.Expansion.{expand, unrolled, expansion}
 use Rattle.book.specs.Reach.{Reaches}
 use Rattle.book.specs.Reach.Reaches.{itself, through}
 use Rattle.book.proofs.Expansion.{expand-none, expand-one, expand-append, expansion-law, expansion-nonempty}
@@ -31,30 +32,30 @@ module _ (ms : List Macro) where
   pub keys-none : keysIn ms [] ≡ 0
   keys-none = rw (expand-none (λ j. expansion ms j))
 
-  pub keys-append : (is js : Macro) → keysIn ms (is ++ js) ≡ keysIn ms is + keysIn ms js
+  pub keys-append : (is js : List Item) → keysIn ms (is ++ js) ≡ keysIn ms is + keysIn ms js
   keys-append is js = rw (expand-append (λ j. expansion ms j) is js) (length-append (expand (λ j. expansion ms j) is) (expand (λ j. expansion ms j) js))
 
-  pub keys-key : (k : ℕ) (is : Macro) → keysIn ms (Key k ∷ is) ≡ 1 + keysIn ms is
+  pub keys-key : (k : ℕ) (is : List Item) → keysIn ms (Key k ∷ is) ≡ 1 + keysIn ms is
   keys-key k is = keys-append (Key k ∷ []) is ∙ rw (expand-one (λ j. expansion ms j) (Key k))
 
-  pub keys-call : (j : ℕ) (is : Macro) → keysIn ms (Call j ∷ is) ≡ length (expansion ms j) + keysIn ms is
+  pub keys-call : (j : ℕ) (is : List Item) → keysIn ms (Call j ∷ is) ≡ length (expansion ms j) + keysIn ms is
   keys-call j is = keys-append (Call j ∷ []) is ∙ rw (expand-one (λ j. expansion ms j) (Call j))
 
 -- Entering and reaching.
 
-pub parted-call : (is before : Macro) (i : ℕ) (after : Macro) → is ≡ before ++ (Call i ∷ after) → List·Memᴰ (Call i) is
+pub parted-call : (is before : List Item) (i : ℕ) (after : List Item) → is ≡ before ++ (Call i ∷ after) → List·Memᴰ (Call i) is
 parted-call is before i after e = rw e (Memᴰ·append-right before (List·Memᴰ·head refl))
 
 -- what a run enters its macro reaches
 pub enters-reaches : {ms : List Macro} {m j p : ℕ} → Enters ms m j p → Reaches ms m j
 enters-reaches at-once = itself
-enters-reaches {ms} (within {m} {i} before after e r f) = through (parted-call (getD ms m []) before i after e) (enters-reaches r)
+enters-reaches {ms} (within {m} {i} before after e r f) = through (parted-call (unrolled (getD ms m [])) before i after e) (enters-reaches r)
 
 -- and what it reaches its run enters
 pub reaches-enters : {ms : List Macro} {m j : ℕ} → Reaches ms m j → (p : ℕ) × Enters ms m j p
 reaches-enters itself = (0, at-once)
 reaches-enters {ms} (through {m} {i} c r) =
-    let (before, after, e) = parted (getD ms m []) c in
+    let (before, after, e) = parted (unrolled (getD ms m [])) c in
     let (q, s) = reaches-enters r in
     (keysIn ms before + q, within before after e s refl)
 

@@ -11,22 +11,23 @@ use lib.ListN.{length, getD, set, take, drop, replicate, length-append, length-s
 use lib.Seq.{drop-set-lt, getD-set-same, getD-set-other, take-at, take-suc-set}
 use borrow.Author.Tests.{eqb-true, eqb-false}
 use Rattle.runs.specs.Keys.{member}
-use Rattle.runs.specs.Kept.{over}
+use Rattle.runs.specs.Kept.{over, times}
 use Rattle.runs.proofs.KeptLaws.{over-length, over-behind}
 use Rattle.runs.proofs.Tests.{by-test, or-cases, or-left, or-right, torn}
 use Rattle.book.specs.declared.item.Item.{Item}
 use Rattle.book.specs.declared.item.Item.the-variants.{Key, Call}
 use Rattle.book.specs.declared.macro_items.Items.{Items}
-use Rattle.book.specs.Format.{Macro, wellFormed}
+use Rattle.book.specs.Format.{Macro, repeated, wellFormed}
+use Rattle.book.specs.Expansion.{unrolled}
 use Rattle.book.specs.MacroItems.{decoded, itemsFrom}
 use Rattle.book.specs.Reading.{macrosIn, itemOf}
-use Rattle.book.proofs.Expansion.{calls-lower}
+use Rattle.book.proofs.Expansion.{unrolled-none, well-call, well-times}
 use Rattle.book.proofs.Reach.{reach-trans}
 use Rattle.book.proofs.LayoutLaws.{macros-few, well-in}
 use Rattle.book.proofs.MacroItems.{count-few, items-all, items-more, item-among}
 use Rattle.reach.specs.Entries.{entriesOf, entries, reachList}
 use Rattle.reach.specs.Promises.{MacroOf, Entering, Entered, calledBy, extend, Walk, Closed}
-use Rattle.reach.proofs.Firsts.{member-append, extend-none, extend-new, extend-append, extend-all, extend-has, extend-longer, extend-firsts, once-none, once-more, once-room}
+use Rattle.reach.proofs.Firsts.{member-append, extend-none, extend-new, extend-append, extend-all, extend-times, extend-has, extend-longer, extend-firsts, once-none, once-more, once-room}
 use Rattle.reach.proofs.Entries.{entriesOf-none, entriesOf-key, entriesOf-call, entries-law, entries-iff}
 
 -- what stood under the listed numbers is no matter
@@ -74,7 +75,7 @@ member-last k l x h = or-cases (member k l) (eqb k x) (rw (member-append k l (x 
 
 -- In the items of macro i: `front` is listed before them, and then what the first k of them enter.
 abbrev listedBy : List Macro → List ℕ → Macro → List ℕ
-listedBy ms front is = extend front (entriesOf (λ j. entries ms j) is)
+listedBy ms front is = extend front (entriesOf (λ j. entries ms j) (unrolled is))
 
 pub record Within (ms : List Macro) (i : ℕ) (front before : List ℕ) (is : Macro) (k : ℕ) (list : List ℕ) (marks : List Bool) (n : ℕ) : Type 0 where
   pub walk : Walk (listedBy ms front (take k is)) before list marks n
@@ -160,9 +161,9 @@ module _ (b offsets : List ℕ) (i n : ℕ) (marks : List Bool) (list : List ℕ
 -- In the items of a macro.
 module _ {ms : List Macro} {i : ℕ} {front before : List ℕ} {is : Macro} {k : ℕ} {list : List ℕ} {marks : List Bool} {n : ℕ} (x : Within ms i front before is k list marks n) where
   -- a key enters nothing
-  within-key : (c : ℕ) → take (k + 1) is ≡ take k is ++ (Key c ∷ []) → Within ms i front before is (k + 1) list marks n
-  within-key c e =
-      let same : listedBy ms front (take (k + 1) is) ≡ listedBy ms front (take k is) = rw e (ap (extend front) (entriesOf-key (λ j. entries ms j) (take k is) c)) in
+  within-key : (c t : ℕ) → take (k + 1) is ≡ take k is ++ (repeated (Key c) t ∷ []) → Within ms i front before is (k + 1) list marks n
+  within-key c t e =
+      let same : listedBy ms front (take (k + 1) is) ≡ listedBy ms front (take k is) = rw e (ap (extend front) (entriesOf-key (λ j. entries ms j) (take k is) t c)) in
       record { walk = rw same (x .walk); closed = rw same (x .closed) }
 
   -- a call of a lower macro finds the walk as it must, and leaves it so
@@ -175,10 +176,10 @@ module _ {ms : List Macro} {i : ℕ} {front before : List ℕ} {is : Macro} {k :
   within-room : (j : ℕ) → j < length before → j < length list
   within-room j h = rw (walk-long (x .walk)) h
 
-  within-call : wellFormed ms ≡ true → (j : ℕ) → take (k + 1) is ≡ take k is ++ (Call j ∷ []) → {after : List ℕ} {made : List Bool} {r : ℕ} → Walk (extend (take n list) (entries ms j)) list after made r → Within ms i front before is (k + 1) after made r
-  within-call sound j e v =
+  within-call : wellFormed ms ≡ true → (j t : ℕ) → 1 ≤ t → take (k + 1) is ≡ take k is ++ (repeated (Call j) t ∷ []) → {after : List ℕ} {made : List Bool} {r : ℕ} → Walk (extend (take n list) (entries ms j)) list after made r → Within ms i front before is (k + 1) after made r
+  within-call sound j t some e v =
       let same : listedBy ms front (take (k + 1) is) ≡ extend (listedBy ms front (take k is)) (entries ms j) =
-      rw e (ap (extend front) (entriesOf-call (λ j. entries ms j) (take k is) j) ∙ extend-append front (entriesOf (λ j. entries ms j) (take k is)) (entries ms j)) in
+      rw e (ap (extend front) (entriesOf-call (λ j. entries ms j) (take k is) t j) ∙ extend-append front (entriesOf (λ j. entries ms j) (unrolled (take k is))) (times t (entries ms j)) ∙ extend-times (listedBy ms front (take k is)) (entries ms j) t some) in
       record {
         walk = rw same (walk-made (x .walk) (extend-longer (listedBy ms front (take k is)) (entries ms j)) (rw (walk-front (x .walk)) at v));
         closed = rw same (closed-more ms sound i (listedBy ms front (take k is)) j (x .closed));
@@ -191,7 +192,7 @@ module _ (b offsets : List ℕ) (i n : ℕ) (marks : List Bool) (list : List ℕ
 
   pub turn-first : Turn 0 list marks n
   turn-first =
-      let none : listedBy (macrosIn b) (take n list) (take 0 (decoded r)) ≡ take n list = rw (entriesOf-none (λ j. entries (macrosIn b) j)) (extend-none (take n list)) in
+      let none : listedBy (macrosIn b) (take n list) (take 0 (decoded r)) ≡ take n list = rw (unrolled-none, entriesOf-none (λ j. entries (macrosIn b) j)) (extend-none (take n list)) in
       record { walk = rw none (x .walk); closed = rw none (x .closed) }
 
   pub turn-few : (k : ℕ) → k < r .count → k < 64
@@ -206,11 +207,11 @@ module _ (b offsets : List ℕ) (i n : ℕ) (marks : List Bool) (list : List ℕ
 
     module _ (l : k < r .count) (item : Item) (f : item ≡ itemOf (getD (r .codes) k 0)) where
       pub turn-key : (c : ℕ) → item ≡ Key c → Turn (k + 1) now made listed
-      turn-key c g = within-key v c (rw g at (items-more b offsets i (x .place .table) (x .place .inside) e k l f))
+      turn-key c g = within-key v c (getD (r .times) k 0) (rw g at (items-more b offsets i (x .place .table) (x .place .inside) e k l f))
 
       module _ (j : ℕ) (g : item ≡ Call j) where
         pub turn-lower : j < i
-        turn-lower = calls-lower (macrosIn b) (well-in b (x .place .inside)) {m = i} (rw g at (item-among b offsets i (x .place .table) (x .place .inside) e k l f))
+        turn-lower = well-call (macrosIn b) (well-in b (x .place .inside)) i (rw g at (item-among b offsets i (x .place .table) (x .place .inside) e k l f))
 
         pub turn-enters : Entering b offsets j listed made now
         turn-enters =
@@ -222,7 +223,7 @@ module _ (b offsets : List ℕ) (i n : ℕ) (marks : List Bool) (list : List ℕ
             }
 
         pub turn-call : {after : List ℕ} {more : List Bool} {t : ℕ} → Walk (extend (take listed now) (entries (macrosIn b) j)) now after more t → Turn (k + 1) after more t
-        turn-call w = within-call v (well-in b (x .place .inside)) j (rw g at (items-more b offsets i (x .place .table) (x .place .inside) e k l f)) w
+        turn-call w = within-call v (well-in b (x .place .inside)) j (getD (r .times) k 0) (well-times (macrosIn b) (well-in b (x .place .inside)) i (item-among b offsets i (x .place .table) (x .place .inside) e k l f)) (rw g at (items-more b offsets i (x .place .table) (x .place .inside) e k l f)) w
 
 -- The whole walk.
 

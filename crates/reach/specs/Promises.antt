@@ -8,6 +8,7 @@ use Rattle.runs.specs.Keys.{member}
 use Rattle.runs.specs.Kept.{over}
 use Rattle.book.specs.Format.{Macro}
 use Rattle.book.specs.Answer.{layout}
+use Rattle.book.specs.Expansion.{unrolled}
 use Rattle.book.specs.Reach.{Reaches}
 use Rattle.book.specs.Reading.{macrosIn}
 use Rattle.reach.specs.Entries.{entriesOf, entries}
@@ -44,7 +45,7 @@ Closed ms a listed = (i j : ℕ) → i < a → member i listed ≡ true → Reac
 
 -- what the items of macro i enter
 abbrev pub calledBy : List Macro → ℕ → List ℕ
-calledBy ms i = entriesOf (λ j. entries ms j) (getD ms i [])
+calledBy ms i = entriesOf (λ j. entries ms j) (unrolled (getD ms i []))
 
 -- The walk at macro i of a book, behind n listed numbers: each listed macro below a was left.
 pub record WalkAt (a : ℕ) (b offsets : List ℕ) (i n : ℕ) (marks : List Bool) (list : List ℕ) : Type 0 where
