@@ -8,7 +8,7 @@ use mathlib.Core.Bool.{Bool, true, false, cond}
 use mathlib.Core.List.{List, [], _∷_, _++_, append-nil, List·Memᴰ, List·Memᴰ·head, Memᴰ·append-left, Memᴰ·append-right}
 use lib.Dec.{ltb, eqb}
 use lib.ListN.{length, drop, getD, set, take, replicate, length-append, length-drop, length-replicate, length-take, take-append-drop, List·getD-append}
-use lib.Seq.{append-snoc, drop-drop, getD-take, set-at, take-all, take-at, take-nil}
+use lib.Seq.{append-snoc, drop-drop, getD-take, set-at, take-all, take-append-le, take-at, take-nil}
 use borrow.Author.Tests.{ltb-true, ltb-false}
 use Rattle.book.specs.declared.item.Item.{Item}
 use Rattle.book.specs.declared.item.ItemRead.{ItemRead}
@@ -81,12 +81,6 @@ front-item version n b = go (eqb version 1)
         let third : 0 < n - 2 = omega arith in
         let fourth : 1 < n - 2 = omega arith in
         rw (code two, drop-take 2 n b, getD-take (n - 2) (drop 2 b) 0 0 third, getD-take (n - 2) (drop 2 b) 1 0 fourth) refl
-
--- a first part of one list and another
-take-append-le : (l r : Macro) (k : ℕ) → k ≤ length l → take k (l ++ r) ≡ take k l
-take-append-le l r zero h = refl
-take-append-le [] r (suc k) h = absurd (omega arith)
-take-append-le (x ∷ l) r (suc k) h = ap (λ (m : Macro). x ∷ m) (take-append-le l r k (omega arith))
 
 -- What `items_in` knows after `count` items.
 pub record ItemsSoFar (version : ℕ) (s codes times : List ℕ) (count : ℕ) : Type 0 where
@@ -197,7 +191,7 @@ unfolding decodedTo
 to-take r k zero h = let none : k ≡ 0 = omega arith in rw none refl
 to-take r k (suc n) h =
     either k (suc n)
-    (λ l. take-append-le (decodedTo n r) (itemAt r n ∷ []) k (rw (to-length n r) (omega arith)) ∙ to-take r k n (omega arith))
+    (λ l. take-append-le k (decodedTo n r) (itemAt r n ∷ []) (rw (to-length n r) (omega arith)) ∙ to-take r k n (omega arith))
     (λ l. let same : k ≡ suc n = omega arith in rw same (take-all (suc n) (decodedTo (suc n) r) (rw (to-length (suc n) r) (omega arith))))
 
 -- one item more

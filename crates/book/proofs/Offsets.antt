@@ -221,7 +221,6 @@ whole taken b ms rest e =
     }
 
 module _ (taken b : List ℕ) (ms : List Macro) (rest : List ℕ) (e : readIn taken b ≡ got ms rest) where
-
   -- where a sound book ends, and how many macros it has
   pub book-end : (offset (versionIn b) ms (length ms) ≡ length b) × (rest ≡ []) × (1 ≤ length ms) × (length ms ≤ 1024)
   book-end =

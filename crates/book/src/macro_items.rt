@@ -48,13 +48,21 @@ fn items_in(part: &[u8], version: u16) -> Items
     while count < 64 {
         let read = read_item(part, width * count, version);
         let ItemRead::Found(code, n) = read else {
-            return Items { codes, times, count };
+            return Items {
+                codes,
+                times,
+                count,
+            };
         };
         codes[count] = code;
         times[count] = n;
         count += 1;
     }
-    Items { codes, times, count }
+    Items {
+        codes,
+        times,
+        count,
+    }
 }
 
 // The items of macro i, where `offsets` says where the macros start.

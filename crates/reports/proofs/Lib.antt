@@ -2,6 +2,7 @@
 pub mod TotalLaws
 pub mod Made
 pub mod ReportLaws
+pub mod RepetitionLaws
 pub mod FlatLaws
 pub mod WordLaws
 pub mod StoredLaws

@@ -1,11 +1,13 @@
-// Reports of runs: a span and the number of its closed lines, of the empty run, with one key more, joined, flat, as work words; and
-// the count that it comes to.
+// Reports of runs: a span and the number of its closed lines, of the empty run, with one key more, joined, repeated, flat, as work
+// words; and the count that it comes to.
 mod edges;
+mod repetition;
 mod report;
 mod span_count;
 mod total;
 mod words;
 
+pub use repetition::repeated;
 pub use report::BEHIND_ROWS;
 pub use report::Joined;
 pub use report::Report;

@@ -5,6 +5,7 @@ use Rattle.book.proofs.Walks.{item-cut, item-fits, key-zero, key-on, ca
 use borrow.Author.Needs.{needs}
 use Rattle.book.proofs.layout.check_item.Statement.{statement}
 use Rattle.book.proofs.layout.check_item.Tie as tie
+
 read-item-requires : tie.Need-read-item-requires
 read-item-requires c κs = search needs
 

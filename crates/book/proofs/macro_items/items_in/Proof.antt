@@ -5,6 +5,7 @@ use Rattle.book.proofs.MacroItems.{ItemsSoFar, place-most, items-start,
 use borrow.Author.Needs.{needs}
 use Rattle.book.proofs.macro_items.items_in.Statement.{statement}
 use Rattle.book.proofs.macro_items.items_in.Tie as tie
+
 abbrev Inv-loop : tie.InvT-loop
 Inv-loop part version width codes₀ times₀ count₀ codes times count = ItemsSoFar version part codes times count
 
