@@ -279,6 +279,11 @@ encode-read taken version known ms h f = rw (encode-version version ms) (
     let read : readMacros version 0 (length ms) (encodeMacros version ms) ≡ got ms [] = rw append-nil at (macros-read version 0 ms [] all f) in
     rw (le-leb _ _ long, number-word version, known, number-word (length ms), le-leb _ _ low, le-leb _ _ high, read))
 
+-- as the operations of document 01 read it
+pub encode-book : (version : ℕ) → member version versions ≡ true → (ms : List Macro) → wellFormed ms ≡ true → fits version ms ≡ true → readBook (encode version ms) ≡ got ms []
+unfolding readBook
+encode-book version known ms h f = encode-read versions version known ms h f
+
 -- a book is sound exactly if it is the encoding of well-formed macros in its version, which is taken
 pub record Encodes (taken b : List ℕ) (ms : List Macro) : Type 0 where
   pub known : member (versionIn b) taken ≡ true

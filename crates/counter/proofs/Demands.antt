@@ -12,11 +12,12 @@ use lib.ListN.{length, getD, take, drop}
 use borrow.Author.Tests.{leb-true, leb-false, lt-ltb, le-ltb}
 use Rattle.refusal.specs.declared.Refusal.{Refusal}
 use Rattle.refusal.specs.declared.Refusal.the-variants.{NoSuchMacro, InsufficientSpace, CountOverflow}
-use Rattle.book.specs.Format.{Macro, wellFormed, encode}
-use Rattle.book.specs.Expansion.{expand, expansion}
+use Rattle.runs.specs.Keys.{member}
+use Rattle.book.specs.Format.{Macro, versions, wellFormed, fits, encode}
+use Rattle.book.specs.Expansion.{expand, unrolled, expansion}
 use Rattle.book.specs.Reach.{AlikeReached}
 use Rattle.book.specs.Reading.{Reading, got, refused, readBook, macrosIn}
-use Rattle.book.proofs.Coding.{encode-read}
+use Rattle.book.proofs.Coding.{encode-version, encode-book}
 use Rattle.book.proofs.Reach.{expansion-alike}
 use Rattle.letters.specs.declared.Case.{Case}
 use Rattle.letters.specs.Letters.{SameLetters}
@@ -28,7 +29,7 @@ use Rattle.spans.specs.Pairs.{pairs}
 use Rattle.reports.specs.declared.total.Total.{Total}
 use Rattle.reports.specs.Totals.{most, totalOf}
 use Rattle.reports.proofs.TotalLaws.{few-lines, many-lines}
-use Rattle.counter.specs.Counting.{itemSteps, stepsWithin, steps, itemsTo, Outcome, matchingLines, finished, stopped, finishedBy, filled, reportSize, needed, mostWords, countOf, countResult, bookResult}
+use Rattle.counter.specs.Counting.{itemSteps, stepsWithin, steps, stepsIn, itemsTo, Outcome, matchingLines, finished, stopped, finishedBy, filled, reportSize, needed, mostWords, countOf, countResult, bookResult}
 use Rattle.runs.proofs.CountLaws.{sum-le, sum-scale}
 use Rattle.pattern.specs.Form.{Pattern}
 use Rattle.book.proofs.LayoutLaws.{macros-few}
@@ -39,23 +40,37 @@ use Rattle.reports.specs.Reports.{report}
 use Rattle.reports.specs.Words.{behindRows, loadedAt}
 use Rattle.counter.proofs.FillLaws.{reports-at}
 
--- a sound book, an accepted pattern, a macro of the book, and work space enough
-pub record Countable (c : Case) (b p work : List ℕ) (ms : List Macro) (t : Pattern) (m : ℕ) : Type 0 where
+-- a sound book of version v, an accepted pattern, a macro of the book, and work space enough
+pub record Countable (c : Case) (v : ℕ) (b p work : List ℕ) (ms : List Macro) (t : Pattern) (m : ℕ) : Type 0 where
+  pub known : member v versions ≡ true
   pub well : wellFormed ms ≡ true
-  pub book : b ≡ encode ms
+  pub written : fits v ms ≡ true
+  pub book : b ≡ encode v ms
   pub pattern : reader.readPattern p ≡ reader.accepted t
   pub inside : m < length ms
   pub enough : needed (query c t) m ≤ length work
 
-module _ {c : Case} {b p work : List ℕ} {ms : List Macro} {t : Pattern} {m : ℕ} (a : Countable c b p work ms t m) where
+module _ {c : Case} {v : ℕ} {b p work : List ℕ} {ms : List Macro} {t : Pattern} {m : ℕ} (a : Countable c v b p work ms t m) where
   -- what is answered then
-  answer : bookResult c b p m work ≡ countOf (query c t) ms m work
+  answer : bookResult c b p m work ≡ countOf v (query c t) ms m work
   answer =
-      rw (a .book, encode-read ms (a .well), a .pattern, count-accepted, lt-ltb m (length ms) (a .inside), le-ltb (length work) (needed (query c t) m) (a .enough)) refl
+      rw (a .book, encode-version v ms, encode-book v (a .known) ms (a .well) (a .written), a .pattern, count-accepted, lt-ltb m (length ms) (a .inside), le-ltb (length work) (needed (query c t) m) (a .enough)) refl
 
   -- "the count given equals the number of lines of the macro's written-out run that match"
-  pub count-equals : matchingLines (query c t) ms m ≤ most → bookResult c b p m work ≡ finished (matchingLines (query c t) ms m) (steps (query c t) ms m) (filled (query c t) ms m work)
+  pub count-equals : matchingLines (query c t) ms m ≤ most → bookResult c b p m work ≡ finished (matchingLines (query c t) ms m) (stepsIn v (steps (query c t) ms m)) (filled (query c t) ms m work)
   count-equals h = answer ∙ rw (few-lines (matchingLines (query c t) ms m) h) refl
+
+  -- "The steps that come with a count equal the number that document 01 defines": in version 1
+  pub steps-equal : v ≡ 1 → matchingLines (query c t) ms m ≤ most → bookResult c b p m work .steps ≡ steps (query c t) ms m
+  steps-equal e h = ap (λ (o : Outcome). o .steps) (count-equals h) ∙ rw e refl
+
+  -- "for version 2 the answer's steps are 0"
+  pub steps-zero : v ≡ 2 → bookResult c b p m work .steps ≡ 0
+  steps-zero e = ap (λ (o : Outcome). o .steps) answer ∙ rw e (go (totalOf (matchingLines (query c t) ms m)))
+    where
+      go : (z : Total) → finishedBy z 0 (filled (query c t) ms m work) .steps ≡ 0
+      go (Total.Lines n) = refl
+      go Total.TooMany = refl
 
   -- "It is refused exactly when that number passes 2^64 − 1."
   pub count-refused : most < matchingLines (query c t) ms m → bookResult c b p m work ≡ stopped CountOverflow (filled (query c t) ms m work)
@@ -74,7 +89,7 @@ module _ {c : Case} {b p work : List ℕ} {ms : List Macro} {t : Pattern} {m : �
       reports-at (query c t) (accepted-few p t (a .pattern)) ms (suc m) i (omega arith) (bookResult c b p m work .work) (drop (needed (query c t) m) work)
       (ap (λ (o : Outcome). o .work) answer ∙ words (totalOf (matchingLines (query c t) ms m)))
     where
-      words : (z : Total) → finishedBy z (steps (query c t) ms m) (filled (query c t) ms m work) .work ≡ filled (query c t) ms m work
+      words : (z : Total) → finishedBy z (stepsIn v (steps (query c t) ms m)) (filled (query c t) ms m work) .work ≡ filled (query c t) ms m work
       words (Total.Lines n) = refl
       words Total.TooMany = refl
 
@@ -82,23 +97,23 @@ module _ {c : Case} {b p work : List ℕ} {ms : List Macro} {t : Pattern} {m : �
 abbrev pub SameCount : Outcome → Outcome → Type 0
 SameCount x y = (x .refusal ≡ y .refusal) × (x .lines ≡ y .lines)
 
--- Macros with one run, in whatever books, give the same count under the same pattern, each with such work space, or are both refused.
-module _ {case : Case} {b c p work space : List ℕ} {ms ns : List Macro} {t : Pattern} {m n : ℕ} (x : Countable case b p work ms t m) (y : Countable case c p space ns t n) where
+-- Macros with one run, in whatever books of whatever versions, give the same count under the same pattern, each with such work space, or are both refused.
+module _ {case : Case} {v u : ℕ} {b c p work space : List ℕ} {ms ns : List Macro} {t : Pattern} {m n : ℕ} (x : Countable case v b p work ms t m) (y : Countable case u c p space ns t n) where
   pub same-counts : expansion ms m ≡ expansion ns n → SameCount (bookResult case b p m work) (bookResult case c p n space)
-  same-counts e = rw (answer x, answer y, e) (go (totalOf (matchingLines (query case t) ns n)) (steps (query case t) ms m) (steps (query case t) ns n) (filled (query case t) ms m work) (filled (query case t) ns n space))
+  same-counts e = rw (answer x, answer y, e) (go (totalOf (matchingLines (query case t) ns n)) (stepsIn v (steps (query case t) ms m)) (stepsIn u (steps (query case t) ns n)) (filled (query case t) ms m work) (filled (query case t) ns n space))
     where
       go : (z : Total) (k j : ℕ) (v w : List ℕ) → SameCount (finishedBy z k v) (finishedBy z j w)
       go (Total.Lines n) k j v w = (refl, refl)
       go Total.TooMany k j v w = (refl, refl)
 
 -- Under a pattern that is refused every sound book is, for the same reason.
-pub pattern-refused : (c : Case) (p : List ℕ) {r : Refusal} → reader.readPattern p ≡ reader.refused r → (ms : List Macro) → wellFormed ms ≡ true → (m : ℕ) (work : List ℕ) → bookResult c (encode ms) p m work ≡ stopped r work
-pattern-refused c p {r} e ms well m work = rw (encode-read ms well, e) (count-refused-pattern c m work ms [] r)
+pub pattern-refused : (c : Case) (p : List ℕ) {r : Refusal} → reader.readPattern p ≡ reader.refused r → (v : ℕ) → member v versions ≡ true → (ms : List Macro) → wellFormed ms ≡ true → fits v ms ≡ true → (m : ℕ) (work : List ℕ) → bookResult c (encode v ms) p m work ≡ stopped r work
+pattern-refused c p {r} e v known ms well written m work = rw (encode-version v ms, encode-book v known ms well written, e) (count-refused-pattern c v m work ms [] r)
 
 -- Document 02, S-1: "both are asked with the same choice".
 -- "Two sound books alike in every macro that the one named reaches, whatever their other macros hold, give the same count for it
--- under the same pattern, each with such work space, or are both refused."
-module _ {case : Case} {b c p work space : List ℕ} {ms ns : List Macro} {t : Pattern} {m : ℕ} (x : Countable case b p work ms t m) (y : Countable case c p space ns t m) (alike : AlikeReached ms ns m) where
+-- under the same pattern, each with such work space, or are both refused." They may be of different versions (document 02, S-8).
+module _ {case : Case} {v u : ℕ} {b c p work space : List ℕ} {ms ns : List Macro} {t : Pattern} {m : ℕ} (x : Countable case v b p work ms t m) (y : Countable case u c p space ns t m) (alike : AlikeReached ms ns m) where
   pub alike-counts : SameCount (bookResult case b p m work) (bookResult case c p m space)
   alike-counts = same-counts x y (expansion-alike ms ns m alike)
 
@@ -106,14 +121,14 @@ module _ {case : Case} {b c p work space : List ℕ} {ms ns : List Macro} {t : P
 pub letters-count : (t : Pattern) (ms ns : List Macro) (m n : ℕ) → SameLetters (expansion ms m) (expansion ns n) → matchingLines (query Case.Ignored t) ms m ≡ matchingLines (query Case.Ignored t) ns n
 letters-count t ms ns m n e = letters-matching t (expansion ms m) (expansion ns n) e
 
--- "are never more than the number of items in the macros up to the one named, times the square of the number of states"
+-- The steps, which version 1 answers, "are never more than the number of items in the macros up to the one named, times the square of the number of states"
 module _ (t : Query) where
   pub steps-bound : (ms : List Macro) (m : ℕ) → steps t ms m ≤ itemsTo ms m * (states t * states t)
   unfolding steps itemsTo itemSteps
   steps-bound ms m = sum-scale (suc m) (states t * states t) (stepsWithin t ms) (λ i. length (getD ms i [])) (λ i. within (getD ms i []))
     where
       within : (items : Macro) → itemSteps t (λ j. expansion ms j) items ≤ length items * (states t * states t)
-      within items = sum-le (length items) (states t * states t) (λ k. pairs t (expand (λ j. expansion ms j) (take k items))) (λ k l. pairs-square t (expand (λ j. expansion ms j) (take k items)))
+      within items = sum-le (length items) (states t * states t) (λ k. pairs t (expand (λ j. expansion ms j) (unrolled (take k items)))) (λ k l. pairs-square t (expand (λ j. expansion ms j) (unrolled (take k items))))
 
 -- So many words are enough for every sound book and accepted pattern.
 pub needed-most : (c : Case) (b p : List ℕ) (t : Pattern) (m : ℕ) → reader.readPattern p ≡ reader.accepted t → m < length (macrosIn b) → needed (query c t) m ≤ mostWords
@@ -123,15 +138,15 @@ needed-most c b p t m e h =
     mul-le-mul number wide
 
 -- No book has a macro from 1,024 on: all such numbers are refused alike.
-pub beyond-alike : (c : Case) (b : List ℕ) (p : reader.Read) (m n : ℕ) (work : List ℕ) → 1024 ≤ m → 1024 ≤ n → countResult c (readBook b) p m work ≡ countResult c (readBook b) p n work
-beyond-alike c b p m n work g h = go (readBook b) refl p
+pub beyond-alike : (c : Case) (v : ℕ) (b : List ℕ) (p : reader.Read) (m n : ℕ) (work : List ℕ) → 1024 ≤ m → 1024 ≤ n → countResult c v (readBook b) p m work ≡ countResult c v (readBook b) p n work
+beyond-alike c v b p m n work g h = go (readBook b) refl p
   where
-    go : (r : Reading (List Macro)) → readBook b ≡ r → (q : reader.Read) → countResult c r q m work ≡ countResult c r q n work
-    go (refused r) d q = count-refused-book c m work r q ∙ sym (count-refused-book c n work r q)
-    go (got ms rest) d (reader.refused r) = count-refused-pattern c m work ms rest r ∙ sym (count-refused-pattern c n work ms rest r)
+    go : (r : Reading (List Macro)) → readBook b ≡ r → (q : reader.Read) → countResult c v r q m work ≡ countResult c v r q n work
+    go (refused r) d q = count-refused-book c v m work r q ∙ sym (count-refused-book c v n work r q)
+    go (got ms rest) d (reader.refused r) = count-refused-pattern c v m work ms rest r ∙ sym (count-refused-pattern c v n work ms rest r)
     go (got ms rest) d (reader.accepted t) =
         let few : length ms ≤ 1024 = rw d at (macros-few b) in
-        rw (count-accepted c m work ms rest t, count-accepted c n work ms rest t, le-ltb m (length ms) (omega arith), le-ltb n (length ms) (omega arith)) refl
+        rw (count-accepted c v m work ms rest t, count-accepted c v n work ms rest t, le-ltb m (length ms) (omega arith), le-ltb n (length ms) (omega arith)) refl
 
 -- Demand 1: "it refuses with the one number that the table in document 01 sets, zeros in the answer and the work space left as
 -- stated under it".
@@ -146,23 +161,23 @@ module _ (m : ℕ) (work : List ℕ) where
   left-with true false Total.TooMany k v h = (refl, refl, λ e. absurd (e refl))
   left-with false y z k v h = (refl, refl, λ e. refl)
 
-  pub refused-left : (c : Case) (g : Reading (List Macro)) (r : reader.Read) → Left (countResult c g r m work)
-  refused-left c (refused q) r = rw count-refused-book (λ h. (refl, refl, λ e. refl))
-  refused-left c (got ms rest) (reader.refused q) = rw count-refused-pattern (λ h. (refl, refl, λ e. refl))
-  refused-left c (got ms rest) (reader.accepted t) =
-      rw (count-accepted c m work ms rest t)
-      (left-with (ltb m (length ms)) (ltb (length work) (needed (query c t) m)) (totalOf (matchingLines (query c t) ms m)) (steps (query c t) ms m) (filled (query c t) ms m work))
+  pub refused-left : (c : Case) (v : ℕ) (g : Reading (List Macro)) (r : reader.Read) → Left (countResult c v g r m work)
+  refused-left c v (refused q) r = rw count-refused-book (λ h. (refl, refl, λ e. refl))
+  refused-left c v (got ms rest) (reader.refused q) = rw count-refused-pattern (λ h. (refl, refl, λ e. refl))
+  refused-left c v (got ms rest) (reader.accepted t) =
+      rw (count-accepted c v m work ms rest t)
+      (left-with (ltb m (length ms)) (ltb (length work) (needed (query c t) m)) (totalOf (matchingLines (query c t) ms m)) (stepsIn v (steps (query c t) ms m)) (filled (query c t) ms m work))
 
   -- Document 02, S-1: what is refused before any work does not depend on whether case is ignored
   abbrev pub SameRefusal : Outcome → Outcome → Type 0
   SameRefusal x y = 0 < x .refusal → (x .refusal ≡ 12 → ⊥) → x ≡ y
 
-  pub refused-alike : (c d : Case) (g : Reading (List Macro)) (r : reader.Read) → SameRefusal (countResult c g r m work) (countResult d g r m work)
-  refused-alike c d (refused q) r = rw (count-refused-book c m work q r, count-refused-book d m work q r) (λ h e. refl)
-  refused-alike c d (got ms rest) (reader.refused q) = rw (count-refused-pattern c m work ms rest q, count-refused-pattern d m work ms rest q) (λ h e. refl)
-  refused-alike c d (got ms rest) (reader.accepted t) =
-      rw (count-accepted c m work ms rest t, count-accepted d m work ms rest t)
-      (go (ltb m (length ms)) (ltb (length work) (needed (query c t) m)) (totalOf (matchingLines (query c t) ms m)) (steps (query c t) ms m) (filled (query c t) ms m work) (countOf (query d t) ms m work))
+  pub refused-alike : (c d : Case) (v : ℕ) (g : Reading (List Macro)) (r : reader.Read) → SameRefusal (countResult c v g r m work) (countResult d v g r m work)
+  refused-alike c d v (refused q) r = rw (count-refused-book c v m work q r, count-refused-book d v m work q r) (λ h e. refl)
+  refused-alike c d v (got ms rest) (reader.refused q) = rw (count-refused-pattern c v m work ms rest q, count-refused-pattern d v m work ms rest q) (λ h e. refl)
+  refused-alike c d v (got ms rest) (reader.accepted t) =
+      rw (count-accepted c v m work ms rest t, count-accepted d v m work ms rest t)
+      (go (ltb m (length ms)) (ltb (length work) (needed (query c t) m)) (totalOf (matchingLines (query c t) ms m)) (stepsIn v (steps (query c t) ms m)) (filled (query c t) ms m work) (countOf v (query d t) ms m work))
     where
       go : (x y : Bool) (z : Total) (k : ℕ) (v : List ℕ) (o : Outcome) → SameRefusal (cond x (cond y (stopped InsufficientSpace work) (finishedBy z k v)) (stopped NoSuchMacro work)) (cond x (cond y (stopped InsufficientSpace work) o) (stopped NoSuchMacro work))
       go true true z k v o h e = refl

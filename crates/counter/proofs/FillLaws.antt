@@ -6,7 +6,7 @@ use mir.Val.{Fits}
 use mir.Syntax.{w64}
 use mathlib.Core.Path.{_≡_, refl, sym, ap, _∙_}
 use mathlib.Core.Bool.{true}
-use mathlib.Core.List.{List, [], _++_}
+use mathlib.Core.List.{List, [], _++_, List·Memᴰ}
 use lib.ListN.{length, getD, take, drop}
 use Rattle.runs.specs.Kept.{firstWords}
 use Rattle.runs.specs.Counts.{sumBelow}
@@ -15,13 +15,13 @@ use Rattle.runs.proofs.CountLaws.{sum-none, sum-more}
 use Rattle.book.specs.declared.item.Item.{Item}
 use Rattle.book.specs.declared.item.Item.the-variants.{Key, Call}
 use Rattle.book.specs.declared.macro_items.Items.{Items}
-use Rattle.book.specs.Format.{Macro, wellFormed}
+use Rattle.book.specs.Format.{Macro, repeated, wellFormed}
 use Rattle.book.specs.Expansion.{expansion}
 use Rattle.book.specs.Reading.{macrosIn}
 use Rattle.book.specs.MacroItems.{itemsFrom, decoded}
-use Rattle.book.proofs.MacroItems.{count-few, count-fits, items-are}
+use Rattle.book.proofs.MacroItems.{count-few, count-fits, times-fit, items-are}
 use Rattle.book.proofs.LayoutLaws.{well-in, macros-few}
-use Rattle.book.proofs.Expansion.{calls-lower, expansion-law, expansion-run, well-key}
+use Rattle.book.proofs.Expansion.{expansion-law, expansion-run, well-key, well-call}
 use Rattle.pattern.specs.Meaning.{Query}
 use Rattle.pattern.specs.Form.{atomCount}
 use Rattle.pattern.specs.Moves.{states}
@@ -34,7 +34,7 @@ use Rattle.reports.proofs.ReportLaws.{report-size}
 use Rattle.reports.proofs.StoredLaws.{words-length, loaded-from, stored-there}
 use Rattle.counter.specs.declared.items.MacroCount.{MacroCount}
 use Rattle.counter.specs.Counting.{stepsWithin, steps, macroWords, reportsOver}
-use Rattle.counter.specs.Promises.{placeOf, AllServed, ItemsFit, ItemsCounted, MacroFits, Filled}
+use Rattle.counter.specs.Promises.{placeOf, Served, AllServed, ItemsFit, ItemsCounted, MacroFits, Filled}
 
 module _ (t : Query) (few : atomCount (t .tree) ≤ 29) (ms : List Macro) where
   -- the report of macro j, where those of the first n stand in front
@@ -45,8 +45,11 @@ module _ (t : Query) (few : atomCount (t .tree) ≤ 29) (ms : List Macro) where
 
   -- a macro's items are served by the reports of those below it
   pub served : wellFormed ms ≡ true → (i : ℕ) (work rest : List ℕ) → work ≡ firstWords (macroWords t ms) i ++ rest → AllServed t (λ j. expansion ms j) work (getD ms i [])
-  served well i work rest e (Key k) m = well-key ms well i m
-  served well i work rest e (Call j) m = (reports-at i j (calls-lower ms well m) work rest e, expansion-run ms well j)
+  served well i work rest e x m = go (x .item) (x .times) m
+    where
+      go : (y : Item) (n : ℕ) → List·Memᴰ (repeated y n) (getD ms i []) → Served t (λ j. expansion ms j) work y
+      go (Key k) n c = well-key ms well i c
+      go (Call j) n c = (reports-at i j (well-call ms well i c) work rest e, expansion-run ms well j)
 
 -- after i macros
 pub record FillSoFar (keys enter : List ℕ) (p : Accepting) (ms : List Macro) (m : ℕ) (before after : List ℕ) (n i : ℕ) : Type 0 where
@@ -79,7 +82,7 @@ module _ {book offsets : List ℕ} {m : ℕ} {p : Accepting} {before : List ℕ}
 
   -- the items of macro i
   pub items-fit : {items : Items} (i : ℕ) → items ≡ itemsFrom book offsets i → ItemsFit items p
-  items-fit i e = record { few = count-few book offsets i e; there = count-fits book offsets i e; small = g .small }
+  items-fit i e = record { few = count-few book offsets i e; there = count-fits book offsets i e; often = times-fit book offsets i e; small = g .small }
 
 module _ {keys enter : List ℕ} {p : Accepting} {book : List ℕ} {m : ℕ} {before work : List ℕ} {n i : ℕ} (x : FillSoFar keys enter p (macrosIn book) m before work n i) where
   module _ {offsets : List ℕ} (g : MacroFits book offsets m p before) (below : i ≤ m) where
@@ -98,7 +101,7 @@ module _ {keys enter : List ℕ} {p : Accepting} {book : List ℕ} {m : ℕ} {be
         omega (arith, mul-le-mul-right (p .states + behindRows) low)
 
     -- and so are the steps
-    pub steps-fit : {items : List Item} {a : MacroCount} → ItemsCounted keys enter p work items a → Fits w64 (n + a .steps)
+    pub steps-fit : {items : Macro} {a : MacroCount} → ItemsCounted keys enter p work items a → Fits w64 (n + a .steps)
     steps-fit h = omega (arith, few, x .few, h .few)
 
     -- macro i, whose items are counted

@@ -68,18 +68,18 @@ module _ {book offsets : List ℕ} {macros : ℕ} (i : InBook book offsets macro
         (space-settles (length (macrosIn book)) m (need (a .tree)) words x told f)
 
 -- The count, case by case.
-module _ (c : Case) (m : ℕ) (work : List ℕ) where
-  pub count-refused-book : (r : Refusal) (p : reader.Read) → countResult c (Reading.refused r) p m work ≡ stopped r work
+module _ (c : Case) (v m : ℕ) (work : List ℕ) where
+  pub count-refused-book : (r : Refusal) (p : reader.Read) → countResult c v (Reading.refused r) p m work ≡ stopped r work
   unfolding countResult
   count-refused-book r p = refl
 
   module _ (ms : List Macro) (rest : List ℕ) where
-    pub count-refused-pattern : (r : Refusal) → countResult c (Reading.got ms rest) (reader.refused r) m work ≡ stopped r work
+    pub count-refused-pattern : (r : Refusal) → countResult c v (Reading.got ms rest) (reader.refused r) m work ≡ stopped r work
     unfolding countResult
     count-refused-pattern r = refl
 
     pub count-accepted : (t : Pattern) →
-        countResult c (Reading.got ms rest) (reader.accepted t) m work
-        ≡ cond (ltb m (length ms)) (cond (ltb (length work) (needed (query c t) m)) (stopped InsufficientSpace work) (countOf (query c t) ms m work)) (stopped NoSuchMacro work)
+        countResult c v (Reading.got ms rest) (reader.accepted t) m work
+        ≡ cond (ltb m (length ms)) (cond (ltb (length work) (needed (query c t) m)) (stopped InsufficientSpace work) (countOf v (query c t) ms m work)) (stopped NoSuchMacro work)
     unfolding countResult
-    count-accepted t = space-answer (λ r. stopped r work) (λ (ms, t). countOf (query c t) ms m work) (ms, t) (length ms) m (needed (query c t) m) (length work)
+    count-accepted t = space-answer (λ r. stopped r work) (λ (ms, t). countOf v (query c t) ms m work) (ms, t) (length ms) m (needed (query c t) m) (length work)

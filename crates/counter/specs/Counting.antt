@@ -1,13 +1,15 @@
--- Document 01, "States and steps", "Reports" and "Refused": the count over a book, its steps and its work words.
+-- Document 01, "States and steps", "Reports" and "Refused", and document 02, S-8: the count over a book, its steps and its work words.
 use Prim.Native.Nat.{ℕ, suc, _+_, _*_}
+use mathlib.Core.Bool.{cond}
 use mathlib.Core.List.{List, []}
+use lib.Dec.{eqb}
 use lib.ListN.{length, getD, take}
 use Rattle.refusal.specs.declared.Refusal.{Refusal}
 use Rattle.refusal.specs.declared.Refusal.the-variants.{CountOverflow}
 use Rattle.refusal.specs.Number.{number}
 use Rattle.book.specs.Format.{Macro}
-use Rattle.book.specs.Expansion.{expand, expansion}
-use Rattle.book.specs.Reading.{Reading, readBook}
+use Rattle.book.specs.Expansion.{expand, unrolled, expansion}
+use Rattle.book.specs.Reading.{Reading, readBook, versionIn}
 use Rattle.book.specs.Steps.{answerBy}
 use Rattle.letters.specs.declared.Case.{Case}
 use Rattle.pattern.specs.Meaning.{Query, query}
@@ -27,7 +29,7 @@ use Rattle.counter.specs.Front.{front}
 
 -- "over each item, the pairs", where `called` gives the runs of called macros
 unfoldable pub itemSteps : Query → (ℕ → List ℕ) → Macro → ℕ
-itemSteps t called items = sumBelow (length items) (λ k. pairs t (expand called (take k items)))
+itemSteps t called items = sumBelow (length items) (λ k. pairs t (expand called (unrolled (take k items))))
 
 -- the steps within one macro
 abbrev pub stepsWithin : Query → List Macro → ℕ → ℕ
@@ -36,6 +38,10 @@ stepsWithin t ms i = itemSteps t (λ j. expansion ms j) (getD ms i [])
 -- "Steps of macro m: over macros 0 to m"
 unfoldable pub steps : Query → List Macro → ℕ → ℕ
 steps t ms m = sumBelow (suc m) (stepsWithin t ms)
+
+-- those of the answer: "Steps belong to version 1 alone; for version 2 the answer's steps are 0 and nothing is claimed of them"
+abbrev pub stepsIn : ℕ → ℕ → ℕ
+stepsIn version n = cond (eqb version 1) n 0
 
 -- "items is how many items macros 0 to m hold together"
 unfoldable pub itemsTo : List Macro → ℕ → ℕ
@@ -89,15 +95,15 @@ finishedBy (Total.Lines n) k work = finished n k work
 finishedBy Total.TooMany k work = stopped CountOverflow work
 
 -- 12: "over 2^64 − 1", which "leaves the reports written"
-abbrev pub countOf : Query → List Macro → ℕ → List ℕ → Outcome
-countOf t ms m work = finishedBy (totalOf (matchingLines t ms m)) (steps t ms m) (filled t ms m work)
+abbrev pub countOf : ℕ → Query → List Macro → ℕ → List ℕ → Outcome
+countOf version t ms m work = finishedBy (totalOf (matchingLines t ms m)) (stepsIn version (steps t ms m)) (filled t ms m work)
 
 -- "1 to 6 come in reading order, item by item; then 7; then 8 over the whole pattern; 9; 10; 11; 12."; "other lent memory is
--- unchanged"
-unfoldable pub countResult : Case → Reading (List Macro) → reader.Read → ℕ → List ℕ → Outcome
-countResult c book pattern m work =
-    answerBy (λ r. stopped r work) (λ (ms, t). countOf (query c t) ms m work) (front book pattern (λ t. needed (query c t) m) m (length work))
+-- unchanged"; of a book of a version
+unfoldable pub countResult : Case → ℕ → Reading (List Macro) → reader.Read → ℕ → List ℕ → Outcome
+countResult c version book pattern m work =
+    answerBy (λ r. stopped r work) (λ (ms, t). countOf version (query c t) ms m work) (front book pattern (λ t. needed (query c t) m) m (length work))
 
 -- what the count of macro m answers, of a book and under a pattern as they are lent, with case ignored or not
 abbrev pub bookResult : Case → List ℕ → List ℕ → ℕ → List ℕ → Outcome
-bookResult c book pattern m work = countResult c (readBook book) (reader.readPattern pattern) m work
+bookResult c book pattern m work = countResult c (versionIn book) (readBook book) (reader.readPattern pattern) m work

@@ -5,11 +5,12 @@ use mathlib.Core.Bool.{true}
 use mathlib.Core.List.{List, _++_, List·Memᴰ}
 use lib.ListN.{length}
 use Rattle.runs.specs.Keys.{isKey, isRun}
+use Rattle.runs.specs.Kept.{times}
 use Rattle.book.specs.declared.item.Item.{Item}
 use Rattle.book.specs.declared.item.Item.the-variants.{Key, Call}
 use Rattle.book.specs.declared.macro_items.Items.{Items}
-use Rattle.book.specs.Format.{Macro}
-use Rattle.book.specs.Expansion.{keysOf, expand}
+use Rattle.book.specs.Format.{Repeated, Macro}
+use Rattle.book.specs.Expansion.{keysOf, expand, unrolled}
 use Rattle.book.specs.Reading.{macrosIn}
 use Rattle.book.specs.Answer.{layout}
 use Rattle.pattern.specs.Meaning.{Query}
@@ -30,8 +31,8 @@ Served t called work (Key k) = isKey k ≡ true
 Served t called work (Call j) = (loadedAt work (j * (states t + behindRows)) (states t) ≡ report t (called j)) × (isRun (called j) ≡ true)
 
 -- and so is each of some
-abbrev pub AllServed : Query → (ℕ → List ℕ) → List ℕ → List Item → Type 0
-AllServed t called work items = (item : Item) → List·Memᴰ item items → Served t called work item
+abbrev pub AllServed : Query → (ℕ → List ℕ) → List ℕ → Macro → Type 0
+AllServed t called work items = (i : Repeated) → List·Memᴰ i items → Served t called work (i .item)
 
 -- what is kept of a run with the run of one item more
 pub record AfterItem (keys enter : List ℕ) (p : Accepting) (work : List ℕ) (a : SpanCount) (item : Item) (b : SpanCount) : Type 0 where
@@ -39,10 +40,17 @@ pub record AfterItem (keys enter : List ℕ) (p : Accepting) (work : List ℕ) (
   pub extends : (t : Query) → Automaton t keys enter p → (called : ℕ → List ℕ) (w : List ℕ) → isRun w ≡ true → Served t called work item → a ≡ spanCount t w
       → b ≡ spanCount t (w ++ keysOf called item)
 
+-- what is kept of a run with the run of one item more, n times
+pub record AfterPasses (keys enter : List ℕ) (p : Accepting) (work : List ℕ) (a : SpanCount) (item : Item) (n : ℕ) (b : SpanCount) : Type 0 where
+  pub small : b .span .s ≤ 32
+  pub extends : (t : Query) → Automaton t keys enter p → (called : ℕ → List ℕ) (w : List ℕ) → isRun w ≡ true → Served t called work item → a ≡ spanCount t w
+      → b ≡ spanCount t (w ++ times n (keysOf called item))
+
 -- items and states within the limits of the code
 pub record ItemsFit (items : Items) (p : Accepting) : Type 0 where
   pub few : items .count ≤ 64
   pub there : items .count ≤ length (items .codes)
+  pub often : items .count ≤ length (items .times)
   pub small : p .states ≤ 32
 
 -- the place of macro i's report in the work words
@@ -50,9 +58,9 @@ abbrev pub placeOf : Accepting → ℕ → ℕ
 placeOf p i = i * (p .states + behindRows)
 
 -- the report of the run of some items, and their steps; each item has at most 32 × 32 pairs
-pub record ItemsCounted (keys enter : List ℕ) (p : Accepting) (work : List ℕ) (items : List Item) (r : MacroCount) : Type 0 where
+pub record ItemsCounted (keys enter : List ℕ) (p : Accepting) (work : List ℕ) (items : Macro) (r : MacroCount) : Type 0 where
   pub few : r .steps ≤ 65536
-  pub counts : (t : Query) → Automaton t keys enter p → (called : ℕ → List ℕ) → AllServed t called work items → (r .report ≡ report t (expand called items)) × (r .steps ≡ itemSteps t called items)
+  pub counts : (t : Query) → Automaton t keys enter p → (called : ℕ → List ℕ) → AllServed t called work items → (r .report ≡ report t (expand called (unrolled items))) × (r .steps ≡ itemSteps t called items)
 
 -- macro m of a sound book whose layout has these offsets, with room for the reports of macros 0 to m
 pub record MacroFits (book offsets : List ℕ) (m : ℕ) (p : Accepting) (work : List ℕ) : Type 0 where
@@ -67,5 +75,5 @@ pub record Filled (keys enter : List ℕ) (p : Accepting) (ms : List Macro) (m :
   pub counts : (t : Query) → Automaton t keys enter p → (after ≡ filled t ms m before) × (n ≡ steps t ms m)
 
 -- the count of macro m, where the work words suffice
-unfoldable pub BookCounted : List ℕ → List ℕ → Accepting → List Macro → ℕ → List ℕ → List ℕ → BookCount → Type 0
-BookCounted keys enter p ms m before after r = (t : Query) → Automaton t keys enter p → outcome r after ≡ countOf t ms m before
+unfoldable pub BookCounted : ℕ → List ℕ → List ℕ → Accepting → List Macro → ℕ → List ℕ → List ℕ → BookCount → Type 0
+BookCounted version keys enter p ms m before after r = (t : Query) → Automaton t keys enter p → outcome r after ≡ countOf version t ms m before

@@ -5,6 +5,7 @@ use book::Space;
 use book::items_of;
 use book::layout_of;
 use book::space_for;
+use book::version_of;
 use letters::Case;
 use pattern::Accepting;
 use pattern::Verdict;
@@ -17,7 +18,9 @@ use reports::load;
 use reports::store;
 use reports::total_in;
 ghost use mathlib.Core.Path.{_≡_};
-ghost use Rattle.book.specs.Reading.{macrosIn, readBook};
+ghost use mathlib.Core.Bool.{cond};
+ghost use lib.Dec.{eqb};
+ghost use Rattle.book.specs.Reading.{macrosIn, readBook, versionIn};
 ghost use Rattle.book.specs.Steps.{InBook};
 ghost use Rattle.pattern.specs.Reader.{readPattern};
 ghost use Rattle.counter.specs.Answers.{outcome};
@@ -73,6 +76,13 @@ fn fill(
     steps
 }
 
+// The steps that are answered: they belong to version 1 alone (document 02, S-8).
+fn steps_for(version: u16, steps: u64) -> u64
+    ensures { λ r. ⌜ r ≡ cond (eqb version 1) steps 0 ⌝ }
+{
+    if version == 1 { steps } else { 0 }
+}
+
 // Macro m of a sound book, where the work words suffice.
 fn counted_macro(
     book: &[u8],
@@ -83,11 +93,12 @@ fn counted_macro(
     enter: &[u64; 32],
 ) -> BookCount
     requires { ⌜ MacroFits (now book) (now offsets) (task .m) (task .p) (now work) ⌝ }
-    ensures { λ r. ⌜ BookCounted (now (keys .entry)) (now (enter .entry)) (task .p) (macrosIn (now (book .entry))) (task .m) (now (work .entry)) (now (work .exit)) r ⌝ }
+    ensures { λ r. ⌜ BookCounted (versionIn (now (book .entry))) (now (keys .entry)) (now (enter .entry)) (task .p) (macrosIn (now (book .entry))) (task .m) (now (work .entry)) (now (work .exit)) r ⌝ }
 {
     let m = task.m;
     let p = task.p;
-    let steps = fill(book, offsets, task, work, keys, enter);
+    let counted = fill(book, offsets, task, work, keys, enter);
+    let steps = steps_for(version_of(book), counted);
     let at = m * (p.states + BEHIND_ROWS);
     let report = load(work, at, p.states as u64);
     match total_in(in_report(report), p) {
@@ -105,7 +116,7 @@ fn counted_sound(
     work: &mut [u64],
 ) -> BookCount
     requires { ⌜ InBook (now book) (now offsets) (asked .macros) ⌝ }
-    ensures { λ r. ⌜ outcome r (now (work .exit)) ≡ countResult (asked .case) (readBook (now (book .entry))) (readPattern (now (pattern .entry))) (asked .m) (now (work .entry)) ⌝ }
+    ensures { λ r. ⌜ outcome r (now (work .exit)) ≡ countResult (asked .case) (versionIn (now (book .entry))) (readBook (now (book .entry))) (readPattern (now (pattern .entry))) (asked .m) (now (work .entry)) ⌝ }
 {
     let m = asked.m;
     let case = asked.case;
@@ -123,10 +134,10 @@ fn counted_sound(
     }
 }
 
-// How many lines of macro m's run match a pattern, with case ignored or not, and the steps (document 01, "States and steps", "Reports",
-// "Refused"). The first (m + 1) × (s + 6) work words then hold the reports of macros 0 to m.
+// How many lines of macro m's run match a pattern, with case ignored or not, and the steps, 0 in version 2 (document 01, "States and
+// steps", "Reports", "Refused"; document 02, S-8). The first (m + 1) × (s + 6) work words then hold the reports of macros 0 to m.
 pub fn count_book(book: &[u8], pattern: &[u8], case: Case, m: usize, work: &mut [u64]) -> BookCount
-    ensures { λ r. ⌜ outcome r (now (work .exit)) ≡ countResult case (readBook (now (book .entry))) (readPattern (now (pattern .entry))) m (now (work .entry)) ⌝ }
+    ensures { λ r. ⌜ outcome r (now (work .exit)) ≡ countResult case (versionIn (now (book .entry))) (readBook (now (book .entry))) (readPattern (now (pattern .entry))) m (now (work .entry)) ⌝ }
 {
     let found = layout_of(book);
     let answer = found.answer;

@@ -7,10 +7,10 @@ use Rattle.counter.proofs.items.items_report.Statement.{statement}
 use Rattle.counter.proofs.items.items_report.Tie as tie
 
 abbrev Inv-loop : tie.InvT-loop
-Inv-loop work keys enter p codes count kept₀ steps₀ k₀ kept steps k = ItemsSoFar keys enter p work (record { codes = codes; count = count }) kept steps k
+Inv-loop work keys enter p codes times count kept₀ steps₀ k₀ kept steps k = ItemsSoFar keys enter p work (record { codes = codes; times = times; count = count }) kept steps k
 
 abbrev μ-loop : tie.MeasureT-loop
-μ-loop work keys enter p codes count kept₀ steps₀ k₀ kept steps k = count - k
+μ-loop work keys enter p codes times count kept₀ steps₀ k₀ kept steps k = count - k
 
 empty-count-requires : tie.Need-empty-count-requires Inv-loop μ-loop
 empty-count-requires c κs = search needs
@@ -28,13 +28,19 @@ mul-item-of : tie.Need-mul-item-of Inv-loop μ-loop
 mul-item-of c = search needs
 
 array-read-item-of : tie.Need-array-read-item-of Inv-loop μ-loop
-array-read-item-of c = omega (arith, c .before .before .before .before .before .before .pre .few)
+array-read-item-of c = omega (arith, c .before .before .before .before .before .before .before .pre .few)
 
 item-of-requires : tie.Need-item-of-requires Inv-loop μ-loop
 item-of-requires c κs = search needs
 
-after-item-requires : tie.Need-after-item-requires Inv-loop μ-loop
-after-item-requires c κs = search needs
+mul-t22 : tie.Need-mul-t22 Inv-loop μ-loop
+mul-t22 c = search needs
+
+array-read-t25 : tie.Need-array-read-t25 Inv-loop μ-loop
+array-read-t25 c = search needs
+
+after-passes-requires : tie.Need-after-passes-requires Inv-loop μ-loop
+after-passes-requires c κs = search needs
 
 add-k : tie.Need-add-k Inv-loop μ-loop
 add-k c = omega arith
@@ -64,7 +70,9 @@ items-report-spec =
     mul-item-of
     array-read-item-of
     item-of-requires
-    after-item-requires
+    mul-t22
+    array-read-t25
+    after-passes-requires
     add-k
     loop-less
     loop-again
