@@ -13,7 +13,7 @@ use Rattle.refusal.specs.declared.Refusal.the-variants.{UnsupportedVersion}
 use Rattle.book.specs.declared.item.Item.{Item}
 use Rattle.book.specs.declared.item.Item.the-variants.{Key, Call}
 use Rattle.book.specs.Reading.{got, refused, next, itemOf, le16, timesIn, checkItem, readItem, readItems, readMacro, readMacros, hasMagic, readHeader, versionIn, readAll, readIn, readBook}
-use Rattle.book.specs.Format.{SoundIn, Sound, versions, Repeated, repeated, Macro, le16Bytes, code, magic, encodeItem, encodeItems, encodeMacros, encode, soundTarget, soundItem, soundItems, soundMacro, soundMacros, wellFormed, itemFits, itemsFit, fits, width}
+use Rattle.book.specs.Format.{Encodes, SoundIn, versions, Repeated, repeated, Macro, le16Bytes, code, magic, encodeItem, encodeItems, encodeMacros, encode, soundTarget, soundItem, soundItems, soundMacro, soundMacros, wellFormed, itemFits, itemsFit, fits, width}
 use Rattle.book.specs.Offset.{size, offset, bodyPart}
 use Rattle.book.proofs.Items.{width-least, width-one, width-other}
 use Rattle.book.proofs.Readings.{more-got, same-got}
@@ -279,41 +279,33 @@ encode-read taken version known ms h f = rw (encode-version version ms) (
     let read : readMacros version 0 (length ms) (encodeMacros version ms) ≡ got ms [] = rw append-nil at (macros-read version 0 ms [] all f) in
     rw (le-leb _ _ long, number-word version, known, number-word (length ms), le-leb _ _ low, le-leb _ _ high, read))
 
--- as the operations of document 01 read it
-pub encode-book : (version : ℕ) → member version versions ≡ true → (ms : List Macro) → wellFormed ms ≡ true → fits version ms ≡ true → readBook (encode version ms) ≡ got ms []
+-- such a book is read as its macros, and gives its version
+module _ {taken b : List ℕ} {version : ℕ} {ms : List Macro} (s : Encodes taken b version ms) where
+  pub encodes-read : readIn taken b ≡ got ms []
+  encodes-read = ap (readIn taken) (s .bytes) ∙ encode-read taken version (s .known) ms (s .well) (s .written)
+
+  pub encodes-version : versionIn b ≡ version
+  encodes-version = ap versionIn (s .bytes) ∙ encode-version version ms
+
+pub encodes-book : {b : List ℕ} {version : ℕ} {ms : List Macro} → Encodes versions b version ms → readBook b ≡ got ms []
 unfolding readBook
-encode-book version known ms h f = encode-read versions version known ms h f
+encodes-book s = encodes-read s
+
+-- and only such a book is
+pub read-encodes : (taken b : List ℕ) → Bytes b → (ms : List Macro) (rest : List ℕ) → readIn taken b ≡ got ms rest → Encodes taken b (versionIn b) ms
+read-encodes taken b h ms rest e = record { known = whole taken b ms rest e .known; well = read-well taken b ms rest e; written = read-fits taken b h ms rest e; bytes = read-encode taken b h ms rest e }
 
 -- a book is sound exactly if it is the encoding of well-formed macros in its version, which is taken
-pub record Encodes (taken b : List ℕ) (ms : List Macro) : Type 0 where
-  pub known : member (versionIn b) taken ≡ true
-  pub well : wellFormed ms ≡ true
-  pub written : fits (versionIn b) ms ≡ true
-  pub bytes : b ≡ encode (versionIn b) ms
-
-pub sound-iff : (taken b : List ℕ) → Bytes b → (ms : List Macro) → (readIn taken b ≡ got ms []) ↔ Encodes taken b ms
-sound-iff taken b h ms = (
-  λ e. record { known = whole taken b ms [] e .known; well = read-well taken b ms [] e; written = read-fits taken b h ms [] e; bytes = read-encode taken b h ms [] e },
-  λ s. ap (readIn taken) (s .bytes) ∙ encode-read taken (versionIn b) (s .known) ms (s .well) (s .written),
-)
+pub sound-iff : (taken b : List ℕ) → Bytes b → (ms : List Macro) → (readIn taken b ≡ got ms []) ↔ Encodes taken b (versionIn b) ms
+sound-iff taken b h ms = (read-encodes taken b h ms [], λ s. encodes-read s)
 
 -- so the check accepts a book exactly if it is sound
 pub sound-accepted : (taken b : List ℕ) → Bytes b → SoundIn taken b ↔ ((ms : List Macro) × (readIn taken b ≡ got ms []))
-sound-accepted taken b h = (
-  λ s. (s .macros, ap (readIn taken) (s .bytes) ∙ encode-read taken (s .version) (s .known) (s .macros) (s .well) (s .written)),
-  λ (ms, e). let i = sound-iff taken b h ms .0 e in record { version = versionIn b; macros = ms; known = i .known; well = i .well; written = i .written; bytes = i .bytes },
-)
+sound-accepted taken b h = (λ (v, ms, s). (ms, encodes-read s), λ (ms, e). (versionIn b, ms, read-encodes taken b h ms [] e))
 
 -- an encoding has one reading, and one version
-pub one-reading : (v w : ℕ) (ms ns : List Macro) → wellFormed ms ≡ true → wellFormed ns ≡ true → fits v ms ≡ true → fits w ns ≡ true → encode v ms ≡ encode w ns → (v ≡ w) × (ms ≡ ns)
-one-reading v w ms ns h g f k e =
-    let version : v ≡ w = sym (encode-version v ms) ∙ ap versionIn e ∙ encode-version w ns in
-    let first : readIn (v ∷ []) (encode v ms) ≡ got ms [] = encode-read (v ∷ []) v (itself v) ms h f in
-    let second : readIn (v ∷ []) (encode w ns) ≡ got ns [] = encode-read (v ∷ []) w (ap (λ (x : ℕ). member x (v ∷ [])) (sym version) ∙ itself v) ns g k in
-    (version, same-got (sym first ∙ ap (readIn (v ∷ [])) e ∙ second) .0)
-  where
-    itself : (x : ℕ) → member x (x ∷ []) ≡ true
-    itself x = rw (eq-eqb x x refl) refl
+pub one-reading : {taken b : List ℕ} {v w : ℕ} {ms ns : List Macro} → Encodes taken b v ms → Encodes taken b w ns → (v ≡ w) × (ms ≡ ns)
+one-reading x y = (sym (encodes-version x) ∙ encodes-version y, same-got (sym (encodes-read x) ∙ encodes-read y) .0)
 
 -- Versions that are taken.
 

@@ -5,9 +5,9 @@ use native.Mathlib.Nat.{mul-le-mul-left}
 use mathlib.Core.Path.{_≡_}
 use mathlib.Core.List.{List, []}
 use lib.ListN.{length, drop, length-drop}
-use Rattle.book.specs.Format.{Macro, SoundIn, versions, encode, width}
+use Rattle.book.specs.Format.{Macro, SoundIn, versions, width}
 use Rattle.book.specs.Reading.{got, readMacro, readMacros, readIn, readBook, versionIn}
-use Rattle.book.proofs.Coding.{encode-read}
+use Rattle.book.proofs.Coding.{encodes-read}
 use Rattle.book.proofs.Items.{width-one, width-most}
 use Rattle.book.proofs.LayoutLaws.{read-with}
 use Rattle.book.proofs.Readings.{more-got}
@@ -44,4 +44,4 @@ longest-read b ms rest e = longest-in versions b ms rest (read-with b e)
 
 -- 264,199 bytes are the most that a sound book has
 pub longest : (taken b : List ℕ) → SoundIn taken b → length b ≤ 264199
-longest taken b s = rw (s .bytes) (longest-in taken (encode (s .version) (s .macros)) (s .macros) [] (encode-read taken (s .version) (s .known) (s .macros) (s .well) (s .written)))
+longest taken b (v, ms, s) = longest-in taken b ms [] (encodes-read s)

@@ -95,14 +95,15 @@ unfoldable pub fits : ℕ → List Macro → Bool
 fits version [] = true
 fits version (m ∷ ms) = itemsFit version m && fits version ms
 
--- A book in one of the versions that are taken: "it keeps all that stands above, with no other items".
-pub record SoundIn (taken b : List ℕ) : Type 0 where
-  pub version : ℕ
-  pub macros : List Macro
+-- Some bytes are a book with these macros, in one of the versions that are taken: "it keeps all that stands above, with no other items".
+pub record Encodes (taken b : List ℕ) (version : ℕ) (macros : List Macro) : Type 0 where
   pub known : member version taken ≡ true
   pub well : wellFormed macros ≡ true
   pub written : fits version macros ≡ true
   pub bytes : b ≡ encode version macros
+
+abbrev pub SoundIn : List ℕ → List ℕ → Type 0
+SoundIn taken b = (version : ℕ) × (macros : List Macro) × Encodes taken b version macros
 
 -- the versions "that counts take", and with them all operations of document 01: "Refusal 2 now means neither 1 nor 2"
 abbrev pub versions : List ℕ

@@ -12,12 +12,11 @@ use lib.ListN.{length, getD, take, drop}
 use borrow.Author.Tests.{leb-true, leb-false, lt-ltb, le-ltb}
 use Rattle.refusal.specs.declared.Refusal.{Refusal}
 use Rattle.refusal.specs.declared.Refusal.the-variants.{NoSuchMacro, InsufficientSpace, CountOverflow}
-use Rattle.runs.specs.Keys.{member}
-use Rattle.book.specs.Format.{Macro, versions, wellFormed, fits, encode}
+use Rattle.book.specs.Format.{Encodes, Macro, versions}
 use Rattle.book.specs.Expansion.{expand, unrolled, expansion}
 use Rattle.book.specs.Reach.{AlikeReached}
 use Rattle.book.specs.Reading.{Reading, got, refused, readBook, macrosIn}
-use Rattle.book.proofs.Coding.{encode-version, encode-book}
+use Rattle.book.proofs.Coding.{encodes-version, encodes-book}
 use Rattle.book.proofs.Reach.{expansion-alike}
 use Rattle.letters.specs.declared.Case.{Case}
 use Rattle.letters.specs.Letters.{SameLetters}
@@ -40,32 +39,30 @@ use Rattle.reports.specs.Reports.{report}
 use Rattle.reports.specs.Words.{behindRows, loadedAt}
 use Rattle.counter.proofs.FillLaws.{reports-at}
 
--- a sound book of version v, an accepted pattern, a macro of the book, and work space enough
-pub record Countable (c : Case) (v : ℕ) (b p work : List ℕ) (ms : List Macro) (t : Pattern) (m : ℕ) : Type 0 where
-  pub known : member v versions ≡ true
-  pub well : wellFormed ms ≡ true
-  pub written : fits v ms ≡ true
-  pub book : b ≡ encode v ms
+-- a sound book of some version, an accepted pattern, a macro of the book, and work space enough
+pub record Countable (c : Case) (b p work : List ℕ) (ms : List Macro) (t : Pattern) (m : ℕ) : Type 0 where
+  pub version : ℕ
+  pub book : Encodes versions b version ms
   pub pattern : reader.readPattern p ≡ reader.accepted t
   pub inside : m < length ms
   pub enough : needed (query c t) m ≤ length work
 
-module _ {c : Case} {v : ℕ} {b p work : List ℕ} {ms : List Macro} {t : Pattern} {m : ℕ} (a : Countable c v b p work ms t m) where
+module _ {c : Case} {b p work : List ℕ} {ms : List Macro} {t : Pattern} {m : ℕ} (a : Countable c b p work ms t m) where
   -- what is answered then
-  answer : bookResult c b p m work ≡ countOf v (query c t) ms m work
+  answer : bookResult c b p m work ≡ countOf (a .version) (query c t) ms m work
   answer =
-      rw (a .book, encode-version v ms, encode-book v (a .known) ms (a .well) (a .written), a .pattern, count-accepted, lt-ltb m (length ms) (a .inside), le-ltb (length work) (needed (query c t) m) (a .enough)) refl
+      rw (encodes-version (a .book), encodes-book (a .book), a .pattern, count-accepted, lt-ltb m (length ms) (a .inside), le-ltb (length work) (needed (query c t) m) (a .enough)) refl
 
   -- "the count given equals the number of lines of the macro's written-out run that match"
-  pub count-equals : matchingLines (query c t) ms m ≤ most → bookResult c b p m work ≡ finished (matchingLines (query c t) ms m) (stepsIn v (steps (query c t) ms m)) (filled (query c t) ms m work)
+  pub count-equals : matchingLines (query c t) ms m ≤ most → bookResult c b p m work ≡ finished (matchingLines (query c t) ms m) (stepsIn (a .version) (steps (query c t) ms m)) (filled (query c t) ms m work)
   count-equals h = answer ∙ rw (few-lines (matchingLines (query c t) ms m) h) refl
 
   -- "The steps that come with a count equal the number that document 01 defines": in version 1
-  pub steps-equal : v ≡ 1 → matchingLines (query c t) ms m ≤ most → bookResult c b p m work .steps ≡ steps (query c t) ms m
+  pub steps-equal : a .version ≡ 1 → matchingLines (query c t) ms m ≤ most → bookResult c b p m work .steps ≡ steps (query c t) ms m
   steps-equal e h = ap (λ (o : Outcome). o .steps) (count-equals h) ∙ rw e refl
 
   -- "for version 2 the answer's steps are 0"
-  pub steps-zero : v ≡ 2 → bookResult c b p m work .steps ≡ 0
+  pub steps-zero : a .version ≡ 2 → bookResult c b p m work .steps ≡ 0
   steps-zero e = ap (λ (o : Outcome). o .steps) answer ∙ rw e (go (totalOf (matchingLines (query c t) ms m)))
     where
       go : (z : Total) → finishedBy z 0 (filled (query c t) ms m work) .steps ≡ 0
@@ -89,7 +86,7 @@ module _ {c : Case} {v : ℕ} {b p work : List ℕ} {ms : List Macro} {t : Patte
       reports-at (query c t) (accepted-few p t (a .pattern)) ms (suc m) i (omega arith) (bookResult c b p m work .work) (drop (needed (query c t) m) work)
       (ap (λ (o : Outcome). o .work) answer ∙ words (totalOf (matchingLines (query c t) ms m)))
     where
-      words : (z : Total) → finishedBy z (stepsIn v (steps (query c t) ms m)) (filled (query c t) ms m work) .work ≡ filled (query c t) ms m work
+      words : (z : Total) → finishedBy z (stepsIn (a .version) (steps (query c t) ms m)) (filled (query c t) ms m work) .work ≡ filled (query c t) ms m work
       words (Total.Lines n) = refl
       words Total.TooMany = refl
 
@@ -98,22 +95,22 @@ abbrev pub SameCount : Outcome → Outcome → Type 0
 SameCount x y = (x .refusal ≡ y .refusal) × (x .lines ≡ y .lines)
 
 -- Macros with one run, in whatever books of whatever versions, give the same count under the same pattern, each with such work space, or are both refused.
-module _ {case : Case} {v u : ℕ} {b c p work space : List ℕ} {ms ns : List Macro} {t : Pattern} {m n : ℕ} (x : Countable case v b p work ms t m) (y : Countable case u c p space ns t n) where
+module _ {case : Case} {b c p work space : List ℕ} {ms ns : List Macro} {t : Pattern} {m n : ℕ} (x : Countable case b p work ms t m) (y : Countable case c p space ns t n) where
   pub same-counts : expansion ms m ≡ expansion ns n → SameCount (bookResult case b p m work) (bookResult case c p n space)
-  same-counts e = rw (answer x, answer y, e) (go (totalOf (matchingLines (query case t) ns n)) (stepsIn v (steps (query case t) ms m)) (stepsIn u (steps (query case t) ns n)) (filled (query case t) ms m work) (filled (query case t) ns n space))
+  same-counts e = rw (answer x, answer y, e) (go (totalOf (matchingLines (query case t) ns n)) (stepsIn (x .version) (steps (query case t) ms m)) (stepsIn (y .version) (steps (query case t) ns n)) (filled (query case t) ms m work) (filled (query case t) ns n space))
     where
       go : (z : Total) (k j : ℕ) (v w : List ℕ) → SameCount (finishedBy z k v) (finishedBy z j w)
       go (Total.Lines n) k j v w = (refl, refl)
       go Total.TooMany k j v w = (refl, refl)
 
 -- Under a pattern that is refused every sound book is, for the same reason.
-pub pattern-refused : (c : Case) (p : List ℕ) {r : Refusal} → reader.readPattern p ≡ reader.refused r → (v : ℕ) → member v versions ≡ true → (ms : List Macro) → wellFormed ms ≡ true → fits v ms ≡ true → (m : ℕ) (work : List ℕ) → bookResult c (encode v ms) p m work ≡ stopped r work
-pattern-refused c p {r} e v known ms well written m work = rw (encode-version v ms, encode-book v known ms well written, e) (count-refused-pattern c v m work ms [] r)
+pub pattern-refused : (c : Case) (p : List ℕ) {r : Refusal} → reader.readPattern p ≡ reader.refused r → (b : List ℕ) {v : ℕ} {ms : List Macro} → Encodes versions b v ms → (m : ℕ) (work : List ℕ) → bookResult c b p m work ≡ stopped r work
+pattern-refused c p {r} e b {v} {ms} s m work = rw (encodes-version s, encodes-book s, e) (count-refused-pattern c v m work ms [] r)
 
 -- Document 02, S-1: "both are asked with the same choice".
 -- "Two sound books alike in every macro that the one named reaches, whatever their other macros hold, give the same count for it
 -- under the same pattern, each with such work space, or are both refused." They may be of different versions (document 02, S-8).
-module _ {case : Case} {v u : ℕ} {b c p work space : List ℕ} {ms ns : List Macro} {t : Pattern} {m : ℕ} (x : Countable case v b p work ms t m) (y : Countable case u c p space ns t m) (alike : AlikeReached ms ns m) where
+module _ {case : Case} {b c p work space : List ℕ} {ms ns : List Macro} {t : Pattern} {m : ℕ} (x : Countable case b p work ms t m) (y : Countable case c p space ns t m) (alike : AlikeReached ms ns m) where
   pub alike-counts : SameCount (bookResult case b p m work) (bookResult case c p m space)
   alike-counts = same-counts x y (expansion-alike ms ns m alike)
 

@@ -20,7 +20,7 @@ use Rattle.book.specs.declared.space.Space.{Space}
 use Rattle.book.specs.Format.{Macro}
 use Rattle.book.specs.Expansion.{expansion}
 use Rattle.book.specs.Reading.{Reading, readBook, macrosIn}
-use Rattle.book.specs.Answer.{layoutFigures, layoutResult}
+use Rattle.book.specs.Answer.{layoutFigures, bookLayout}
 use Rattle.book.specs.Steps.{settled, spaceStep, InBook, settledBy}
 use Rattle.book.proofs.StepLaws.{book-refuses, book-in, space-refuses, space-settles, space-inside, space-room}
 use Rattle.depth.specs.declared.reporting.DepthReport.{DepthReport}
@@ -106,7 +106,7 @@ module _ (opening closing : ℕ) {t : Bool} (d : t ≡ eqb opening closing || (n
     apart : eqb opening closing ≡ false
     apart = neither (eqb opening closing) (noDelimiter opening || noDelimiter closing) (sym d ∙ e) .0
 
-    module _ (book : List ℕ) (l : Layout) (g : layoutFigures l ≡ layoutResult (readBook book)) (m : ℕ) (before : List ℕ) where
+    module _ (book : List ℕ) (l : Layout) (g : layoutFigures l ≡ bookLayout book) (m : ℕ) (before : List ℕ) where
       pub book-refused : {r : Refusal} → l .answer ≡ Checked.Refused r → stopped r before ≡ depthResult opening closing (readBook book) m before
       unfolding depthResult
       book-refused h = rw (allowed, book-refuses book l g h) refl

@@ -7,23 +7,23 @@ use mathlib.Core.List.{List, [], _++_, List·Memᴰ}
 use lib.ListN.{length, getD, take, drop, length-append, length-take, length-drop}
 use mir.Val.{Fits}
 use mir.Syntax.{w64}
-use Rattle.runs.specs.Kept.{firstWords, wordsOver}
+use Rattle.runs.specs.Kept.{firstWords, times, wordsOver}
 use Rattle.runs.proofs.KeptLaws.{words-none, words-length, words-at, words-stored}
 use Rattle.book.specs.declared.item.Item.{Item}
 use Rattle.book.specs.declared.item.Item.the-variants.{Key, Call}
 use Rattle.book.specs.declared.macro_items.Items.{Items}
-use Rattle.book.specs.Format.{Macro, wellFormed}
-use Rattle.book.specs.Expansion.{keysOf, expand, expansion}
+use Rattle.book.specs.Format.{Macro, repeated, wellFormed}
+use Rattle.book.specs.Expansion.{keysOf, expand, unrolled, expansion}
 use Rattle.book.specs.Reading.{itemOf, macrosIn}
 use Rattle.book.specs.MacroItems.{itemsFrom, decoded}
 use Rattle.book.proofs.MacroItems.{count-few, items-all, items-more, item-among}
 use Rattle.book.proofs.LayoutLaws.{well-in, macros-few}
-use Rattle.book.proofs.Expansion.{calls-lower, expand-none, expand-more, expansion-law}
+use Rattle.book.proofs.Expansion.{well-call, well-times, unrolled-none, expand-none, expand-more, expansion-law}
 use Rattle.depth.specs.declared.unmatched.Delimiters.{Delimiters}
 use Rattle.depth.specs.declared.unmatched.Unmatched.{Unmatched}
 use Rattle.depth.specs.Answer.{width, macroWords, filled}
-use Rattle.depth.specs.Promises.{unmatchedIn, Sized, followed, loadedAt, wordsOf, storedAt, itemUnmatched, InWords, MacroAt, BookFits}
-use Rattle.depth.proofs.UnmatchedLaws.{run-none, run-key, run-append, run-sized, run-words, run-loaded, words-wide}
+use Rattle.depth.specs.Promises.{unmatchedIn, Sized, followed, timesUnmatched, loadedAt, wordsOf, storedAt, itemUnmatched, InWords, MacroAt, BookFits}
+use Rattle.depth.proofs.UnmatchedLaws.{run-none, run-key, run-append, run-times, run-sized, run-words, run-loaded, words-wide}
 
 -- The words of macros.
 module _ (keys : Delimiters) (ms : List Macro) where
@@ -39,13 +39,13 @@ module _ (keys : Delimiters) (ms : List Macro) where
 -- The items of macro i.
 pub record ItemsSoFar (keys : Delimiters) (ms : List Macro) (items : Items) (all : Unmatched) (k : ℕ) : Type 0 where
   pub inside : k ≤ items .count
-  pub soFar : all ≡ unmatchedIn (keys .opening) (keys .closing) (expand (λ j. expansion ms j) (take k (decoded items)))
+  pub soFar : all ≡ unmatchedIn (keys .opening) (keys .closing) (expand (λ j. expansion ms j) (unrolled (take k (decoded items))))
 
 pub items-start : (keys : Delimiters) (ms : List Macro) (items : Items) → ItemsSoFar keys ms items (record { length = 0; closings = 0; openings = 0 }) 0
 items-start keys ms items =
     record {
       inside = omega arith;
-      soFar = sym (run-none (keys .opening) (keys .closing)) ∙ ap (unmatchedIn (keys .opening) (keys .closing)) (sym (expand-none (λ j. expansion ms j)));
+      soFar = sym (run-none (keys .opening) (keys .closing)) ∙ ap (unmatchedIn (keys .opening) (keys .closing)) (sym (ap (expand (λ j. expansion ms j)) unrolled-none ∙ expand-none (λ j. expansion ms j)));
     }
 
 module _ {keys : Delimiters} {b offsets : List ℕ} {i : ℕ} {work : List ℕ} (x : MacroAt keys b offsets i work) {items : Items} (e : items ≡ itemsFrom b offsets i) where
@@ -73,45 +73,59 @@ module _ {keys : Delimiters} {b offsets : List ℕ} {i : ℕ} {work : List ℕ} 
       let there = words-at (W keys ms) width (wide keys ms) i j h (x .behind) in
       run-loaded (keys .opening) (keys .closing) (expansion ms j) work (there .0) (j * width) (ap (drop (j * width)) (x .below) ∙ there .1)
 
-  ready : (item : Item) → List·Memᴰ item (getD ms i []) → InWords work item
+  ready : (item : Item) (n : ℕ) → List·Memᴰ (repeated item n) (getD ms i []) → InWords work item
   unfolding InWords
-  ready (Key k) m = tt
-  ready (Call j) m = lower-room j (calls-lower ms well m)
+  ready (Key k) n m = tt
+  ready (Call j) n m = lower-room j (well-call ms well i m)
 
-  item-run : (item : Item) → List·Memᴰ item (getD ms i []) → itemUnmatched keys work item ≡ kept keys ms (keysAt item)
+  item-run : (item : Item) (n : ℕ) → List·Memᴰ (repeated item n) (getD ms i []) → itemUnmatched keys work item ≡ kept keys ms (keysAt item)
   unfolding itemUnmatched
-  item-run (Key k) m = sym (run-key (keys .opening) (keys .closing) (x .apart) k)
-  item-run (Call j) m = lower-run j (calls-lower ms well m)
+  item-run (Key k) n m = sym (run-key (keys .opening) (keys .closing) (x .apart) k)
+  item-run (Call j) n m = lower-run j (well-call ms well i m)
 
   module _ {all : Unmatched} {k : ℕ} (s : ItemsSoFar keys ms items all k) where
     pub all-sized : Sized all
-    all-sized = rw (s .soFar) (run-sized (keys .opening) (keys .closing) (expand (λ j. expansion ms j) (take k (decoded items))))
+    all-sized = rw (s .soFar) (run-sized (keys .opening) (keys .closing) (expand (λ j. expansion ms j) (unrolled (take k (decoded items)))))
 
     module _ (h : k < items .count) {item : Item} (f : item ≡ itemOf (getD (items .codes) k 0)) where
-      among : List·Memᴰ item (getD ms i [])
+      among : List·Memᴰ (repeated item (getD (items .times) k 0)) (getD ms i [])
       among = item-among b offsets i (x .table) (x .inside) e k h f
 
       pub item-ready : InWords work item
-      item-ready = ready item among
+      item-ready = ready item (getD (items .times) k 0) among
+
+      pub item-stands : 1 ≤ getD (items .times) k 0
+      item-stands = well-times ms well i among
 
       module _ {this : Unmatched} (g : this ≡ itemUnmatched keys work item) where
         this-run : this ≡ kept keys ms (keysAt item)
-        this-run = g ∙ item-run item among
+        this-run = g ∙ item-run item (getD (items .times) k 0) among
 
         pub this-sized : Sized this
         this-sized = rw this-run (run-sized (keys .opening) (keys .closing) (keysAt item))
 
-        pub items-on : {both : Unmatched} → both ≡ followed all this → ItemsSoFar keys ms items both (k + 1)
-        items-on {both} l =
-            let w = expand (λ j. expansion ms j) (take k (decoded items)) in
-            let more : expand (λ j. expansion ms j) (take (k + 1) (decoded items)) ≡ w ++ keysAt item = ap (expand (λ j. expansion ms j)) (items-more b offsets i (x .table) (x .inside) e k h f) ∙ expand-more (λ j. expansion ms j) (take k (decoded items)) item in
-            record {
-              inside = omega arith;
-              soFar = l ∙ ap (λ (u : Unmatched). followed u this) (s .soFar) ∙ ap (followed (kept keys ms w)) this-run ∙ sym (run-append (keys .opening) (keys .closing) w (keysAt item)) ∙ ap (kept keys ms) (sym more);
-            }
+        module _ {passes : Unmatched} (p : passes ≡ timesUnmatched (getD (items .times) k 0) this) where
+          abbrev keysThere : List ℕ
+          keysThere = times (getD (items .times) k 0) (keysAt item)
+
+          passes-run : passes ≡ kept keys ms keysThere
+          passes-run = p ∙ ap (timesUnmatched (getD (items .times) k 0)) this-run ∙ run-times (keys .opening) (keys .closing) (keysAt item) (getD (items .times) k 0) item-stands
+
+          pub passes-sized : Sized passes
+          passes-sized = rw passes-run (run-sized (keys .opening) (keys .closing) keysThere)
+
+          pub items-on : {both : Unmatched} → both ≡ followed all passes → ItemsSoFar keys ms items both (k + 1)
+          items-on {both} l =
+              let done = take k (decoded items) in
+              let w = expand (λ j. expansion ms j) (unrolled done) in
+              let more : expand (λ j. expansion ms j) (unrolled (take (k + 1) (decoded items))) ≡ w ++ keysThere = ap (λ (is : Macro). expand (λ j. expansion ms j) (unrolled is)) (items-more b offsets i (x .table) (x .inside) e k h f) ∙ expand-more (λ j. expansion ms j) done (repeated item (getD (items .times) k 0)) in
+              record {
+                inside = omega arith;
+                soFar = l ∙ ap (λ (u : Unmatched). followed u passes) (s .soFar) ∙ ap (followed (kept keys ms w)) passes-run ∙ sym (run-append (keys .opening) (keys .closing) w keysThere) ∙ ap (kept keys ms) (sym more);
+              }
 
     pub items-done : items .count ≤ k → all ≡ unmatchedIn (keys .opening) (keys .closing) (expansion ms i)
-    items-done h = s .soFar ∙ ap (kept keys ms) (ap (expand (λ j. expansion ms j)) (items-all b offsets i (x .table) (x .inside) e k h) ∙ sym (expansion-law ms well i))
+    items-done h = s .soFar ∙ ap (kept keys ms) (ap (λ (is : Macro). expand (λ j. expansion ms j) (unrolled is)) (items-all b offsets i (x .table) (x .inside) e k h) ∙ sym (expansion-law ms well i))
 
 -- The words of macros 0 to m.
 

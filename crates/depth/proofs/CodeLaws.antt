@@ -1,6 +1,7 @@
 -- What the code does, place by place: the unmatched keys of one key and of two runs, and differences.
-use Prim.Native.Nat.{ℕ, suc, _+_, _-_, _*_, _<_, _≤_}
+use Prim.Native.Nat.{ℕ, suc, _+_, _-_, _*_, _/_, _<_, _≤_}
 use native.Mathlib.Omega.{arith}
+use native.Mathlib.Nat.{div-lt-iff-lt-mul, le-div-iff-mul-le, mul-le-mul, mul-le-mul-left}
 use mathlib.Core.Path.{_≡_, refl, sym, ap, subst, _∙_}
 use mathlib.Core.Bool.{cond}
 use mathlib.Core.List.{List, append-assoc}
@@ -9,7 +10,7 @@ use lib.ListN.{length, set, take, drop}
 use lib.Seq.{sets-eq}
 use lib.IntN.{ℤ, pos, negsuc, subℕ, _-ℤ_}
 use mir.Syntax.{w64}
-use mir.Val.{SFits, toZ, ofZ}
+use mir.Val.{Fits, SFits, toZ, ofZ}
 use mir.ValLaws.{toZ-pos, toZ-ofZ}
 use borrow.Author.Tests.{eq-eqb, ne-eqb}
 use Rattle.runs.proofs.Tests.{either}
@@ -18,9 +19,9 @@ use Rattle.book.specs.declared.item.Item.the-variants.{Key, Call}
 use Rattle.depth.specs.declared.unmatched.Delimiters.{Delimiters}
 use Rattle.depth.specs.declared.unmatched.Unmatched.{Unmatched}
 use Rattle.depth.specs.Answer.{longest, word, width}
-use Rattle.depth.specs.Promises.{tooLong, followed, keyUnmatched, loadedAt, wordsOf, storedAt, itemUnmatched, InWords}
+use Rattle.depth.specs.Promises.{tooLong, Sized, followed, timesUnmatched, keyUnmatched, loadedAt, wordsOf, storedAt, itemUnmatched, InWords}
 use Rattle.depth.proofs.Differences.{sub-above, sub-below}
-use Rattle.depth.proofs.UnmatchedLaws.{same-unmatched, joined-first, joined-over, joined-fits}
+use Rattle.depth.proofs.UnmatchedLaws.{same-unmatched, joined-first, joined-over, joined-fits, times-over, times-fits}
 
 -- One key.
 pub once-same : {a b : ℕ} → a ≡ b → _≡_ {A = ℕ} 1 (cond (eqb a b) 1 0)
@@ -48,6 +49,49 @@ module _ (a b : Unmatched) where
 
       pub openings-left : b .closings ≤ a .openings → record { length = a .length + b .length; closings = a .closings; openings = b .openings + (a .openings - b .closings) } ≡ followed a b
       openings-left h = same-unmatched refl (omega arith) refl ∙ joined-fits a b first fits
+
+-- A run n times.
+module _ (n : ℕ) (some : 1 ≤ n) (u : Unmatched) where
+  -- the test by a quotient says the same as the product
+  pub passes-long : {r : Unmatched} → longest / n < u .length → r ≡ tooLong → r ≡ timesUnmatched n u
+  passes-long h e = e ∙ times-over n u (div-lt-iff-lt-mul some .0 h)
+
+  module _ (h : u .length ≤ longest / n) where
+    pub passes-fit : u .length * n ≤ longest
+    passes-fit = le-div-iff-mul-le some .0 h
+
+    pub length-fits : Fits w64 (u .length * n)
+    length-fits = omega (arith, passes-fit)
+
+    module _ (sized : Sized u) where
+      -- no product is larger than the length
+      product-most : (a b : ℕ) → a ≤ u .length → (a - b) * (n - 1) ≤ longest
+      product-most a b l =
+          let low : a - b ≤ u .length = omega arith in
+          let less : n - 1 ≤ n = omega arith in
+          let most : (a - b) * (n - 1) ≤ u .length * n = mul-le-mul low less in
+          omega (arith, passes-fit)
+
+      short : u .length ≤ longest
+      short = let most : u .length * 1 ≤ u .length * n = mul-le-mul-left (u .length) some in omega (arith, passes-fit)
+
+      pub closings-fit : Fits w64 ((u .closings - u .openings) * (n - 1))
+      closings-fit = omega (arith, product-most (u .closings) (u .openings) (sized .closed))
+
+      pub closings-sum : Fits w64 (u .closings + (u .closings - u .openings) * (n - 1))
+      closings-sum = omega (arith, product-most (u .closings) (u .openings) (sized .closed), sized .closed, short)
+
+      pub openings-fit : Fits w64 ((u .openings - u .closings) * (n - 1))
+      openings-fit = omega (arith, product-most (u .openings) (u .closings) (sized .opened))
+
+      pub openings-sum : Fits w64 (u .openings + (u .openings - u .closings) * (n - 1))
+      openings-sum = omega (arith, product-most (u .openings) (u .closings) (sized .opened), sized .opened, short)
+
+      pub closings-more : u .openings < u .closings → record { length = u .length * n; closings = u .closings + (u .closings - u .openings) * (n - 1); openings = u .openings } ≡ timesUnmatched n u
+      closings-more l = let none : u .openings - u .closings ≡ 0 = omega arith in same-unmatched refl refl (rw none (omega arith)) ∙ times-fits n u passes-fit
+
+      pub openings-more : u .closings ≤ u .openings → record { length = u .length * n; closings = u .closings; openings = u .openings + (u .openings - u .closings) * (n - 1) } ≡ timesUnmatched n u
+      openings-more l = let none : u .closings - u .openings ≡ 0 = omega arith in same-unmatched refl (rw none (omega arith)) refl ∙ times-fits n u passes-fit
 
 -- Differences as whole numbers.
 module _ (a b : ℕ) (small : a ≤ longest) (low : b ≤ longest) where

@@ -4,8 +4,8 @@ use mathlib.Core.Path.{_≡_, refl}
 use mathlib.Core.List.{List, [], _∷_}
 use lib.IntN.{ℤ, pos, negsuc}
 use Rattle.book.specs.declared.item.Item.the-variants.{Key, Call}
-use Rattle.book.specs.Format.{Macro}
-use Rattle.book.specs.Expansion.{expand, expandTo, expansion}
+use Rattle.book.specs.Format.{Macro, repeated}
+use Rattle.book.specs.Expansion.{expand, unrolled, expandTo, expansion}
 use Rattle.depth.specs.Depths.{occurrences, depthAfter, lower, lowestTo, lowestDepth}
 use Rattle.depth.specs.Answer.{depthWords}
 
@@ -15,9 +15,9 @@ DepthsBy opening closing w end lowest = (depthAfter opening closing w ≡ end) �
 abbrev Depths : List ℕ → ℤ → ℤ → Type 0
 Depths w end lowest = DepthsBy 40 41 w end lowest
 
--- macro 0 is ))(, which falls to -2 and ends at -1; macro 1 is ( and macro 0 and (
+-- macro 0 is ))(, which falls to -2 and ends at -1; macro 1 is ( and macro 0 and (; macro 2 is macro 0 three times
 abbrev book : List Macro
-book = (Key 41 ∷ Key 41 ∷ Key 40 ∷ []) ∷ (Key 40 ∷ Call 0 ∷ Key 40 ∷ []) ∷ []
+book = (repeated (Key 41) 2 ∷ repeated (Key 40) 1 ∷ []) ∷ (repeated (Key 40) 1 ∷ repeated (Call 0) 1 ∷ repeated (Key 40) 1 ∷ []) ∷ (repeated (Call 0) 3 ∷ []) ∷ []
 
 pub examples :
     Depths [] (pos 0) (pos 0)
@@ -28,6 +28,7 @@ pub examples :
     × DepthsBy 13 255 (13 ∷ 10 ∷ 13 ∷ 255 ∷ []) (pos 1) (pos 0)
     × Depths (expansion book 0) (negsuc 0) (negsuc 1)
     × Depths (expansion book 1) (pos 1) (negsuc 0)
+    × Depths (expansion book 2) (negsuc 2) (negsuc 3)
     × (depthWords 40 41 (expansion book 0) ≡ 3 ∷ 18446744073709551615 ∷ 18446744073709551614 ∷ [])
-unfolding depthAfter lowestDepth lowestTo lower occurrences expansion expandTo expand depthWords
-examples = ((refl, refl), (refl, refl), (refl, refl), (refl, refl), (refl, refl), (refl, refl), (refl, refl), (refl, refl), refl)
+unfolding depthAfter lowestDepth lowestTo lower occurrences expansion expandTo expand unrolled depthWords
+examples = ((refl, refl), (refl, refl), (refl, refl), (refl, refl), (refl, refl), (refl, refl), (refl, refl), (refl, refl), (refl, refl), refl)

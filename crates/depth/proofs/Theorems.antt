@@ -19,15 +19,15 @@ use Rattle.refusal.specs.declared.Refusal.{Refusal}
 use Rattle.refusal.specs.Number.{number}
 use Rattle.refusal.specs.declared.Refusal.the-variants.{NoSuchMacro, InsufficientSpace, InvalidDelimiters, RunTooLong}
 use Rattle.refusal.proofs.Number.{number-positive}
-use Rattle.book.specs.Format.{Macro, wellFormed, encode}
+use Rattle.book.specs.Format.{Encodes, Macro, versions}
 use Rattle.book.specs.Expansion.{expansion}
 use Rattle.book.specs.Reach.{AlikeReached}
-use Rattle.book.specs.Reading.{Reading, got, refused, readBook}
+use Rattle.book.specs.Reading.{Reading, got, refused, readBook, versionIn}
 use Rattle.book.specs.Steps as steps
 use Rattle.book.proofs.StepLaws.{space-answer}
-use Rattle.book.proofs.LayoutLaws.{macros-few}
-use Rattle.book.proofs.Coding.{read-well, read-encode, encode-read}
-use Rattle.book.proofs.Refusals.{book-refusals}
+use Rattle.book.proofs.LayoutLaws.{macros-few, read-with}
+use Rattle.book.proofs.Coding.{encodes-book, read-encodes}
+use Rattle.book.proofs.Refusals.{BookNumber, book-refusals}
 use Rattle.book.proofs.Reach.{expansion-alike}
 use Rattle.depth.specs.declared.unmatched.Unmatched.{Unmatched}
 use Rattle.depth.specs.Depths.{occurrences, depthAfter, lowestDepth, Closed}
@@ -171,8 +171,8 @@ bad-keys opening closing = (λ e. told .0 (refuses _ e), λ k. rw (told .1 k) re
 -- Two keys that can open and close blocks, a sound book, a macro of it and words enough.
 pub record Askable (opening closing : ℕ) (b : List ℕ) (m : ℕ) (work : List ℕ) (ms : List Macro) : Type 0 where
   pub keys : BadKeys opening closing → ⊥
-  pub well : wellFormed ms ≡ true
-  pub book : b ≡ encode ms
+  pub version : ℕ
+  pub book : Encodes versions b version ms
   pub inside : m < length ms
   pub room : suc m * width ≤ length work
 
@@ -190,7 +190,7 @@ module _ {opening closing : ℕ} {b : List ℕ} {m : ℕ} {work : List ℕ} {ms 
       record {
         keys = ⊎-elim (λ e. absurd (x .keys (bad-keys opening closing .0 e))) (λ e. e) (delimiters-either opening closing);
         rest = [];
-        sound = ap readBook (x .book) ∙ encode-read ms (x .well);
+        sound = encodes-book (x .book);
         inside = x .inside;
         room = x .room;
       }
@@ -199,8 +199,8 @@ module _ {opening closing : ℕ} {b : List ℕ} {m : ℕ} {work : List ℕ} {ms 
   askable h x =
       record {
         keys = λ k. settled-no (sym (x .keys) ∙ bad-keys opening closing .1 k);
-        well = read-well b ms (x .rest) (x .sound);
-        book = read-encode b h ms (x .rest) (x .sound);
+        version = versionIn b;
+        book = read-encodes versions b h ms (x .rest) (read-with b (x .sound));
         inside = x .inside;
         room = x .room;
       }
@@ -307,7 +307,7 @@ depth-beyond opening closing b m n work g h = ⊎-elim (λ e. depth-no-keys open
 
 -- Which refusal is answered: one of the four kinds before 19, or what the run's length says.
 module _ (opening closing : ℕ) (b : List ℕ) (m : ℕ) (work : List ℕ) where
-  refusal-by : (P : ℕ → Type 0) → (delimiterStep opening closing ≡ steps.refused InvalidDelimiters → P 18) → ((r : Refusal) → number r ≤ 6 → P (number r)) → P 10 → (length work < mostWords → P 11)
+  refusal-by : (P : ℕ → Type 0) → (delimiterStep opening closing ≡ steps.refused InvalidDelimiters → P 18) → ((r : Refusal) → BookNumber (number r) → P (number r)) → P 10 → (length work < mostWords → P 11)
       → ((ms : List Macro) → Passed opening closing b m work ms → P (depthsOf opening closing (expansion ms m) (filled opening closing ms m work) .refusal)) → P (depthResult opening closing (readBook b) m work .refusal)
   refusal-by P keys book out short asked = ⊎-elim (λ e. rw (depth-no-keys opening closing m work (readBook b) e) (keys e)) (λ e. of e (readBook b) refl) (delimiters-either opening closing)
     where
@@ -335,7 +335,7 @@ module _ (opening closing : ℕ) (b : List ℕ) (m : ℕ) (work : List ℕ) wher
   -- 18 exactly for such keys
   pub keys-iff : (depthResult opening closing (readBook b) m work .refusal ≡ 18) ↔ BadKeys opening closing
   keys-iff = (
-    refusal-by (λ n. n ≡ 18 → BadKeys opening closing) (λ e h. bad-keys opening closing .0 e) (λ r h e. absurd (omega arith)) (λ e. absurd (omega arith)) (λ h e. absurd (omega arith)) (λ ms x. length-by (λ n. n ≡ 18 → BadKeys opening closing) (λ e. absurd (omega arith)) (λ e. absurd (omega arith)) ms),
+    refusal-by (λ n. n ≡ 18 → BadKeys opening closing) (λ e h. bad-keys opening closing .0 e) (λ r h e. ⊎-elim (λ low. absurd (omega arith)) (λ high. absurd (omega arith)) h) (λ e. absurd (omega arith)) (λ h e. absurd (omega arith)) (λ ms x. length-by (λ n. n ≡ 18 → BadKeys opening closing) (λ e. absurd (omega arith)) (λ e. absurd (omega arith)) ms),
     λ k. ap (λ (o : Outcome). o .refusal) (depth-no-keys opening closing m work (readBook b) (bad-keys opening closing .1 k)),
   )
 
@@ -347,8 +347,8 @@ module _ (opening closing : ℕ) (b : List ℕ) (m : ℕ) (work : List ℕ) wher
       (λ l. ⊎-elim (λ z. absurd (omega arith)) (λ z. absurd (omega arith)))
       (λ ms x z. (ms, askable h x))
     where
-      small : (r : Refusal) → number r ≤ 6 → (number r ≡ 0) ⊎ (number r ≡ 19) → (ms : List Macro) × Askable opening closing b m work ms
-      small r l = ⊎-elim (λ z. absurd (omega (arith, number-positive r))) (λ z. absurd (omega arith))
+      small : (r : Refusal) → BookNumber (number r) → (number r ≡ 0) ⊎ (number r ≡ 19) → (ms : List Macro) × Askable opening closing b m work ms
+      small r l = ⊎-elim (λ z. absurd (omega (arith, number-positive r))) (λ z. ⊎-elim (λ low. absurd (omega arith)) (λ high. absurd (omega arith)) l)
 
   -- so an answer of 0 and 0 that is no refusal says by itself that this is a sound book with a macro m, and that the blocks of its run are closed
   pub closed-told : Bytes b → depthResult opening closing (readBook b) m work .refusal ≡ 0 → depthResult opening closing (readBook b) m work .end ≡ pos 0 → depthResult opening closing (readBook b) m work .lowest ≡ pos 0
@@ -359,11 +359,11 @@ module _ (opening closing : ℕ) (b : List ℕ) (m : ℕ) (work : List ℕ) wher
 
 -- a refusal that an operation with words for 1,024 macros can have: 11 is none
 abbrev pub KnownRefusal : ℕ → Type 0
-KnownRefusal n = ((n ≤ 6) ⊎ (n ≡ 10)) ⊎ ((n ≡ 18) ⊎ (n ≡ 19))
+KnownRefusal n = (BookNumber n ⊎ (n ≡ 10)) ⊎ ((n ≡ 18) ⊎ (n ≡ 19))
 
 pub depth-refusals : (opening closing : ℕ) (b : List ℕ) (m : ℕ) (work : List ℕ) → mostWords ≤ length work → KnownRefusal (depthResult opening closing (readBook b) m work .refusal)
 depth-refusals opening closing b m work long =
-    refusal-by opening closing b m work KnownRefusal (λ e. inr (inl refl)) (λ r h. inl (inl h)) (inl (inr refl)) (λ h. absurd (omega arith)) (λ ms x. length-by opening closing b m work KnownRefusal (inl (inl (omega arith))) (inr (inr refl)) ms)
+    refusal-by opening closing b m work KnownRefusal (λ e. inr (inl refl)) (λ r h. inl (inl h)) (inl (inr refl)) (λ h. absurd (omega arith)) (λ ms x. length-by opening closing b m work KnownRefusal (inl (inl (inl (omega arith)))) (inr (inr refl)) ms)
 
 -- The words of a macro's depths, read as signed numbers, are the depths: `word` is how a signed number is held.
 word-bits : (z : ℤ) → word z ≡ ofZ w64 z

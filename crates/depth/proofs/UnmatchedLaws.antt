@@ -1,5 +1,5 @@
 -- Laws of what is kept of a run: it tells the depths, it is joined as runs follow each other, and it comes back from its words.
-use Prim.Native.Nat.{ℕ, suc, _+_, _-_, _^_, _<_, _≤_}
+use Prim.Native.Nat.{ℕ, zero, suc, _+_, _-_, _*_, _^_, _<_, _≤_}
 use native.Mathlib.Omega.{arith}
 use mathlib.Core.Path.{_≡_, refl, sym, ap, _∙_}
 use mathlib.Core.Bool.{Bool, true, false, cond}
@@ -10,11 +10,13 @@ use lib.Seq.{take-length, getD-drop}
 use lib.IntN.{ℤ, pos, subℕ, natAbs, _+ℤ_}
 use lib.Signed.{leZ}
 use borrow.Author.Tests.{le-leb, lt-leb, leb-true, leb-false, eqb-true, eqb-false}
-use Rattle.runs.proofs.Tests.{either}
+use Rattle.runs.proofs.Tests.{by-test, either}
 use Rattle.depth.specs.declared.unmatched.Unmatched.{Unmatched}
 use Rattle.depth.specs.Depths.{occurrences, depthAfter, lower, lowestTo, lowestDepth}
 use Rattle.depth.specs.Answer.{longest, isShort, word, depthWords}
-use Rattle.depth.specs.Promises.{closingsIn, openingsIn, counted, tooLong, unmatchedIn, Sized, matched, followed, keyUnmatched, loadedAt, wordsOf}
+use Rattle.depth.specs.Promises.{closingsIn, openingsIn, counted, tooLong, unmatchedIn, Sized, matched, followed, repeatedly, timesUnmatched, keyUnmatched, loadedAt, wordsOf}
+use Rattle.runs.specs.Kept.{times}
+use Rattle.runs.proofs.KeptLaws.{times-one, times-more as run-more}
 use Rattle.depth.proofs.Differences.{sub-above, sub-below, sub-same, sub-add, sub-le, le-out, le-refl, fallen, fall-size}
 use Rattle.depth.proofs.DepthLaws.{occurs-append, occurs-most, occurs-front, depth-none, lowest-depth, lowest-splice}
 
@@ -147,6 +149,99 @@ module _ (opening closing : ℕ) (u v : List ℕ) where
       go false t x e f g =
           rw (all-over (omega (arith, leb-false (length u) longest e)), run-long opening closing u e)
           (joined-first tooLong (unmatchedIn opening closing v) (omega arith))
+
+-- A run n times.
+
+-- what is kept of n times, by their length
+module _ (n : ℕ) (u : Unmatched) where
+  pub times-over : longest < u .length * n → tooLong ≡ timesUnmatched n u
+  unfolding timesUnmatched
+  times-over h = rw (lt-leb (u .length * n) longest h) refl
+
+  pub times-fits : u .length * n ≤ longest → repeatedly n u ≡ timesUnmatched n u
+  unfolding timesUnmatched
+  times-fits h = rw (le-leb (u .length * n) longest h) refl
+
+-- one pass before k + 1 others: the keys of either sort that stay without a partner
+more-first : (c o k : ℕ) → c + ((c + (c - o) * k) - o) ≡ c + (c - o) * (k + 1)
+more-first c o k = either o c less more
+  where
+    less : o < c → c + ((c + (c - o) * k) - o) ≡ c + (c - o) * (k + 1)
+    less h = let d = c - o in let e : c ≡ o + d = omega arith in omega arith
+
+    more : c ≤ o → c + ((c + (c - o) * k) - o) ≡ c + (c - o) * (k + 1)
+    more h = let none : c - o ≡ 0 = omega arith in rw none (omega arith)
+
+more-second : (c o k : ℕ) → (o + (o - c) * k) + (o - (c + (c - o) * k)) ≡ o + (o - c) * (k + 1)
+more-second c o k = either o c less more
+  where
+    less : o < c → (o + (o - c) * k) + (o - (c + (c - o) * k)) ≡ o + (o - c) * (k + 1)
+    less h = let none : o - c ≡ 0 = omega arith in rw none (omega arith)
+
+    more : c ≤ o → (o + (o - c) * k) + (o - (c + (c - o) * k)) ≡ o + (o - c) * (k + 1)
+    more h = let none : c - o ≡ 0 = omega arith in rw none (omega arith)
+
+-- one pass more
+module _ (u : Unmatched) (k : ℕ) where
+  times-more : u .length * (k + 1) ≤ longest → followed u (timesUnmatched (k + 1) u) ≡ timesUnmatched (k + 2) u
+  times-more h = either longest (u .length * (k + 2)) over fits
+    where
+      rest : k + 1 - 1 ≡ k
+      rest = omega arith
+
+      last : k + 2 - 1 ≡ k + 1
+      last = omega arith
+
+      first : u .length ≤ longest
+      first = omega arith
+
+      over : longest < u .length * (k + 2) → followed u (timesUnmatched (k + 1) u) ≡ timesUnmatched (k + 2) u
+      over l = ap (followed u) (sym (times-fits (k + 1) u h)) ∙ sym (joined-over u (repeatedly (k + 1) u) first (omega arith)) ∙ times-over (k + 2) u l
+
+      fits : u .length * (k + 2) ≤ longest → followed u (timesUnmatched (k + 1) u) ≡ timesUnmatched (k + 2) u
+      fits l =
+          ap (followed u) (sym (times-fits (k + 1) u h))
+          ∙ sym (joined-fits u (repeatedly (k + 1) u) first (omega arith))
+          ∙ same-unmatched (omega arith) (rw (rest, last) (more-first (u .closings) (u .openings) k)) (rw (rest, last) (more-second (u .closings) (u .openings) k))
+          ∙ times-fits (k + 2) u l
+
+  times-beyond : u .length ≤ longest → longest < u .length * (k + 1) → followed u (timesUnmatched (k + 1) u) ≡ timesUnmatched (k + 2) u
+  times-beyond first l = ap (followed u) (sym (times-over (k + 1) u l)) ∙ sym (joined-over u tooLong first (omega arith)) ∙ times-over (k + 2) u (omega arith)
+
+  times-never : longest < u .length → followed u (timesUnmatched (k + 1) u) ≡ timesUnmatched (k + 2) u
+  times-never h = sym (joined-first u (timesUnmatched (k + 1) u) h) ∙ times-over (k + 2) u (omega arith)
+
+  times-step : followed u (timesUnmatched (k + 1) u) ≡ timesUnmatched (k + 2) u
+  times-step = either longest (u .length) times-never (λ first. either longest (u .length * (k + 1)) (times-beyond first) times-more)
+
+module _ (opening closing : ℕ) (w : List ℕ) where
+  once-kept : unmatchedIn opening closing w ≡ timesUnmatched 1 (unmatchedIn opening closing w)
+  once-kept = by-test (isShort w) short long
+    where
+      short : isShort w ≡ true → unmatchedIn opening closing w ≡ timesUnmatched 1 (unmatchedIn opening closing w)
+      short e =
+          let room = leb-true (length w) longest e in
+          rw (run-short opening closing w e)
+          (same-unmatched (omega arith) (omega arith) (omega arith) ∙ times-fits 1 (counted opening closing w) (omega arith))
+
+      long : isShort w ≡ false → unmatchedIn opening closing w ≡ timesUnmatched 1 (unmatchedIn opening closing w)
+      long e = rw (run-long opening closing w e) (times-over 1 tooLong (omega arith))
+
+  passes : (k : ℕ) → unmatchedIn opening closing (times (k + 1) w) ≡ timesUnmatched (k + 1) (unmatchedIn opening closing w)
+  passes zero = ap (unmatchedIn opening closing) (times-one w) ∙ once-kept
+  passes (suc k) =
+      let e : suc k + 1 ≡ k + 1 + 1 = omega arith in
+      let f : k + 2 ≡ suc k + 1 = omega arith in
+      ap (λ (n : ℕ). unmatchedIn opening closing (times n w)) e
+      ∙ ap (unmatchedIn opening closing) (run-more (k + 1) w)
+      ∙ run-append opening closing w (times (k + 1) w)
+      ∙ ap (followed (unmatchedIn opening closing w)) (passes k)
+      ∙ times-step (unmatchedIn opening closing w) k
+      ∙ ap (λ (n : ℕ). timesUnmatched n (unmatchedIn opening closing w)) f
+
+  -- the run n times
+  pub run-times : (n : ℕ) → 1 ≤ n → timesUnmatched n (unmatchedIn opening closing w) ≡ unmatchedIn opening closing (times n w)
+  run-times n h = let e : n - 1 + 1 ≡ n = omega arith in sym (rw e at (passes (n - 1)))
 
 -- No keys, and one key.
 pub run-none : (opening closing : ℕ) → unmatchedIn opening closing [] ≡ record { length = 0; closings = 0; openings = 0 }

@@ -49,6 +49,18 @@ matched a b = record { length = a .length + b .length; closings = a .closings + 
 unfoldable pub followed : Unmatched → Unmatched → Unmatched
 followed a b = cond (leb (a .length) longest && leb (b .length) (longest - a .length)) (matched a b) tooLong
 
+-- a run n times: with each pass more the one sort becomes more by what it is over the other
+abbrev pub repeatedly : ℕ → Unmatched → Unmatched
+repeatedly n u =
+    record {
+      length = u .length * n;
+      closings = u .closings + (u .closings - u .openings) * (n - 1);
+      openings = u .openings + (u .openings - u .closings) * (n - 1);
+    }
+
+unfoldable pub timesUnmatched : ℕ → Unmatched → Unmatched
+timesUnmatched n u = cond (leb (u .length * n) longest) (repeatedly n u) tooLong
+
 -- one key
 unfoldable pub keyUnmatched : ℕ → ℕ → ℕ → Unmatched
 keyUnmatched opening closing k = record { length = 1; closings = cond (eqb k closing) 1 0; openings = cond (eqb k opening) 1 0 }

@@ -4,6 +4,7 @@ use crate::unmatched::LONGEST;
 use crate::unmatched::Unmatched;
 use crate::unmatched::joined;
 use crate::unmatched::of_key;
+use crate::unmatched::repeated;
 use crate::words::WIDTH;
 use crate::words::load;
 use crate::words::store;
@@ -66,7 +67,8 @@ fn of_macro(
     let mut k = 0;
     while k < count {
         let item = item_of(items.codes[k]);
-        all = joined(all, of_item(item, keys, work));
+        let passes = repeated(of_item(item, keys, work), items.times[k]);
+        all = joined(all, passes);
         k += 1;
     }
     all

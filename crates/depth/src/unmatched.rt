@@ -1,8 +1,9 @@
 // Openings and closings of a run that have no partner in it.
+ghost use Prim.Native.Nat.{_≤_};
 ghost use mathlib.Core.Path.{_≡_};
 ghost use mathlib.Core.Bool.{cond};
 ghost use lib.Dec.{eqb};
-ghost use Rattle.depth.specs.Promises.{Sized, followed, keyUnmatched, tooLong};
+ghost use Rattle.depth.specs.Promises.{Sized, followed, keyUnmatched, timesUnmatched, tooLong};
 
 // The key that opens a block, and the one that closes it.
 pub struct Delimiters {
@@ -74,5 +75,30 @@ pub(crate) fn joined(a: Unmatched, b: Unmatched) -> Unmatched
         length,
         closings: a.closings,
         openings: b.openings + (a.openings - b.closings),
+    }
+}
+
+// A run n times. With each pass the keys that stay without a partner become more by what one pass has of the one sort over the other.
+pub(crate) fn repeated(u: Unmatched, n: u16) -> Unmatched
+    requires { ⌜ Sized u ⌝ }
+    requires { ⌜ 1 ≤ n ⌝ }
+    ensures { λ r. ⌜ r ≡ timesUnmatched n u ⌝ }
+{
+    let passes = n as u64;
+    if LONGEST / passes < u.length {
+        return too_long();
+    }
+    let length = u.length * passes;
+    if u.openings < u.closings {
+        return Unmatched {
+            length,
+            closings: u.closings + (u.closings - u.openings) * (passes - 1),
+            openings: u.openings,
+        };
+    }
+    Unmatched {
+        length,
+        closings: u.closings,
+        openings: u.openings + (u.openings - u.closings) * (passes - 1),
     }
 }

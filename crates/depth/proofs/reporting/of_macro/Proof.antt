@@ -2,7 +2,7 @@
 use Prim.Native.Nat.{_-_}
 use native.Mathlib.Omega.{arith}
 use Rattle.book.specs.Reading.{macrosIn}
-use Rattle.depth.proofs.BookLaws.{ItemsSoFar, items-start, item-few, item-place, item-ready, all-sized, this-sized, items-on, items-done}
+use Rattle.depth.proofs.BookLaws.{ItemsSoFar, items-start, item-few, item-place, item-ready, item-stands, all-sized, this-sized, passes-sized, items-on, items-done}
 use borrow.Author.Needs.{needs}
 use Rattle.depth.proofs.reporting.of_macro.Statement.{statement}
 use Rattle.depth.proofs.reporting.of_macro.Tie as tie
@@ -31,8 +31,17 @@ item-of-requires c κs = search needs
 of-item-requires : tie.Need-of-item-requires Inv-loop μ-loop
 of-item-requires c κs = search (item-ready)
 
+mul-repeated : tie.Need-mul-repeated Inv-loop μ-loop
+mul-repeated c = search (item-place)
+
+element-copy-out-repeated : tie.Need-element-copy-out-repeated Inv-loop μ-loop
+element-copy-out-repeated c = search (item-few)
+
+repeated-requires : tie.Need-repeated-requires Inv-loop μ-loop
+repeated-requires c κs = (search (this-sized), search (item-stands))
+
 joined-requires : tie.Need-joined-requires Inv-loop μ-loop
-joined-requires c κs = (search (all-sized), search (this-sized))
+joined-requires c κs = (search (all-sized), search (passes-sized))
 
 add-k : tie.Need-add-k Inv-loop μ-loop
 add-k c = omega arith
@@ -58,6 +67,9 @@ of-macro-spec =
     element-copy-out-item-of
     item-of-requires
     of-item-requires
+    mul-repeated
+    element-copy-out-repeated
+    repeated-requires
     joined-requires
     add-k
     loop-less
