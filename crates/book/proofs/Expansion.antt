@@ -18,6 +18,7 @@ use Rattle.runs.specs.Keys.{isKey, isRun}
 use Rattle.runs.specs.Kept.{times}
 use Rattle.runs.proofs.Tests.{and-parts}
 use Rattle.runs.proofs.KeyLaws.{run-keys}
+use Rattle.runs.proofs.KeptLaws.{times-one}
 
 -- what a sound macro has: an item, and sound items
 macro-parts : (n : ℕ) (m : Macro) → soundMacro n m ≡ true → (1 ≤ length m) × (soundItems n m ≡ true)
@@ -202,6 +203,18 @@ expand-more called is i =
     ap (expand called) (unrolled-more is i)
     ∙ expand-append called (unrolled is) (replicate (i .times) (i .item))
     ∙ ap (λ (l : List ℕ). expand called (unrolled is) ++ l) (expand-times called (i .times) (i .item))
+
+-- what a macro's items write: an item's keys as often as it stands there, and then the others'
+pub expand-cons : (called : ℕ → List ℕ) (i : Repeated) (is : Macro) → expand called (unrolled (i ∷ is)) ≡ times (i .times) (keysOf called (i .item)) ++ expand called (unrolled is)
+unfolding unrolled
+expand-cons called i is = expand-append called (replicate (i .times) (i .item)) (unrolled is) ∙ ap (λ (l : List ℕ). l ++ expand called (unrolled is)) (expand-times called (i .times) (i .item))
+
+pub expand-both : (called : ℕ → List ℕ) (is js : Macro) → expand called (unrolled (is ++ js)) ≡ expand called (unrolled is) ++ expand called (unrolled js)
+expand-both called is js = ap (expand called) (unrolled-append is js) ∙ expand-append called (unrolled is) (unrolled js)
+
+-- of an item that stands there once its keys
+pub expand-single : (called : ℕ → List ℕ) (i : Item) → expand called (unrolled (repeated i 1 ∷ [])) ≡ keysOf called i
+expand-single called i = ap (expand called) (unrolled-one (repeated i 1)) ∙ expand-times called 1 i ∙ times-one (keysOf called i)
 
 -- something is written if there is an item, and each called run is not empty
 expand-nonempty : (f : ℕ → List ℕ) (is : List Item) → 1 ≤ length is → ((j : ℕ) → List·Memᴰ (Call j) is → 0 < length (f j)) → 0 < length (expand f is)

@@ -4,9 +4,9 @@ use native.Mathlib.Nat.{add-zero, add-suc, suc-add, zero-add}
 use native.Mathlib.Omega.{arith}
 use mathlib.Core.Path.{_≡_, refl, ap}
 use mathlib.Core.Logic.{_↔_, ⊎-elim}
-use mathlib.Core.Bool.{true, _&&_}
+use mathlib.Core.Bool.{Bool, true, false, _&&_, cond}
 use mathlib.Core.List.{List, [], _∷_, List·Memᴰ, List·Memᴰ·head, List·Memᴰ·tail, List·Memᴰ·not-nil, List·Memᴰ·cases-cons}
-use lib.Dec.{leb}
+use lib.Dec.{leb, eqb}
 use lib.ListN.{length, getD}
 use borrow.Author.Tests.{leb-true, lt-ltb, le-leb, eqb-true, eq-eqb}
 use Rattle.book.specs.declared.item.Item.{Item}
@@ -109,6 +109,20 @@ fits-iff version (x ∷ ms) = (
     at : itemsFit version x ≡ true → ((m : ℕ) (i : Repeated) → List·Memᴰ i (getD ms m []) → itemFits version i ≡ true) → (m : ℕ) (i : Repeated) → List·Memᴰ i (getD (x ∷ ms) m []) → itemFits version i ≡ true
     at one others zero = items-fit version x .0 one
     at one others (suc m) = others m
+
+-- it rests on the repeat count alone
+pub fits-alike : (version : ℕ) (i k : Repeated) → i .times ≡ k .times → itemFits version i ≡ itemFits version k
+unfolding itemFits
+fits-alike version i k e = rw e refl
+
+-- an item that stands there once can be written in each version
+pub once-fits : (version : ℕ) (x : Item) → itemFits version (repeated x 1) ≡ true
+unfolding itemFits
+once-fits version x = go (eqb version 1)
+  where
+    go : (t : Bool) → cond t true true ≡ true
+    go true = refl
+    go false = refl
 
 -- "a version 1 item stands once"
 pub fits-once : (i : Repeated) → (itemFits 1 i ≡ true) ↔ (i .times ≡ 1)

@@ -6,8 +6,8 @@ use mathlib.Core.List.{List, [], _∷_}
 use Rattle.stateset.specs.Set.{anyBelow}
 use Rattle.runs.specs.Counts.{countBelow, sumBelow}
 use Rattle.book.specs.declared.item.Item.the-variants.{Key, Call}
-use Rattle.book.specs.Format.{Macro}
-use Rattle.book.specs.Expansion.{expand, expandTo, expansion}
+use Rattle.book.specs.Format.{Macro, repeated}
+use Rattle.book.specs.Expansion.{expand, unrolled, expandTo, expansion}
 use Rattle.brackets.specs.Sets.{named, setOf}
 use Rattle.letters.specs.declared.Case.the-variants.{Sensitive}
 use Rattle.letters.specs.Letters.{folded, otherCase}
@@ -25,13 +25,13 @@ use Rattle.regrouping.specs.Regrouping.{raised, regroup}
 
 -- macro 0 is `a`, 1 is `b` LF, 2 calls 1 and 0, has `b`, and calls 1; 3 calls 0, 2 and 1
 abbrev pub book : List Macro
-book = (Key 97 ∷ []) ∷ (Key 98 ∷ Key 10 ∷ []) ∷ (Call 1 ∷ Call 0 ∷ Key 98 ∷ Call 1 ∷ []) ∷ (Call 0 ∷ Call 2 ∷ Call 1 ∷ []) ∷ []
+book = (repeated (Key 97) 1 ∷ []) ∷ (repeated (Key 98) 1 ∷ repeated (Key 10) 1 ∷ []) ∷ (repeated (Call 1) 1 ∷ repeated (Call 0) 1 ∷ repeated (Key 98) 1 ∷ repeated (Call 1) 1 ∷ []) ∷ (repeated (Call 0) 1 ∷ repeated (Call 2) 1 ∷ repeated (Call 1) 1 ∷ []) ∷ []
 
 -- of macro 2 the call of 0 and `b` become macro 1
 abbrev pub regroupedBook : List Macro
-regroupedBook = (Key 97 ∷ []) ∷ (Call 0 ∷ Key 98 ∷ []) ∷ (Key 98 ∷ Key 10 ∷ []) ∷ (Call 2 ∷ Call 1 ∷ Call 2 ∷ []) ∷ (Call 0 ∷ Call 3 ∷ Call 2 ∷ []) ∷ []
+regroupedBook = (repeated (Key 97) 1 ∷ []) ∷ (repeated (Call 0) 1 ∷ repeated (Key 98) 1 ∷ []) ∷ (repeated (Key 98) 1 ∷ repeated (Key 10) 1 ∷ []) ∷ (repeated (Call 2) 1 ∷ repeated (Call 1) 1 ∷ repeated (Call 2) 1 ∷ []) ∷ (repeated (Call 0) 1 ∷ repeated (Call 3) 1 ∷ repeated (Call 2) 1 ∷ []) ∷ []
 
-pub example-regrouped : regroup book 2 1 (Call 1 ∷ []) (Call 0 ∷ Key 98 ∷ []) (Call 1 ∷ []) ≡ regroupedBook
+pub example-regrouped : regroup book 2 1 (repeated (Call 1) 1 ∷ []) (repeated (Call 0) 1 ∷ repeated (Key 98) 1 ∷ []) (repeated (Call 1) 1 ∷ []) ≡ regroupedBook
 unfolding regroup raised
 example-regrouped = refl
 
@@ -42,5 +42,5 @@ stepsUnder (refused r) ms m = 0
 
 -- under `ab` macro 2 has 26, and as macro 3 of the regrouped book 34
 pub example-steps : (stepsUnder (readPattern (97 ∷ 98 ∷ [])) book 2 ≡ 26) × (stepsUnder (readPattern (97 ∷ 98 ∷ [])) regroupedBook 3 ≡ 34)
-unfolding atoms atomCount readAtom readRepeat readExpr readBranch readBranches readPattern named setOf folded otherCase expand expandTo expansion firstPart laterParts lastPart sumBelow pairs itemSteps steps anyBelow countBelow nothing first last follow someBranch positions.holds enters target move leads xor
+unfolding atoms atomCount readAtom readRepeat readExpr readBranch readBranches readPattern named setOf folded otherCase expand unrolled expandTo expansion firstPart laterParts lastPart sumBelow pairs itemSteps steps anyBelow countBelow nothing first last follow someBranch positions.holds enters target move leads xor
 example-steps = (refl, refl)

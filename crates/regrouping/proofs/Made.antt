@@ -8,7 +8,6 @@ use lib.Seq.{length-take-le, getD-at, getD-append-add, getD-set-same, getD-set-o
 use lib.Dec.{eqb}
 use borrow.Author.Tests.{eqb-true, eqb-false}
 use Rattle.runs.proofs.Tests.{by-test, either}
-use Rattle.book.specs.declared.item.Item.{Item}
 use Rattle.book.specs.Format.{Macro}
 use Rattle.regrouping.specs.Regrouping.{raised, raisedItems, calling, Regrouped, inserted, regroup}
 use Rattle.regrouping.proofs.Raising.{raised-low, raised-high}
@@ -34,7 +33,7 @@ module _ (j : ℕ) (new : Macro) (l : List Macro) (room : j ≤ length l) where
       rw (raised-high j i h, place) (getD-append-add (take j l) (new ∷ drop j l) (suc (i - j)) [] ∙ getD-drop j l (i - j) [] ∙ rw back refl))
 
 -- The book that `regroup` makes is regrouped,
-pub regroup-is : (ms : List Macro) (m j : ℕ) (xs ys zs : List Item) → m < length ms → getD ms m [] ≡ xs ++ (ys ++ zs) → j ≤ m → Regrouped ms (regroup ms m j xs ys zs) m j xs ys zs
+pub regroup-is : (ms : List Macro) (m j : ℕ) (xs ys zs : Macro) → m < length ms → getD ms m [] ≡ xs ++ (ys ++ zs) → j ≤ m → Regrouped ms (regroup ms m j xs ys zs) m j xs ys zs
 unfolding regroup
 regroup-is ms m j xs ys zs h e low =
     record {
@@ -57,7 +56,7 @@ regroup-is ms m j xs ys zs h e low =
     room = omega (arith, long)
 
 -- and there is no other.
-module _ {ms ns : List Macro} {m j : ℕ} {xs ys zs : List Item} (r : Regrouped ms ns m j xs ys zs) where
+module _ {ms ns : List Macro} {m j : ℕ} {xs ys zs : Macro} (r : Regrouped ms ns m j xs ys zs) where
   -- what holds of j, of m + 1 and of every other macro's number holds of all numbers
   pub by-number : (P : ℕ → Type 0) → P j → P (suc m) → ((i : ℕ) → i < length ms → (i ≡ m → ⊥) → P (raised j i)) → (k : ℕ) → k < length ns → P k
   by-number P new caller other k l =
