@@ -17,7 +17,7 @@ use Rattle.book.specs.Format.{Macro}
 use Rattle.book.specs.Reading.{Reading, got, refused, readBook}
 use Rattle.book.specs.Answer.{checkedFigures, checkResult}
 use Rattle.book.specs.declared.layout.Checked.{Checked}
-use Rattle.book.proofs.Offsets.{whole}
+use Rattle.book.proofs.LayoutLaws.{whole-book}
 use Rattle.counter.specs.Counting.{Outcome, stopped, bookResult, mostWords}
 use Rattle.counter.specs.Answers.{outcome}
 use Rattle.counter.specs.declared.counting.BookCount.{BookCount}
@@ -33,7 +33,7 @@ module _ (b : List ℕ) {r : Checked} (e : checkedFigures r ≡ checkResult (rea
       go : (g : Reading (List Macro)) → readBook b ≡ g → checkedFigures (Checked.Sound n) ≡ checkResult g → (1 ≤ n) × (n - 1 ≡ lastMacro g)
       go (got ms rest) d h =
           let same : n ≡ length ms = ap (λ (x : Figures ℕ). x .value) h in
-          (omega (arith, whole b ms rest d .some), rw same refl)
+          (omega (arith, whole-book b ms rest d .some), rw same refl)
       go (refused q) d h = absurd (omega (arith, number-positive q, ap (λ (x : Figures ℕ). x .refusal) h))
 
   pub some-macro : {n : ℕ} → r ≡ Checked.Sound n → 1 ≤ n

@@ -8,8 +8,9 @@ use lib.Dec.{eqb}
 use lib.ListN.{replicate}
 use Rattle.refusal.specs.Figures.{Figures, answered, refusedFor}
 use Rattle.stateset.specs.Set.{anyBelow}
-use Rattle.book.specs.Reading.{readItem, readItems, readMacro, readMacros, readHeader, readAll, readBook}
-use Rattle.book.specs.Expansion.{expand, expandTo, expansion}
+use Rattle.book.specs.Reading.{timesIn, readItem, readItems, readMacro, readMacros, readHeader, versionIn, readAll, readIn, readBook}
+use Rattle.book.specs.Format.{width}
+use Rattle.book.specs.Expansion.{expand, unrolled, expandTo, expansion}
 use Rattle.brackets.specs.Form.{classNames}
 use Rattle.brackets.specs.Sets.{classRanges, inRanges, inElement, inElements, named, setOf}
 use Rattle.letters.specs.declared.Case.{Case}
@@ -23,7 +24,7 @@ use Rattle.pattern.specs.Reader.{Read, accepted, refused, readRepeat, readExpr,
 use Rattle.brackets.specs.Brackets.{sameBytes, findClass, readElement, readElements, readBracket, readAtom}
 use Rattle.lines.specs.Lines.{trimmed, lines, countIn, matching}
 use Rattle.book.specs.Steps.{spaceStep}
-use Rattle.counter.specs.Counting.{Outcome, itemSteps, steps, countResult}
+use Rattle.counter.specs.Counting.{Outcome, itemSteps, steps, countResult, bookResult}
 use Rattle.spans.specs.Pairs.{pairs}
 use Rattle.lines.specs.Answers.{lineOf, runOf, lineResult, runResult}
 use Rattle.command.specs.Input.{patternEnd, lastResult, programResult, programAnswer}
@@ -62,7 +63,7 @@ pub answerTo : Question → Figures ℕ
 answerTo (reads p) = readFigures (readPattern p)
 answerTo (tests c p w) = lineResult c (readPattern p) w
 answerTo (counts c p w) = runResult c (readPattern p) w
-answerTo (countsBook c p b m) = figuresOf (countResult c (readBook b) (readPattern p) m work)
+answerTo (countsBook c p b m) = figuresOf (bookResult c b p m work)
 answerTo (program w) = record { refusal = programAnswer w .refusal; value = programAnswer w .lines }
 answerTo (programSteps w) = answered (programAnswer w .steps)
 
@@ -78,6 +79,14 @@ row q r v = record { asked = q; refusal = r; value = v }
 -- "For `B`, LF and the book (hex) 4D 42 4B 01 00 02 00 02 00 42 00 0A 00 03 00 00 01 43 00 00 01"
 abbrev pub example : List ℕ
 example = 66 ∷ 10 ∷ 0x4D ∷ 0x42 ∷ 0x4B ∷ 1 ∷ 0 ∷ 2 ∷ 0 ∷ 2 ∷ 0 ∷ 0x42 ∷ 0 ∷ 0x0A ∷ 0 ∷ 3 ∷ 0 ∷ 0 ∷ 1 ∷ 0x43 ∷ 0 ∷ 0 ∷ 1 ∷ []
+
+-- a book of a version and so many macros, and the bytes of the macros
+abbrev pub bookOf : ℕ → ℕ → List ℕ → List ℕ
+bookOf version count macros = 0x4D ∷ 0x42 ∷ 0x4B ∷ version ∷ 0 ∷ count ∷ 0 ∷ macros
+
+-- version 2: macro 0 is `a` LF, and macro 1 calls it so often as two bytes say
+abbrev pub chase : ℕ → ℕ → List ℕ
+chase low high = bookOf 2 2 (2 ∷ 0 ∷ 97 ∷ 0 ∷ 1 ∷ 0 ∷ 10 ∷ 0 ∷ 1 ∷ 0 ∷ 1 ∷ 0 ∷ 0 ∷ 1 ∷ low ∷ high ∷ [])
 
 pub table : List Row
 table =
@@ -132,6 +141,25 @@ table =
     ∷ row (countsBook Sensitive (97 ∷ 36 ∷ []) (0x4D ∷ 0x42 ∷ 0x4B ∷ 1 ∷ 0 ∷ 4 ∷ 0 ∷ 1 ∷ 0 ∷ 13 ∷ 0 ∷ 2 ∷ 0 ∷ 97 ∷ 0 ∷ 0 ∷ 1 ∷ 1 ∷ 0 ∷ 10 ∷ 0 ∷ 2 ∷ 0 ∷ 1 ∷ 1 ∷ 2 ∷ 1 ∷ []) 3) 0 1
     -- `GO$` finds it
     ∷ row (counts Sensitive (71 ∷ 79 ∷ 36 ∷ []) (71 ∷ 79 ∷ 13 ∷ 10 ∷ [])) 0 1
+    -- document 01's "Version 2 with an empty pattern: 2" "moves to version 3" (document 02, S-8); in version 2 it is 7
+    ∷ row (countsBook Sensitive [] (bookOf 3 1 (1 ∷ 0 ∷ 97 ∷ 0 ∷ 1 ∷ 0 ∷ [])) 0) 2 0
+    ∷ row (countsBook Sensitive [] (bookOf 2 1 (1 ∷ 0 ∷ 97 ∷ 0 ∷ 1 ∷ 0 ∷ [])) 0) 7 0
+    -- S-8: "Chases are one macro called 400 times": `a` on `a` LF 400 times
+    ∷ row (countsBook Sensitive (97 ∷ []) (chase 144 1) 1) 0 400
+    -- "The run has the item that many times": `ba` matches across the seam of two passes of `a` `b`, and not where there is one
+    ∷ row (countsBook Sensitive (98 ∷ 97 ∷ []) (bookOf 2 2 (2 ∷ 0 ∷ 97 ∷ 0 ∷ 1 ∷ 0 ∷ 98 ∷ 0 ∷ 1 ∷ 0 ∷ 1 ∷ 0 ∷ 0 ∷ 1 ∷ 2 ∷ 0 ∷ [])) 1) 0 1
+    ∷ row (countsBook Sensitive (98 ∷ 97 ∷ []) (bookOf 2 2 (2 ∷ 0 ∷ 97 ∷ 0 ∷ 1 ∷ 0 ∷ 98 ∷ 0 ∷ 1 ∷ 0 ∷ 1 ∷ 0 ∷ 0 ∷ 1 ∷ 1 ∷ 0 ∷ [])) 1) 0 0
+    -- a pass that begins with LF and ends in CR, three times: `^$` counts three lines, as the last CR is a key
+    ∷ row (countsBook Sensitive (94 ∷ 36 ∷ []) (bookOf 2 2 (2 ∷ 0 ∷ 10 ∷ 0 ∷ 1 ∷ 0 ∷ 13 ∷ 0 ∷ 1 ∷ 0 ∷ 1 ∷ 0 ∷ 0 ∷ 1 ∷ 3 ∷ 0 ∷ [])) 1) 0 3
+    -- "for version 2 the answer's steps are 0"
+    ∷ row (programSteps (97 ∷ 10 ∷ chase 2 0)) 0 0
+    ∷ row (program (97 ∷ 10 ∷ chase 2 0)) 0 2
+    -- "20 a repeat count of 0, tested after 5 and 6 for the same item"
+    ∷ row (countsBook Sensitive (97 ∷ []) (chase 0 0) 1) 20 0
+    ∷ row (countsBook Sensitive (97 ∷ []) (bookOf 2 1 (1 ∷ 0 ∷ 0 ∷ 0 ∷ 0 ∷ 0 ∷ [])) 0) 5 0
+    ∷ row (countsBook Sensitive (97 ∷ []) (bookOf 2 1 (1 ∷ 0 ∷ 0 ∷ 1 ∷ 0 ∷ 0 ∷ [])) 0) 6 0
+    -- "an item with fewer than its four bytes left is 4, before all three"
+    ∷ row (countsBook Sensitive (97 ∷ []) (bookOf 2 1 (1 ∷ 0 ∷ 0 ∷ 0 ∷ 0 ∷ [])) 0) 4 0
     ∷ []
 
 -- The test of a row, and of them all.
@@ -144,10 +172,10 @@ allHold (r ∷ rs) = holds r && allHold rs
 
 -- every row is as the papers say
 pub paper-runs : allHold table ≡ true
-unfolding table allHold answerTo classNames atoms atomCount sameBytes findClass readElement readElements readBracket readAtom readRepeat readExpr readBranch readBranches readPattern classRanges inRanges inElement inElements named setOf folded otherCase repeated takes matchesFrom someMatches matches trimmed lines countIn matching readItem readItems readMacro readMacros readHeader readAll readBook expand expandTo expansion lineOf runOf lineResult runResult spaceStep countResult firstPart laterParts lastPart sumBelow pairs itemSteps steps anyBelow countBelow nothing first last follow someBranch positions.holds enters target move leads patternEnd lastResult programResult programAnswer xor
+unfolding table allHold answerTo classNames atoms atomCount sameBytes findClass readElement readElements readBracket readAtom readRepeat readExpr readBranch readBranches readPattern classRanges inRanges inElement inElements named setOf folded otherCase repeated takes matchesFrom someMatches matches trimmed lines countIn matching readItem readItems readMacro readMacros readHeader versionIn readAll readIn readBook timesIn width expand unrolled expandTo expansion lineOf runOf lineResult runResult spaceStep countResult firstPart laterParts lastPart sumBelow pairs itemSteps steps anyBelow countBelow nothing first last follow someBranch positions.holds enters target move leads patternEnd lastResult programResult programAnswer xor
 paper-runs = refl
 
 -- the program's example, whole
 pub example-told : programAnswer example ≡ record { refusal = 0; lines = 2; steps = 17 }
-unfolding classNames atoms atomCount sameBytes findClass readElement readElements readBracket readAtom readRepeat readExpr readBranch readBranches readPattern classRanges inRanges inElement inElements named setOf folded otherCase repeated takes matchesFrom someMatches matches trimmed lines countIn matching readItem readItems readMacro readMacros readHeader readAll readBook expand expandTo expansion lineOf runOf lineResult runResult spaceStep countResult firstPart laterParts lastPart sumBelow pairs itemSteps steps anyBelow countBelow nothing first last follow someBranch positions.holds enters target move leads patternEnd lastResult programResult programAnswer xor
+unfolding classNames atoms atomCount sameBytes findClass readElement readElements readBracket readAtom readRepeat readExpr readBranch readBranches readPattern classRanges inRanges inElement inElements named setOf folded otherCase repeated takes matchesFrom someMatches matches trimmed lines countIn matching readItem readItems readMacro readMacros readHeader versionIn readAll readIn readBook timesIn width expand unrolled expandTo expansion lineOf runOf lineResult runResult spaceStep countResult firstPart laterParts lastPart sumBelow pairs itemSteps steps anyBelow countBelow nothing first last follow someBranch positions.holds enters target move leads patternEnd lastResult programResult programAnswer xor
 example-told = refl

@@ -10,7 +10,7 @@ use lib.Seq.{take-all, length-take-le}
 use borrow.Author.Tests.{leb-true, leb-false}
 use Rattle.letters.specs.declared.Case.{Case}
 use Rattle.command.specs.declared.buffer.PatternInput.{PatternInput}
-use Rattle.book.proofs.Prefix.{book-prefix}
+use Rattle.book.proofs.Prefix.{version-prefix, book-prefix}
 use Rattle.pattern.proofs.Accepts.{pattern-prefix}
 use Rattle.counter.specs.declared.counting.BookCount.{BookCount}
 use Rattle.command.specs.declared.counts.NamedCount.{NamedCount}
@@ -50,17 +50,17 @@ input-prefix n w work h = go (leb (length w) n) refl
         let short : length (take n w) ≡ n = length-take-le n w (omega arith) in
         sym (answer-long (take n w) work (omega arith)) ∙ answer-long w work (omega arith)
 
--- the count of a macro and of the last one: the book's first 133,128 bytes and the pattern's first 129
+-- the count of a macro and of the last one: the book's first 264,200 bytes and the pattern's first 129
 module _ (c : Case) (b p : List ℕ) where
-  pub last-prefix : lastAnswer c (take 133128 b) (take 129 p) ≡ lastAnswer c b p
+  pub last-prefix : lastAnswer c (take 264200 b) (take 129 p) ≡ lastAnswer c b p
   unfolding lastAnswer lastResult
-  last-prefix = rw (book-prefix 133128 b (omega arith), pattern-prefix 129 p (omega arith)) refl
+  last-prefix = rw (version-prefix 264200 b (omega arith), book-prefix 264200 b (omega arith), pattern-prefix 129 p (omega arith)) refl
 
-  pub macro-prefix : (m : ℕ) → macroAnswer c (take 133128 b) (take 129 p) m ≡ macroAnswer c b p m
+  pub macro-prefix : (m : ℕ) → macroAnswer c (take 264200 b) (take 129 p) m ≡ macroAnswer c b p m
   unfolding macroAnswer
-  macro-prefix m = rw (book-prefix 133128 b (omega arith), pattern-prefix 129 p (omega arith)) refl
+  macro-prefix m = rw (version-prefix 264200 b (omega arith), book-prefix 264200 b (omega arith), pattern-prefix 129 p (omega arith)) refl
 
-  pub named-prefix : (text : List ℕ) → namedAnswer c (take 133128 b) (take 129 p) text ≡ namedAnswer c b p text
+  pub named-prefix : (text : List ℕ) → namedAnswer c (take 264200 b) (take 129 p) text ≡ namedAnswer c b p text
   unfolding namedAnswer
   named-prefix text = rw (macro-prefix (decimal text)) refl
 
@@ -73,7 +73,7 @@ pub answers-read : (input part : List ℕ) (n : ℕ) (r : BookCount) → length 
 unfolding ProgramAnswers
 answers-read input part n r long is e w read = rw (e, is, read, long) (program-prefix w)
 
-module _ (book bytes : List ℕ) (n : ℕ) (pattern text : List ℕ) (a : PatternInput) (long : length book ≡ 133128) (wide : length pattern ≡ 129) (is : bytes ≡ take n book) (same : text ≡ take (a .bytes) pattern) where
+module _ (book bytes : List ℕ) (n : ℕ) (pattern text : List ℕ) (a : PatternInput) (long : length book ≡ 264200) (wide : length pattern ≡ 129) (is : bytes ≡ take n book) (same : text ≡ take (a .bytes) pattern) where
   pub last-read : (r : BookCount) → toldBy r ≡ lastAnswer (a .case) bytes text → LastAnswers book n pattern a r
   unfolding LastAnswers
   last-read r e b p f g = rw (e, is, same, f, g, long, wide) (last-prefix (a .case) b p)

@@ -8,8 +8,7 @@ use Rattle.refusal.specs.declared.Refusal.the-variants.{InputTooLong}
 use Rattle.letters.specs.declared.Case.{Case}
 use Rattle.book.specs.Format.{Macro}
 use Rattle.book.specs.Reading.{Reading, got, refused, readBook}
-use Rattle.pattern.specs.Reader.{readPattern}
-use Rattle.counter.specs.Counting.{Outcome, stopped, countResult, mostWords}
+use Rattle.counter.specs.Counting.{Outcome, stopped, bookResult, mostWords}
 use Rattle.counter.specs.Answers.{outcome}
 use Rattle.counter.specs.declared.counting.BookCount.{BookCount}
 use Rattle.runs.specs.Keys.{lineEnd}
@@ -33,7 +32,7 @@ lastMacro (refused r) = 0
 
 -- the count of the last macro
 unfoldable pub lastResult : Case → List ℕ → List ℕ → List ℕ → Outcome
-lastResult c book pattern work = countResult c (readBook book) (readPattern pattern) (lastMacro (readBook book)) work
+lastResult c book pattern work = bookResult c book pattern (lastMacro (readBook book)) work
 
 -- 14: "program only, over 8,192 bytes", which "comes before all". The program has no choice of case.
 unfoldable pub programResult : List ℕ → List ℕ → Outcome
@@ -59,7 +58,7 @@ programAnswer w = told (programResult w (replicate 4096 0))
 
 -- the command for people, with case ignored or not, and 38 words for each of 1,024 macros
 unfoldable pub macroAnswer : Case → List ℕ → List ℕ → ℕ → Told
-macroAnswer c book pattern m = told (countResult c (readBook book) (readPattern pattern) m (replicate mostWords 0))
+macroAnswer c book pattern m = told (bookResult c book pattern m (replicate mostWords 0))
 
 unfoldable pub lastAnswer : Case → List ℕ → List ℕ → Told
 lastAnswer c book pattern = told (lastResult c book pattern (replicate mostWords 0))

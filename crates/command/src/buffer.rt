@@ -3,9 +3,9 @@ use letters::Case;
 ghost use mathlib.Core.Path.{_≡_};
 ghost use lib.ListN.{take};
 
-// The bytes of a book that are read: one more than the longest sound book has, 7 and 1,024 macros of 64 items, 130 bytes each. A book of
-// any length is answered by these.
-pub const BOOK_READ: usize = 133127 + 1;
+// The bytes of a book that are read: one more than the longest sound book has, in version 2, 7 and 1,024 macros of 64 items, 258 bytes
+// each. A book of any length is answered by these.
+pub const BOOK_READ: usize = 264199 + 1;
 
 // The bytes of a pattern that are read: one more than the longest pattern has.
 pub const PATTERN_READ: usize = 128 + 1;
