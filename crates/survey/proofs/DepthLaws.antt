@@ -79,7 +79,7 @@ answers-beyond : (keys : Delimiters) (b : List ℕ) (m n : ℕ) → 1024 ≤ m �
 unfolding depthAnswer
 answers-beyond keys b m n g h = ap toldOf (depth-beyond (keys .opening) (keys .closing) b m n (replicate mostWords 0) g h)
 
-module _ (book bytes : List ℕ) (n : ℕ) (long : length book ≡ 133128) (is : bytes ≡ take n book) (keys : Delimiters) where
+module _ (book bytes : List ℕ) (n : ℕ) (long : length book ≡ 264200) (is : bytes ≡ take n book) (keys : Delimiters) where
   answer-whole : (b : List ℕ) → ReadFrom book n b → (m : ℕ) → depthAnswer keys bytes m ≡ depthAnswer keys b m
   unfolding depthAnswer
   answer-whole b e m = ap (λ (g : Reading (List Macro)). toldOf (depthResult (keys .opening) (keys .closing) g m (replicate mostWords 0))) (whole-read book bytes n long is b e)

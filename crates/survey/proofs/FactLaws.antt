@@ -2,6 +2,7 @@
 use Prim.Native.Nat.{ℕ, _+_, _*_, _<_, _≤_}
 use native.Mathlib.Omega.{arith}
 use mathlib.Core.Path.{_≡_, refl, sym, ap, _∙_}
+use mathlib.Core.Logic.{inl}
 use mathlib.Core.List.{List, []}
 use mir.Val.{Fits}
 use mir.Syntax.{w16, w64}
@@ -13,14 +14,14 @@ use Rattle.runs.proofs.CountLaws.{sum-none, sum-more, sum-ext}
 use Rattle.book.specs.Format.{Macro}
 use Rattle.book.specs.MacroItems.{itemsFrom}
 use Rattle.book.specs.Reading.{Reading, got, refused, readBook, versionIn, macrosIn}
-use Rattle.book.specs.Answer.{layoutFigures, layoutResult, layout}
+use Rattle.book.specs.Answer.{layoutFigures, bookLayout, layout}
 use Rattle.book.specs.declared.layout.Checked.{Checked}
 use Rattle.book.specs.declared.layout.Layout.{Layout}
 use Rattle.book.specs.declared.macro_items.Items.{Items}
 use Rattle.book.proofs.LayoutLaws.{layout-figures, layout-refused, layout-sound, layout-count}
-use Rattle.book.proofs.MacroItems.{items-sound, items-few, items-wide, decoded-length}
+use Rattle.book.proofs.MacroItems.{items-sound, items-few, decoded-length}
 use Rattle.book.proofs.Prefix.{book-prefix}
-use Rattle.book.proofs.Refusals.{book-refusals}
+use Rattle.book.proofs.Refusals.{BookNumber, book-refusals}
 use Rattle.book.proofs.Sizes.{longest-read}
 use Rattle.command.specs.Buffers.{ReadFrom}
 use Rattle.survey.specs.declared.facts.Surveyed.{Surveyed}
@@ -61,12 +62,10 @@ unfolding itemCount
 items-counted b = sum-ext (length (macrosIn b)) (λ i. itemsFrom b (layout b .offsets) i .count) (λ i. length (getD (macrosIn b) i [])) each
   where
     each : (i : ℕ) → i < length (macrosIn b) → itemsFrom b (layout b .offsets) i .count ≡ length (getD (macrosIn b) i [])
-    each i h =
-        let wide : itemsFrom b (layout b .offsets) i .count ≤ length (itemsFrom b (layout b .offsets) i .codes) = rw (items-wide b (layout b .offsets) i) (items-few b (layout b .offsets) i) in
-        sym (decoded-length (itemsFrom b (layout b .offsets) i) wide) ∙ ap length (items-sound b i h)
+    each i h = sym (decoded-length (itemsFrom b (layout b .offsets) i)) ∙ ap length (items-sound b i h)
 
 -- What is answered, by the layout.
-module _ (b : List ℕ) (l : Layout) (figures : layoutFigures l ≡ layoutResult (readBook b)) where
+module _ (b : List ℕ) (l : Layout) (figures : layoutFigures l ≡ bookLayout b) where
   e : l ≡ layout b
   e = layout-figures b figures
 
@@ -83,16 +82,16 @@ module _ (b : List ℕ) (l : Layout) (figures : layoutFigures l ≡ layoutResult
       let counted : sumBelow n (λ i. itemsFrom b (l .offsets) i .count) ≡ itemCount (macrosIn b) = rw (many, table) (items-counted b) in
       rw (layout-sound b e f, v, i ∙ counted, s, many) refl
 
--- A book of any length is said to hold what its first 133,128 bytes hold.
-pub survey-prefix : (b : List ℕ) → surveyResult (take 133128 b) ≡ surveyResult b
+-- A book of any length is said to hold what its first 264,200 bytes hold.
+pub survey-prefix : (b : List ℕ) → surveyResult (take 264200 b) ≡ surveyResult b
 unfolding surveyResult
-survey-prefix b = rw (book-prefix 133128 b (omega arith)) (go (readBook b) refl)
+survey-prefix b = rw (book-prefix 264200 b (omega arith)) (go (readBook b) refl)
   where
-    go : (g : Reading (List Macro)) → readBook b ≡ g → surveyFor (take 133128 b) g ≡ surveyFor b g
-    go (got ms rest) e = let short : length b ≤ 133128 = omega (arith, longest-read b ms rest e) in rw (take-all 133128 b short) refl
+    go : (g : Reading (List Macro)) → readBook b ≡ g → surveyFor (take 264200 b) g ≡ surveyFor b g
+    go (got ms rest) e = let short : length b ≤ 264200 = omega (arith, longest-read b ms rest e) in rw (take-all 264200 b short) refl
     go (refused r) e = refl
 
-pub survey-read : (book bytes : List ℕ) (n : ℕ) (r : Surveyed) → length book ≡ 133128 → bytes ≡ take n book → surveyFigures r ≡ surveyResult bytes → Surveys book n r
+pub survey-read : (book bytes : List ℕ) (n : ℕ) (r : Surveyed) → length book ≡ 264200 → bytes ≡ take n book → surveyFigures r ≡ surveyResult bytes → Surveys book n r
 unfolding Surveys
 survey-read book bytes n r long is e b f = rw (e, is, f, long) (survey-prefix b)
 
@@ -101,11 +100,11 @@ pub survey-answers : (book : List ℕ) (n : ℕ) (r : Surveyed) → Surveys book
 unfolding Surveys
 survey-answers book n r a = a
 
--- What the command is refused for where it says what a book holds: 1 to 6.
-pub survey-refusals : (b : List ℕ) → surveyResult b .refusal ≤ 6
+-- What the command is refused for where it says what a book holds: 1 to 6 and 20.
+pub survey-refusals : (b : List ℕ) → BookNumber (surveyResult b .refusal)
 unfolding surveyResult
 survey-refusals b = go (readBook b) refl
   where
-    go : (g : Reading (List Macro)) → readBook b ≡ g → surveyFor b g .refusal ≤ 6
-    go (got ms rest) e = omega arith
+    go : (g : Reading (List Macro)) → readBook b ≡ g → BookNumber (surveyFor b g .refusal)
+    go (got ms rest) e = inl (omega arith)
     go (refused r) e = book-refusals b r e

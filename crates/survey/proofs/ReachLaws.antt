@@ -8,6 +8,7 @@ use Rattle.refusal.specs.Figures.{Figures}
 use Rattle.book.specs.Reading.{readBook}
 use Rattle.reach.specs.declared.listing.Reached.{Reached}
 use Rattle.reach.specs.Answer.{reachedFigures}
+use Rattle.book.proofs.Refusals.{BookNumber}
 use Rattle.reach.proofs.AnswerLaws.{entries-alike, reached-beyond, reached-refusals}
 use Rattle.decimals.specs.declared.number.Number.{Number}
 use Rattle.decimals.specs.Decimals.{decimal, numberIn}
@@ -19,7 +20,7 @@ use Rattle.survey.specs.declared.reached.NamedReach.{NamedReach}
 use Rattle.survey.proofs.ReadWhole.{whole-read}
 use Rattle.survey.specs.Reached.{ReachedIn, LastReached, NamedReached}
 
-module _ (book bytes : List ℕ) (n : ℕ) (long : length book ≡ 133128) (is : bytes ≡ take n book) where
+module _ (book bytes : List ℕ) (n : ℕ) (long : length book ≡ 264200) (is : bytes ≡ take n book) where
   reached-whole : (b : List ℕ) → ReadFrom book n b → (m : ℕ) (f : Figures ℕ) (before after : List ℕ) → ReachedIn bytes m f before after → ReachedIn b m f before after
   reached-whole b e m f before after w = rw (entries-alike m (length before) bytes b (whole-read book bytes n long is b e)) at w
 
@@ -45,10 +46,10 @@ nothing-reached book n text e list f b g = (number-none text e f, refl)
 
 -- What the command is refused for: 1 to 6, and 10. With 1,024 entries 11 is never answered.
 module _ (book : List ℕ) (n : ℕ) (before after : List ℕ) (long : length before ≡ 1024) where
-  pub reach-last-refusals : (f : Figures ℕ) → LastReached book n f before after → (f .refusal ≤ 6) ⊎ (f .refusal ≡ 10)
+  pub reach-last-refusals : (f : Figures ℕ) → LastReached book n f before after → BookNumber (f .refusal) ⊎ (f .refusal ≡ 10)
   unfolding LastReached
   reach-last-refusals f w = reached-refusals (take n book) before after (lastMacro (readBook (take n book))) f long (w (take n book) (read-itself book n))
 
-  pub reach-named-refusals : (text : List ℕ) (r : Reached) → NamedReached book n text (NamedReach.Reach r) before after → (reachedFigures r .refusal ≤ 6) ⊎ (reachedFigures r .refusal ≡ 10)
+  pub reach-named-refusals : (text : List ℕ) (r : Reached) → NamedReached book n text (NamedReach.Reach r) before after → BookNumber (reachedFigures r .refusal) ⊎ (reachedFigures r .refusal ≡ 10)
   unfolding NamedReached
   reach-named-refusals text r w = reached-refusals (take n book) before after (decimal text) (reachedFigures r) long (w (take n book) (read-itself book n) .1)
