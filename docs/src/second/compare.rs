@@ -1,7 +1,11 @@
 //! Compares the programs under test with this one; the first difference ends everything.
 
+use crate::command;
+use crate::command_repeats::{check_runs, count_runs, depth_runs, reach_runs};
 use crate::tally::Tally;
-use crate::{compare_cases, compare_check, compare_count, compare_cuecount, compare_regroup};
+use crate::{
+    compare_cases, compare_check, compare_count, compare_cuecount, compare_regroup, compare_repeats,
+};
 use crate::{compare_depth, compare_patterns, compare_reach, compare_triples, compare_usage};
 use std::process::exit;
 
@@ -31,7 +35,11 @@ fn compare_all(
     done("streams of cases", compare_cases::compare(cases, seed, count)?);
     done("triples of reports", compare_triples::compare(cases, seed, count)?);
     done("regroupings of books", compare_regroup::compare(cases, seed, count)?);
+    done("regroupings of version 2 books", compare_regroup::compare_repeated(cases, seed, count)?);
     done("regroupings that are refused", compare_regroup::compare_refused(cases, seed, count)?);
+    done("version 2 books", compare_repeats::compare(cases, seed, count)?);
+    done("largest version 2 books", compare_repeats::compare_largest(cases, seed)?);
+    done("forms of books", compare_repeats::compare_forms(cases, seed, count)?);
     if !patterns.is_empty() {
         done("patterns of the file", compare_patterns::compare(cases, seed, patterns)?);
     }
@@ -40,6 +48,22 @@ fn compare_all(
     done("runs of check", compare_check::compare(command, seed)?);
     done("runs of reach", compare_reach::compare(command, seed)?);
     done("runs of depth", compare_depth::compare(command, seed)?);
+    done(
+        "runs of count, version 2",
+        command::compare(command, &count_runs(seed), compare_count::own_answer)?,
+    );
+    done(
+        "runs of check, version 2",
+        command::compare(command, &check_runs(seed), compare_check::own_answer)?,
+    );
+    done(
+        "runs of reach, version 2",
+        command::compare(command, &reach_runs(seed), compare_reach::own_answer)?,
+    );
+    done(
+        "runs of depth, version 2",
+        command::compare(command, &depth_runs(seed), compare_depth::own_answer)?,
+    );
     done("runs with no answer", compare_usage::compare(command)?);
     Ok(passed)
 }

@@ -51,7 +51,7 @@ fn stated_runs() -> Vec<Run> {
         stated(&write(&example()), "sound version 1 macros 2 items 5 bytes 21"),
         stated(&write(&tower()), "sound version 1 macros 64 items 191 bytes 517"),
         stated(b"", "refused 1"),
-        stated(b"MBK\x02\0\0\0", "refused 2"),
+        stated(b"MBK\x03\0\0\0", "refused 2"),
         stated(b"MBK\x01\0\0\0", "refused 3"),
         stated(&write(&[vec![97; 65]]), "refused 4"),
         stated(&write(&[vec![0]]), "refused 5"),

@@ -32,7 +32,7 @@ pub fn compare(program: &str, seed: u64) -> Result<Tally, String> {
     }
     // A byte 0 cannot stand in an argument.
     starts.retain(|start| !start.pattern.iter().any(|(_, pattern)| pattern.contains(&0)));
-    vary(&mut starts);
+    vary(starts.iter_mut());
     let mut runs: Vec<Run> = starts.into_iter().map(|start| (start, None)).collect();
     runs.extend(count_edges::runs(seed));
     runs.extend(count_letters::runs(seed));
@@ -57,8 +57,8 @@ fn start(question: Question, book: Vec<u8>, asked: Option<String>) -> Start {
 }
 
 /// Gives some runs another form of the pattern, another way of the book, or leading zeros.
-fn vary(starts: &mut [Start]) {
-    for (place, start) in starts.iter_mut().enumerate() {
+pub fn vary<'a>(starts: impl Iterator<Item = &'a mut Start>) {
+    for (place, start) in starts.enumerate() {
         start.way = Way::in_turn(place);
         if let Some((form, pattern)) = &mut start.pattern {
             *form = in_turn(place, letters(form), pattern);

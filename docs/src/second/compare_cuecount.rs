@@ -2,6 +2,7 @@
 
 use crate::case::Case;
 use crate::child;
+use crate::cuecount_repeats;
 use crate::describe::{hex_of_long, pattern_lines};
 use crate::fixed;
 use crate::fixed_books::example;
@@ -27,6 +28,7 @@ pub fn compare(program: &str, seed: u64) -> Result<Tally, String> {
     for number in 0..SEEDED {
         inputs.push((seeded_input(&mut Rng::for_case(seed ^ 0xC0DE, number)), None));
     }
+    inputs.extend(cuecount_repeats::inputs(seed));
     let mut rng = Rng::new(seed);
     for (input, stated) in inputs {
         compare_one(program, &input, stated, &mut rng, &mut tally)?;
@@ -75,7 +77,7 @@ fn difference(input: &[u8], kind: &str, own: &str, other: &str) -> String {
     )
 }
 
-fn input(pattern: &[u8], book: &[u8]) -> Vec<u8> {
+pub fn input(pattern: &[u8], book: &[u8]) -> Vec<u8> {
     [pattern, b"\n", book].concat()
 }
 

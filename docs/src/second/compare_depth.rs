@@ -91,8 +91,8 @@ fn refused_runs() -> Vec<Run> {
         run([b"(", b"("], sound, Some("99"), Some("refused 18")),
     ];
     let damaged: [(Vec<u8>, &str); 6] = [
-        (b"MBK\x02\0\0".to_vec(), "refused 1"),
-        (b"MBK\x02\0\0\0".to_vec(), "refused 2"),
+        (b"MBK\x03\0\0".to_vec(), "refused 1"),
+        (b"MBK\x03\0\0\0".to_vec(), "refused 2"),
         (b"MBK\x01\0\0\0".to_vec(), "refused 3"),
         (write(&[vec![40; 65]]), "refused 4"),
         (write(&[vec![0]]), "refused 5"),

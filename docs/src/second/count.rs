@@ -1,7 +1,7 @@
 //! The count over a book: reports of macros 0 to m, the steps, and the matching lines of macro m.
 //! Each run is written out as long as the limit allows; only beyond it the second method is used.
 
-use crate::book::Book;
+use crate::book::{Book, PLAIN_VERSION};
 use crate::meaning::Tester;
 use crate::report::Report;
 use crate::states::States;
@@ -11,17 +11,21 @@ use crate::written::{self, Runs};
 
 /// So many keys are written out for one count at most.
 const LIMIT: u64 = 2_000_000;
+/// The same for a book of version 2, whose long runs are mostly the same keys again.
+const REPEATED_LIMIT: u64 = 300_000;
 
 #[derive(Debug, PartialEq)]
 pub struct Counted {
     pub reports: Vec<Report>,
+    /// 0 for a book of version 2.
     pub steps: u64,
     /// Nothing if over 2^64 - 1.
     pub lines: Option<u64>,
 }
 
 pub fn count(book: &Book, pattern: &Pattern, last: usize) -> Counted {
-    count_within(book, pattern, last, LIMIT)
+    let limit = if book.version() == PLAIN_VERSION { LIMIT } else { REPEATED_LIMIT };
+    count_within(book, pattern, last, limit)
 }
 
 /// The same with another limit, for the self test.
@@ -38,7 +42,9 @@ pub fn count_within(book: &Book, pattern: &Pattern, last: usize, limit: u64) -> 
         if number == last {
             counted.lines = Some(tester.count(run));
         }
-        counted.steps += written::steps(&runs, &states, number);
+        if book.version() == PLAIN_VERSION {
+            counted.steps += written::steps(&runs, &states, number);
+        }
     }
     check_lines(&counted, &states);
     if !chosen[last] {
@@ -72,7 +78,7 @@ fn by_summaries_if_needed(book: &Book, states: &States, chosen: &[bool]) -> Coun
     for (number, summary) in summaries(book, states, chosen.len() - 1).iter().enumerate() {
         if !chosen[number] {
             counted.reports[number] = summary.report(states);
-            counted.steps += summary.steps;
+            counted.steps += if book.version() == PLAIN_VERSION { summary.steps } else { 0 };
         }
     }
     counted

@@ -19,6 +19,12 @@ use crate::fixed_reach::reaches;
 use crate::fixed_reach_large::large_reaches;
 use crate::fixed_reach_refused::refused_reaches;
 use crate::fixed_reach_wide::wide_reaches;
+use crate::fixed_repeats;
+use crate::fixed_repeats_depth;
+use crate::fixed_repeats_ends::ends as ends_of_passes;
+use crate::fixed_repeats_huge::huge;
+use crate::fixed_repeats_reach::reaches_and_bodies;
+use crate::fixed_repeats_refused::refused;
 use crate::fixed_returns::returns;
 use crate::fixed_returns_books::{returns_in_books, returns_in_words};
 use crate::fixed_returns_cuts::cuts;
@@ -88,6 +94,12 @@ pub fn of_reach_lists() -> Vec<Fixed> {
 
 pub fn of_depths() -> Vec<Fixed> {
     [depths(), deep_depths(), long_depths(), long_sums(), refused_depths()].concat()
+}
+
+/// Those about repeat counts, of all kinds, but for the largest books.
+pub fn of_repeats() -> Vec<Fixed> {
+    let counts = [fixed_repeats::counts(), ends_of_passes(), huge()];
+    [counts.concat(), refused(), reaches_and_bodies(), fixed_repeats_depth::depths()].concat()
 }
 
 fn of_document_01() -> Vec<Fixed> {

@@ -121,7 +121,7 @@ fn orders() -> Vec<Fixed> {
     ];
     for (at, byte, stated) in [
         (0, b'm', "refused 1"),
-        (3, 2, "refused 2"),
+        (3, 3, "refused 2"),
         (5, 0, "refused 3"),
         (7, 0, "refused 4"),
         (9, 0, "refused 5"),

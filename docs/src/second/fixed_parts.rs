@@ -28,10 +28,10 @@ fn heads() -> Vec<Fixed> {
     vec![
         sound(b"", "refused 1"),
         sound(b"MBK", "refused 1"),
-        sound(b"MBK\x02\0\0", "refused 1"),
+        sound(b"MBK\x03\0\0", "refused 1"),
         sound(b"MBL\x01\0\x01\0\x01\0a\0", "refused 1"),
         sound(b"mbk\x01\0\x01\0\x01\0a\0", "refused 1"),
-        sound(b"MBK\x02\0\0\0", "refused 2"),
+        sound(b"MBK\x03\0\0\0", "refused 2"),
         sound(b"MBK\0\0\x01\0\x01\0a\0", "refused 2"),
         sound(b"MBK\x01\x01\x01\0\x01\0a\0", "refused 2"),
         sound(b"MBK\x01\0\0\0", "refused 3"),

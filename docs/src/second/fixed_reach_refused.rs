@@ -36,10 +36,10 @@ fn with(changes: &[(usize, &[u8])]) -> Vec<u8> {
 fn heads() -> Vec<Fixed> {
     [
         whoever_asks(b"", 1),
-        whoever_asks(b"MBK\x02\0\0", 1),
+        whoever_asks(b"MBK\x03\0\0", 1),
         whoever_asks(&with(&[(0, b"m")]), 1),
-        whoever_asks(&with(&[(2, b"k\x02\0\0\0")]), 1),
-        whoever_asks(&with(&[(3, b"\x02")]), 2),
+        whoever_asks(&with(&[(2, b"k\x03\0\0\0")]), 1),
+        whoever_asks(&with(&[(3, b"\x03")]), 2),
         whoever_asks(&with(&[(3, b"\0\0\0\0\0")]), 2),
         whoever_asks(&with(&[(4, b"\x01")]), 2),
         whoever_asks(&with(&[(5, b"\0")]), 3),

@@ -1,4 +1,4 @@
-//! A second program for document 01, and S-1, S-2, S-4, S-5, S-6 and S-7 of document 02, written apart from the
+//! A second program for document 01, and S-1, S-2, S-4, S-5, S-6, S-7 and S-8 of document 02, written apart from the
 //! first, to test it with. It works everything out by the definitions and prefers plainness to speed.
 
 mod answer;
@@ -13,6 +13,7 @@ mod classes;
 mod command;
 mod command_form;
 mod command_key;
+mod command_repeats;
 mod compare;
 mod compare_cases;
 mod compare_check;
@@ -23,11 +24,13 @@ mod compare_depth_words;
 mod compare_patterns;
 mod compare_reach;
 mod compare_regroup;
+mod compare_repeats;
 mod compare_triples;
 mod compare_usage;
 mod count;
 mod count_edges;
 mod count_letters;
+mod cuecount_repeats;
 mod depth;
 mod depth_figures;
 mod depth_paired;
@@ -43,6 +46,7 @@ mod fixed_depth_long;
 mod fixed_depth_refused;
 mod fixed_depth_sums;
 mod fixed_ends;
+mod fixed_forms;
 mod fixed_fronts;
 mod fixed_letters;
 mod fixed_letters_books;
@@ -55,6 +59,14 @@ mod fixed_reach_wide;
 mod fixed_regroup;
 mod fixed_regroup_large;
 mod fixed_regroup_refused;
+mod fixed_regroup_repeated;
+mod fixed_repeats;
+mod fixed_repeats_depth;
+mod fixed_repeats_ends;
+mod fixed_repeats_huge;
+mod fixed_repeats_large;
+mod fixed_repeats_reach;
+mod fixed_repeats_refused;
 mod fixed_returns;
 mod fixed_returns_books;
 mod fixed_returns_cuts;
@@ -68,6 +80,7 @@ mod fixed_triple_rows;
 mod fixed_triple_runs;
 mod fixed_whole;
 mod form;
+mod forms;
 mod group;
 mod hash;
 mod join;
@@ -83,6 +96,7 @@ mod make_deep;
 mod make_depth;
 mod make_depth_long;
 mod make_ends;
+mod make_forms;
 mod make_large;
 mod make_letters;
 mod make_line;
@@ -91,6 +105,11 @@ mod make_pattern;
 mod make_question;
 mod make_reach;
 mod make_regroup;
+mod make_repeats;
+mod make_repeats_book;
+mod make_repeats_damage;
+mod make_repeats_deep;
+mod make_repeats_large;
 mod make_report;
 mod make_returns;
 mod make_rows;
@@ -107,6 +126,7 @@ mod question;
 mod reach;
 mod refusal;
 mod regroup;
+mod repeats;
 mod report;
 mod rng;
 mod scan;
@@ -117,6 +137,7 @@ mod selftest_depth;
 mod selftest_depth_made;
 mod selftest_depth_told;
 mod selftest_depth_wrong;
+mod selftest_forms;
 mod selftest_letters;
 mod selftest_patterns;
 mod selftest_reach;
@@ -125,6 +146,12 @@ mod selftest_reach_wrong;
 mod selftest_regroup;
 mod selftest_regroup_made;
 mod selftest_regroup_wrong;
+mod selftest_repeats;
+mod selftest_repeats_edges;
+mod selftest_repeats_joined;
+mod selftest_repeats_made;
+mod selftest_repeats_read;
+mod selftest_repeats_wrong;
 mod selftest_returns;
 mod selftest_returns_made;
 mod selftest_triple;
@@ -147,6 +174,7 @@ const USAGE: &str = "second answer < cases > answers
 second make SEED COUNT > cases
 second depths SEED COUNT > cases
 second triples SEED COUNT > cases
+second repeats SEED COUNT > cases
 second compare CASES CUECOUNT RAKVINJE SEED N [PATTERNS]
 second selftest";
 
@@ -158,6 +186,7 @@ fn main() {
         ["make", seed, count] => make_stream(seed, count),
         ["depths", seed, count] => depths_stream(seed, count),
         ["triples", seed, count] => triples_stream(seed, count),
+        ["repeats", seed, count] => repeats_stream(seed, count),
         ["compare", cases, cuecount, command, seed, cases_wanted] => {
             compare_programs([cases, cuecount, command], seed, cases_wanted, None)
         }
@@ -204,6 +233,12 @@ fn depths_stream(seed: &str, count: &str) -> Result<(), String> {
 fn triples_stream(seed: &str, count: &str) -> Result<(), String> {
     let triples = compare_triples::triples(number(seed)?, number(count)?);
     print_cases(triples.flat_map(|triple| triple.cases()).map(|(_, case)| case))
+}
+
+/// The fixed ones but the largest, and behind them the seeded ones.
+fn repeats_stream(seed: &str, count: &str) -> Result<(), String> {
+    let seeded = make_repeats::cases(number(seed)?, number(count)?);
+    print_cases(fixed::of_repeats().into_iter().map(|fixed| fixed.case).chain(seeded))
 }
 
 fn print_cases(cases: impl Iterator<Item = case::Case>) -> Result<(), String> {

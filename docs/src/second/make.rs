@@ -115,7 +115,7 @@ pub fn number_near(rng: &mut Rng, count: usize) -> usize {
 }
 
 /// Exactly as many words as needed, one less, more, or none.
-fn words_near(rng: &mut Rng, number: usize, question: &Question) -> usize {
+pub fn words_near(rng: &mut Rng, number: usize, question: &Question) -> usize {
     let atoms = question.read().map_or(1, |tree| tree.atoms());
     let needed = words_needed(number.min(1023), atoms);
     let words = match rng.below(20) {

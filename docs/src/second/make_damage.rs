@@ -16,7 +16,7 @@ fn damage_once(rng: &mut Rng, bytes: &mut Vec<u8>) {
     }
     match rng.below(12) {
         0 => bytes[rng.below(3)] ^= 1 << rng.below(8),
-        1 => put(bytes, 3, rng.pick(&[0, 2, 256, 257, 65535])),
+        1 => put(bytes, 3, rng.pick(&[0, 3, 256, 257, 65535])),
         2 => put(bytes, 5, rng.pick(&[0, 1, 1024, 1025, 65535, 256])),
         3 => shift(rng, bytes, 5),
         4 => bytes.truncate(rng.below(length)),

@@ -48,7 +48,7 @@ fn add_short_end(rng: &mut Rng, question: &Question, macros: &mut Macros) {
 }
 
 /// A line that matches, and one that does not if such a line is met.
-fn two_lines(rng: &mut Rng, question: &Question) -> (Vec<u8>, Vec<u8>) {
+pub fn two_lines(rng: &mut Rng, question: &Question) -> (Vec<u8>, Vec<u8>) {
     let (mut good, mut bad) = (vec![b'a'], Vec::new());
     for _ in 0..20 {
         let line = make_line::line(rng, question);
@@ -62,7 +62,7 @@ fn two_lines(rng: &mut Rng, question: &Question) -> (Vec<u8>, Vec<u8>) {
 }
 
 /// The matching line once, with an end, cut within it, or with its CR at the end and an LF at the front.
-fn one_line(rng: &mut Rng, good: &[u8]) -> Macros {
+pub fn one_line(rng: &mut Rng, good: &[u8]) -> Macros {
     match rng.below(6) {
         0 => vec![keys(&[good, b"\r"].concat()), keys(b"\n"), vec![call(0), call(1)]],
         1 if !good.is_empty() => vec![keys(good), keys(b"\r"), keys(b"\n"), vec![call(0), call(1), call(2)]],

@@ -46,8 +46,7 @@ pub fn cases(seed: u64, count: u64) -> impl Iterator<Item = Case> {
 }
 
 pub fn case(rng: &mut Rng) -> Case {
-    let (opening, closing) = rng.pick(&PAIRS);
-    let keys = Keys { opening, closing };
+    let keys = some_pair(rng);
     let macros = macros(rng, keys);
     let number = match rng.below(10) {
         0..=1 => rng.below(macros.len()),
@@ -56,6 +55,11 @@ pub fn case(rng: &mut Rng) -> Case {
     let words = words_near(rng, number);
     let book = book(rng, &macros);
     Case::Depth { number, words, keys: asked_keys(rng, keys), book }
+}
+
+pub fn some_pair(rng: &mut Rng) -> Keys {
+    let (opening, closing) = rng.pick(&PAIRS);
+    Keys { opening, closing }
 }
 
 /// Mostly sound.
@@ -83,12 +87,14 @@ pub fn macros(rng: &mut Rng, keys: Keys) -> Macros {
             wrapped(rng, keys, count)
         }
         54..=109 => make_depth_long::macros(rng, keys),
-        _ => {
-            let (count, items) = (rng.between(1, 12), rng.between(1, 8));
-            let percent = rng.pick(&[30, 50, 80]);
-            grown(rng, keys, count, items, percent)
-        }
+        _ => small(rng, keys),
     }
+}
+
+pub fn small(rng: &mut Rng, keys: Keys) -> Macros {
+    let (count, items) = (rng.between(1, 12), rng.between(1, 8));
+    let percent = rng.pick(&[30, 50, 80]);
+    grown(rng, keys, count, items, percent)
 }
 
 /// Up to so many items a macro; `percent` of them call any lower macro.
@@ -148,7 +154,7 @@ fn key(rng: &mut Rng, keys: Keys, lean: Lean, front: bool) -> u16 {
 }
 
 /// Mostly those that stand in the book, sometimes the other way round or others, sometimes refused ones.
-fn asked_keys(rng: &mut Rng, keys: Keys) -> Keys {
+pub fn asked_keys(rng: &mut Rng, keys: Keys) -> Keys {
     let Keys { opening, closing } = keys;
     let (opening, closing) = match rng.below(100) {
         0..=1 => (opening, opening),
@@ -164,7 +170,7 @@ fn asked_keys(rng: &mut Rng, keys: Keys) -> Keys {
 }
 
 /// Exactly as many words as needed, one less, more, or none.
-fn words_near(rng: &mut Rng, number: usize) -> usize {
+pub fn words_near(rng: &mut Rng, number: usize) -> usize {
     let needed = WORDS_A_MACRO * (number.min(MOST_MACROS - 1) + 1);
     let words = match rng.below(20) {
         0..=9 => needed,

@@ -36,7 +36,7 @@ pub fn more_long_books(sound: &[u8]) -> Vec<Refused> {
         (filled(&with(sound, last_item, &own), MILLION, 0), FORWARD_CALL),
         (one_item_more, BROKEN_BODY),
         (one_macro_more, MACRO_COUNT),
-        (filled(&with(sound, 3, &[2, 0]), MILLION, 0), STRANGE_VERSION),
+        (filled(&with(sound, 3, &[3, 0]), MILLION, 0), STRANGE_VERSION),
         (vec![0; 1 << 20], NO_BOOK),
     ]
 }

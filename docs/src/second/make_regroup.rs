@@ -8,12 +8,18 @@ use crate::make::macros_for;
 use crate::make_book::{call, some_keys, write, Macros};
 use crate::make_deep::{chain, full};
 use crate::make_question::{question, some_letters, sound_question};
+use crate::make_repeats_book::for_question;
 use crate::question::Question;
-use crate::regroup::{lowest, regrouped, Cut, Regrouping};
+use crate::regroup::{lowest, regrouped, Cut, Entry, Regrouping};
 use crate::rng::Rng;
 
 pub fn regroupings(seed: u64, count: u64) -> impl Iterator<Item = Regrouping> {
     (0..count).map(move |number| regrouping(&mut Rng::for_case(seed ^ 0x2E62, number)))
+}
+
+/// So many of version 2 books.
+pub fn repeated_ones(seed: u64, count: u64) -> impl Iterator<Item = Regrouping<(u16, u16)>> {
+    (0..count).map(move |number| repeated(&mut Rng::for_case(seed ^ 0x2E64, number)))
 }
 
 /// So many that break one condition, each with its refusal.
@@ -29,6 +35,16 @@ pub fn regrouping(rng: &mut Rng) -> Regrouping {
     let cut = cut(rng, &macros);
     let more_words = rng.pick(&[0, 0, 1, 40, 40_000]);
     Regrouping { why: String::from("seeded"), macros, cut, question, more_words, stated: None }
+}
+
+fn repeated(rng: &mut Rng) -> Regrouping<(u16, u16)> {
+    let letters = some_letters(rng);
+    let (question, _) = sound_question(rng, letters);
+    let mut macros = for_question(rng, &question);
+    macros.truncate(MOST_MACROS - 1);
+    let cut = cut(rng, &macros);
+    let more_words = rng.pick(&[0, 0, 1, 40, 40_000]);
+    Regrouping { why: String::from("seeded, version 2"), macros, cut, question, more_words, stated: None }
 }
 
 /// Those of counts, some with a longer macro or with as many as fit.
@@ -60,7 +76,7 @@ fn lengthen(rng: &mut Rng, question: &Question, macros: &mut Macros, length: usi
 }
 
 /// Where Y begins and ends, and where it goes; any macro, mostly the last or one with some items.
-fn cut(rng: &mut Rng, macros: &[Vec<u16>]) -> Cut {
+fn cut<E: Entry>(rng: &mut Rng, macros: &[Vec<E>]) -> Cut {
     let mut number = if rng.chance(60) { macros.len() - 1 } else { rng.below(macros.len()) };
     for _ in 0..3 {
         if macros[number].len() < 2 {
@@ -78,11 +94,11 @@ fn cut(rng: &mut Rng, macros: &[Vec<u16>]) -> Cut {
 }
 
 /// At least one item: all of them, one, some, or from a place where a CR or an LF stands.
-fn middle(rng: &mut Rng, items: &[u16]) -> (usize, usize) {
+fn middle<E: Entry>(rng: &mut Rng, items: &[E]) -> (usize, usize) {
     let length = items.len();
     let (one, other) = (rng.below(length), rng.below(length));
     let ends: Vec<usize> =
-        (0..length).filter(|&place| [CR, LF].map(u16::from).contains(&items[place])).collect();
+        (0..length).filter(|&place| [CR, LF].map(u16::from).contains(&items[place].item())).collect();
     match rng.below(10) {
         0 => (0, length),
         1..=2 => (one, one + 1),

@@ -1,4 +1,4 @@
-//! Numbers of any size, as far as places in a run need them: a run may have 64^1024 keys.
+//! Numbers of any size, as far as places in a run need them: a run may have (64 × 65,535)^1024 keys.
 
 use std::cmp::Ordering;
 
@@ -14,13 +14,18 @@ impl Natural {
     }
 
     pub fn add(&mut self, other: &Natural) {
+        self.add_times(other, 1);
+    }
+
+    /// The other one so many times.
+    pub fn add_times(&mut self, other: &Natural, times: u16) {
         if self.words.len() < other.words.len() {
             self.words.resize(other.words.len(), 0);
         }
         let mut carry = 0;
         for (place, word) in self.words.iter_mut().enumerate() {
             let more = other.words.get(place).copied().unwrap_or(0);
-            let sum = u128::from(*word) + u128::from(more) + carry;
+            let sum = u128::from(*word) + u128::from(more) * u128::from(times) + carry;
             *word = sum as u64;
             carry = sum >> 64;
         }

@@ -1,7 +1,7 @@
 //! The reach list in running order (document 02, S-5). A macro's place is how many keys of the run stand before
 //! its first entry; the places are told from the macros' lengths, so no run is written out.
 
-use crate::book::{item, Book, Item};
+use crate::book::{Book, Item};
 use crate::natural::Natural;
 
 /// By place; macros entered at the same key follow each other from the outer to the inner one. There the inner
@@ -19,10 +19,10 @@ pub fn lengths(book: &Book, last: usize) -> Vec<Natural> {
     let mut lengths: Vec<Natural> = Vec::new();
     for number in 0..=last {
         let mut length = Natural::default();
-        for &written in book.items(number) {
-            match item(written) {
-                Item::Key(_) => length.add(&one),
-                Item::Call(called) => length.add(&lengths[called]),
+        for (item, repeat) in book.repeated(number) {
+            match item {
+                Item::Key(_) => length.add_times(&one, repeat),
+                Item::Call(called) => length.add_times(&lengths[called], repeat),
             }
         }
         lengths.push(length);
@@ -32,7 +32,7 @@ pub fn lengths(book: &Book, last: usize) -> Vec<Natural> {
 
 /// The place of each macro in the run of `number`; none for a macro that is not reached. Only higher macros call
 /// a macro, so with the highest first its place is settled before its own calls are looked at, and it is enough
-/// to look at them from that place.
+/// to look at them from that place. Of a repeated call the first pass is the first entry.
 pub fn places(book: &Book, number: usize) -> Vec<Option<Natural>> {
     let (one, lengths) = (Natural::one(), lengths(book, number));
     let mut places: Vec<Option<Natural>> = vec![None; number + 1];
@@ -42,12 +42,12 @@ pub fn places(book: &Book, number: usize) -> Vec<Option<Natural>> {
             Some(place) => place.clone(),
             None => continue,
         };
-        for &written in book.items(caller) {
-            match item(written) {
-                Item::Key(_) => at.add(&one),
+        for (item, repeat) in book.repeated(caller) {
+            match item {
+                Item::Key(_) => at.add_times(&one, repeat),
                 Item::Call(called) => {
                     bring_forward(&mut places[called], &at);
-                    at.add(&lengths[called]);
+                    at.add_times(&lengths[called], repeat);
                 }
             }
         }

@@ -19,3 +19,5 @@ pub const LONG_INPUT: Refusal = 14;
 /// Document 02, S-6.
 pub const BAD_KEYS: Refusal = 18;
 pub const LONG_RUN: Refusal = 19;
+/// Document 02, S-8.
+pub const NO_REPEAT: Refusal = 20;

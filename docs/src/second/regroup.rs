@@ -5,13 +5,62 @@ use crate::book::FIRST_CALL;
 use crate::case::Case;
 use crate::describe::{hex_of_long, pattern_lines};
 use crate::group::{Group, Law};
-use crate::make_book::{call, write, Macros};
+use crate::make_book::{self, call};
 use crate::operations::COUNT_WORDS;
 use crate::question::Question;
+use crate::repeats;
 use crate::report::words_needed;
 
 pub const SAME: &str = "both macros have one count";
 pub const NAMES: [&str; 4] = ["old book", "new book", "old count", "new count"];
+
+/// An item as the books of one version have it.
+pub trait Entry: Copy {
+    /// What is called or pressed, without a repeat count.
+    fn item(self) -> u16;
+    /// Another item in its place, as often.
+    fn with(self, item: u16) -> Self;
+    /// An item that stands once.
+    fn once(item: u16) -> Self;
+    fn write(macros: &[Vec<Self>]) -> Vec<u8>;
+}
+
+impl Entry for u16 {
+    fn item(self) -> u16 {
+        self
+    }
+
+    fn with(self, item: u16) -> u16 {
+        item
+    }
+
+    fn once(item: u16) -> u16 {
+        item
+    }
+
+    fn write(macros: &[Vec<u16>]) -> Vec<u8> {
+        make_book::write(macros)
+    }
+}
+
+/// With its repeat count, which it keeps.
+impl Entry for (u16, u16) {
+    fn item(self) -> u16 {
+        self.0
+    }
+
+    fn with(self, item: u16) -> (u16, u16) {
+        (item, self.1)
+    }
+
+    fn once(item: u16) -> (u16, u16) {
+        (item, 1)
+    }
+
+    fn write(macros: &[Vec<(u16, u16)>]) -> Vec<u8> {
+        repeats::write(macros)
+    }
+}
 
 /// Macro m, where its Y begins and ends, and the new macro's number j.
 #[derive(Clone, Copy, Debug)]
@@ -23,28 +72,28 @@ pub struct Cut {
 }
 
 /// The calls of the new macro and of those that go up are all that changes besides.
-pub fn regrouped(macros: &[Vec<u16>], cut: &Cut) -> Macros {
-    let raised = |&item: &u16| if item >= call(cut.into) { item + 1 } else { item };
-    let list = |items: &[u16]| items.iter().map(raised).collect::<Vec<u16>>();
-    let mut new: Macros = macros.iter().map(|items| list(items)).collect();
+pub fn regrouped<E: Entry>(macros: &[Vec<E>], cut: &Cut) -> Vec<Vec<E>> {
+    let raised = |&own: &E| own.with(own.item() + u16::from(own.item() >= call(cut.into)));
+    let list = |items: &[E]| items.iter().map(raised).collect::<Vec<E>>();
+    let mut new: Vec<Vec<E>> = macros.iter().map(|items| list(items)).collect();
     let items = &macros[cut.number];
     let (before, middle, behind) = (&items[..cut.from], &items[cut.from..cut.to], &items[cut.to..]);
-    new[cut.number] = [list(before), vec![call(cut.into)], list(behind)].concat();
+    new[cut.number] = [list(before), vec![E::once(call(cut.into))], list(behind)].concat();
     new.insert(cut.into, list(middle));
     new
 }
 
 /// The lowest number that the new macro may have: above every macro that Y calls.
-pub fn lowest(macros: &[Vec<u16>], number: usize, from: usize, to: usize) -> usize {
-    let above = |&item: &u16| usize::from(item.saturating_sub(FIRST_CALL - 1));
+pub fn lowest<E: Entry>(macros: &[Vec<E>], number: usize, from: usize, to: usize) -> usize {
+    let above = |own: &E| usize::from(own.item().saturating_sub(FIRST_CALL - 1));
     macros[number][from..to].iter().map(above).max().unwrap_or(0)
 }
 
 #[derive(Clone)]
-pub struct Regrouping {
+pub struct Regrouping<E = u16> {
     /// Why it is asked, or where it comes from.
     pub why: String,
-    pub macros: Macros,
+    pub macros: Vec<Vec<E>>,
     pub cut: Cut,
     pub question: Question,
     /// Work words besides those needed, as far as a case may have so many.
@@ -53,10 +102,10 @@ pub struct Regrouping {
     pub stated: Option<String>,
 }
 
-impl Regrouping {
+impl<E: Entry> Regrouping<E> {
     /// The cases, with any new book.
-    pub fn cases_with(&self, new: &[Vec<u16>]) -> Vec<(&'static str, Case)> {
-        let (old, new) = (write(&self.macros), write(new));
+    pub fn cases_with(&self, new: &[Vec<E>]) -> Vec<(&'static str, Case)> {
+        let (old, new) = (E::write(&self.macros), E::write(new));
         let number = self.cut.number;
         let cases = [
             Case::Sound { book: old.clone() },
@@ -74,12 +123,12 @@ impl Regrouping {
     }
 }
 
-impl Group for Regrouping {
+impl<E: Entry> Group for Regrouping<E> {
     fn about(&self) -> String {
         let Cut { number, from, to, into } = self.cut;
         let places = format!("macro {number}, items {from} to {to} become macro {into}");
         let pattern = pattern_lines(&self.question.pattern);
-        let books = [write(&self.macros), write(&regrouped(&self.macros, &self.cut))];
+        let books = [E::write(&self.macros), E::write(&regrouped(&self.macros, &self.cut))];
         let [old, new] = books.map(|book| hex_of_long(&book));
         let letters = self.question.letters;
         format!("regrouping: {}\n{places}\n{letters:?}\n{pattern}old book: {old}\nnew book: {new}", self.why)

@@ -1,6 +1,6 @@
 //! Checks this program with itself: stated answers, the two methods of counting, trees written down
 //! and read again, the meaning against a list of texts, joins against reports of longer runs, reach lists,
-//! depths, triples of reports, regroupings; under both choices of case.
+//! depths, triples of reports, regroupings, repeat counts; under both choices of case.
 
 use crate::answer::answer;
 use crate::book;
@@ -9,6 +9,7 @@ use crate::count::count_within;
 use crate::describe::describe;
 use crate::enumerate;
 use crate::fixed;
+use crate::fixed_repeats_large::largest;
 use crate::join::join;
 use crate::letters::{Letters, BOTH};
 use crate::make;
@@ -26,10 +27,12 @@ use crate::rng::Rng;
 use crate::selftest_brackets;
 use crate::selftest_command;
 use crate::selftest_depth;
+use crate::selftest_forms;
 use crate::selftest_letters;
 use crate::selftest_patterns;
 use crate::selftest_reach;
 use crate::selftest_regroup;
+use crate::selftest_repeats;
 use crate::selftest_returns;
 use crate::selftest_triple;
 use crate::states::{States, LINE_START};
@@ -70,6 +73,8 @@ pub fn selftest() -> bool {
     selftest_depth::all(&mut checks);
     selftest_triple::all(&mut checks);
     selftest_regroup::all(&mut checks);
+    selftest_repeats::all(&mut checks);
+    selftest_forms::all(&mut checks);
     for number in 0..2000 {
         let mut rng = Rng::for_case(0x5E1F, number);
         let letters = BOTH[number as usize % 2];
@@ -86,7 +91,7 @@ pub fn selftest() -> bool {
 }
 
 fn stated(checks: &mut Checks) {
-    for fixed in fixed::all() {
+    for fixed in [fixed::all(), fixed::of_repeats(), largest()].concat() {
         let own = answer(&fixed.case);
         checks.check(fixed.agrees(&own), || {
             format!("{}\nstated {}, answered {own}", describe(&fixed.case), fixed.stated)

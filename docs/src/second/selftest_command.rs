@@ -121,14 +121,14 @@ pub fn stated(checks: &mut Checks, runs: &[Run], own: fn(&Start) -> Expected) {
     }
 }
 
-/// A sound book has 7 bytes, two for each macro and two for each item; a macro reaches what the macros it
-/// calls reach, in that order.
-fn second_method(checks: &mut Checks, bytes: &[u8]) {
+/// A sound book has 7 bytes, two for each macro and two for each item, four in version 2; a macro reaches what the
+/// macros it calls reach, in that order.
+pub fn second_method(checks: &mut Checks, bytes: &[u8]) {
     let (book, told) = match (book::read(bytes), check(bytes)) {
         (Ok(book), Ok(told)) => (book, told),
         _ => return,
     };
-    let length = 7 + 2 * told.macros + 2 * told.items;
+    let length = 7 + 2 * told.macros + 2 * usize::from(told.version) * told.items;
     checks.check(told.bytes == length && length == bytes.len(), || String::from("what check tells"));
     let last = book.macros.len() - 1;
     let numbers = reached_upwards(&book, last).into_iter().map(usize::from).collect();

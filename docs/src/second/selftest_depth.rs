@@ -117,7 +117,7 @@ fn every_point(book: &Book, keys: Keys) -> Vec<Option<Figures>> {
 }
 
 /// By all the methods that do not write runs out, and with the lengths as whole numbers of any size.
-fn is_right(book: &Book, keys: Keys, last: usize) -> bool {
+pub fn is_right(book: &Book, keys: Keys, last: usize) -> bool {
     let own = figures(book, keys, last);
     let mut longest = Natural::one();
     for _ in 0..62 {

@@ -2,7 +2,7 @@
 //! self test (document 02, S-6).
 
 use crate::answer::{answer, work_words};
-use crate::book::{self, item, Book, Item};
+use crate::book::{self, Book, Item};
 use crate::case::Case;
 use crate::depth::{depth_line, words, Keys};
 use crate::depth_figures::{of_run, Figures};
@@ -29,8 +29,8 @@ impl Asked<'_> {
     }
 }
 
-/// Figures put together item by item from those of the called macros: `join` gives those of the items so far and
-/// one more.
+/// Figures put together item by item, and pass by pass, from those of the called macros: `join` gives those of the
+/// items so far and one more.
 pub fn folded(
     book: &Book,
     last: usize,
@@ -41,12 +41,13 @@ pub fn folded(
 ) -> Vec<Option<Figures>> {
     let mut all: Vec<Option<Figures>> = Vec::new();
     for number in 0..=last {
-        let own = book.items(number).iter().try_fold(start, |sum, &written| {
-            let next = match item(written) {
+        let own = book.repeated(number).try_fold(start, |sum, (item, repeat)| {
+            let next = match item {
                 Item::Key(each) => key(each),
                 Item::Call(called) => all[called]?,
             };
-            Some(Figures { length: sum.length + next.length, ..join(sum, next) })
+            let one_more = |sum: Figures, _| Figures { length: sum.length + next.length, ..join(sum, next) };
+            Some((0..repeat).fold(sum, one_more))
         });
         all.push(own.filter(|own| own.length <= longest));
     }

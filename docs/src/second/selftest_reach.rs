@@ -109,13 +109,15 @@ struct Noted {
 }
 
 /// The items in order, each call replaced by the called macro's written-out run. The macro is entered at the
-/// first key of them; those inside it are noted there before it is.
+/// first key of them, pass by pass; those inside it are noted there before it is.
 fn write_out(book: &Book, number: usize, run: &mut Vec<Noted>) {
     let first = run.len();
-    for &written in book.items(number) {
-        match item(written) {
-            Item::Key(key) => run.push(Noted { key, entered: Vec::new() }),
-            Item::Call(called) => write_out(book, called, run),
+    for (item, repeat) in book.repeated(number) {
+        for _ in 0..repeat {
+            match item {
+                Item::Key(key) => run.push(Noted { key, entered: Vec::new() }),
+                Item::Call(called) => write_out(book, called, run),
+            }
         }
     }
     run[first].entered.insert(0, number as u16);

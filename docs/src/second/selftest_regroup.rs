@@ -6,10 +6,10 @@ use crate::book::{self, Book};
 use crate::fixed_regroup;
 use crate::fixed_regroup_refused;
 use crate::group::{fault, Group};
-use crate::make_book::{write, Macros};
+use crate::make_book::Macros;
 use crate::make_regroup;
 use crate::reach;
-use crate::regroup::{counted, regrouped, Regrouping};
+use crate::regroup::{counted, regrouped, Entry, Regrouping};
 use crate::selftest::Checks;
 use crate::selftest_regroup_made;
 use crate::selftest_regroup_wrong::WRONG;
@@ -42,15 +42,15 @@ pub fn all(checks: &mut Checks) {
 }
 
 /// Sound, one macro more, and each macro of the old book has its run, as far as runs are short, and its length.
-fn is_right(regrouping: &Regrouping, new: &Macros) -> bool {
-    let bytes = [write(&regrouping.macros), write(new)];
+pub fn is_right<E: Entry>(regrouping: &Regrouping<E>, new: &[Vec<E>]) -> bool {
+    let bytes = [E::write(&regrouping.macros), E::write(new)];
     match (book::read(&bytes[0]), book::read(&bytes[1])) {
         (Ok(old), Ok(new)) => new.macros.len() == old.macros.len() + 1 && same_runs(regrouping, &old, &new),
         _ => false,
     }
 }
 
-fn same_runs(regrouping: &Regrouping, old: &Book, new: &Book) -> bool {
+fn same_runs<E: Entry>(regrouping: &Regrouping<E>, old: &Book, new: &Book) -> bool {
     let last = old.macros.len() - 1;
     let lengths = written::lengths(old, last);
     let whole = [reach::lengths(old, last), reach::lengths(new, last + 1)];
@@ -63,7 +63,7 @@ fn same_runs(regrouping: &Regrouping, old: &Book, new: &Book) -> bool {
 }
 
 /// The own answers keep the law; each line that is another is seen, and another count breaks the law.
-fn lines(checks: &mut Checks, regrouping: &Regrouping) {
+pub fn lines<E: Entry>(checks: &mut Checks, regrouping: &Regrouping<E>) {
     let own: Vec<String> = regrouping.cases().iter().map(|(_, case)| answer(case)).collect();
     let well = regrouping.as_stated(&own) && fault(regrouping, &own, &own).is_none();
     checks.check(well, || regrouping.about());

@@ -1,11 +1,13 @@
 //! The second method, for runs too long to write out: what each macro does to the states of all kinds is kept
-//! and put together item by item, lower macros first (they are the only ones that can be called).
+//! and put together item by item, lower macros first (they are the only ones that can be called). What a repeated
+//! item does (document 02, S-8) is put together of its passes by doubling, each doubling made once.
 
-use crate::book::{item, Book, Item};
+use crate::book::{Book, Item};
 use crate::kinds::{Kinds, Machine};
 use crate::line_ends::LF;
 use crate::report::{Report, BEGINS_WITH_LF, ENDS_IN_CR};
 use crate::states::{bit, States, FOUND, LINE_START, MID_LINE};
+use std::collections::BTreeMap;
 
 /// More than any count that is answered; sums stop here so that they stay small.
 const TOO_HIGH: u128 = 1 << 64;
@@ -24,22 +26,52 @@ pub struct Summary {
     pub steps: u64,
 }
 
+/// What something does once, twice, four times and so on, as far as that was asked for.
+struct Doubled {
+    doublings: Vec<Summary>,
+}
+
 pub fn summaries(book: &Book, states: &States, last: usize) -> Vec<Summary> {
     let machine = Machine { states };
-    let mut done: Vec<Summary> = Vec::new();
+    let mut keys: BTreeMap<u8, Doubled> = BTreeMap::new();
+    let mut done: Vec<Doubled> = Vec::new();
     for number in 0..=last {
         let mut summary = Summary::nothing(&machine);
-        for &written in book.items(number) {
+        for (item, repeat) in book.repeated(number) {
             summary.steps += summary.pairs(&machine);
-            match item(written) {
-                Item::Key(LF) => summary.line_end(machine.closing(), machine.plain(bit(LINE_START))),
-                Item::Key(key) => summary.pass(|set| machine.lead(set, key)),
-                Item::Call(called) => summary.call(&done[called]),
+            match item {
+                Item::Key(key) if repeat == 1 => summary.key(&machine, key),
+                Item::Key(key) => {
+                    let doubled = keys.entry(key).or_insert_with(|| Doubled::of_key(&machine, key));
+                    doubled.pass(&mut summary, repeat);
+                }
+                Item::Call(called) => done[called].pass(&mut summary, repeat),
             }
         }
-        done.push(summary);
+        done.push(Doubled { doublings: vec![summary] });
     }
-    done
+    done.into_iter().map(|mut doubled| doubled.doublings.swap_remove(0)).collect()
+}
+
+impl Doubled {
+    fn of_key(machine: &Machine, key: u8) -> Doubled {
+        let mut once = Summary::nothing(machine);
+        once.key(machine, key);
+        Doubled { doublings: vec![once] }
+    }
+
+    /// Puts so many passes behind what a summary has; in which order their groups stand plays no part.
+    fn pass(&mut self, summary: &mut Summary, passes: u16) {
+        for place in (0..16).filter(|place| passes >> place & 1 == 1) {
+            while self.doublings.len() <= place {
+                let half = &self.doublings[self.doublings.len() - 1];
+                let mut twice = half.clone();
+                twice.call(half);
+                self.doublings.push(twice);
+            }
+            summary.call(&self.doublings[place]);
+        }
+    }
 }
 
 impl Summary {
@@ -55,6 +87,13 @@ impl Summary {
             return count(&self.tail);
         }
         self.rows[..machine.states.s].iter().map(count).sum()
+    }
+
+    fn key(&mut self, machine: &Machine, key: u8) {
+        match key {
+            LF => self.line_end(machine.closing(), machine.plain(bit(LINE_START))),
+            _ => self.pass(|set| machine.lead(set, key)),
+        }
     }
 
     /// Something without LF.

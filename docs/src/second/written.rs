@@ -1,8 +1,8 @@
 //! The first method: the run of a macro is written out, and its report and its steps are worked out
 //! from the keys by the definitions (document 01, "The book", "States and steps", "Reports"; document 02,
-//! S-4).
+//! S-4 and S-8).
 
-use crate::book::{item, Book, Item};
+use crate::book::{Book, Item};
 use crate::line_ends::{less_final_cr, CR, LF};
 use crate::meaning::Tester;
 use crate::report::{Report, BEGINS_WITH_LF, ENDS_IN_CR};
@@ -13,11 +13,12 @@ use std::ops::Range;
 pub fn lengths(book: &Book, last: usize) -> Vec<u64> {
     let mut lengths: Vec<u64> = Vec::new();
     for number in 0..=last {
-        let length = book.items(number).iter().fold(0u64, |sum, &written| {
-            sum.saturating_add(match item(written) {
+        let length = book.repeated(number).fold(0u64, |sum, (item, repeat)| {
+            let once = match item {
                 Item::Key(_) => 1,
                 Item::Call(called) => lengths[called],
-            })
+            };
+            sum.saturating_add(once.saturating_mul(u64::from(repeat)))
         });
         lengths.push(length);
     }
@@ -45,16 +46,22 @@ impl<'a> Runs<'a> {
 
     /// The items in order, each call replaced by the called macro's written-out run.
     fn write_out(&self, number: usize, run: &mut Vec<u8>) {
-        for &written in self.book.items(number) {
-            self.write_item(written, run);
+        for (item, repeat) in self.book.repeated(number) {
+            self.write_item(item, repeat, run);
         }
     }
 
-    fn write_item(&self, written: u16, run: &mut Vec<u8>) {
-        match item(written) {
+    /// The first pass is written out, and the others are the same keys again.
+    fn write_item(&self, item: Item, repeat: u16, run: &mut Vec<u8>) {
+        let from = run.len();
+        match item {
             Item::Key(key) => run.push(key),
             Item::Call(called) if self.kept[called].is_empty() => self.write_out(called, run),
             Item::Call(called) => run.extend_from_slice(&self.kept[called]),
+        }
+        let to = run.len();
+        for _ in 1..repeat {
+            run.extend_from_within(from..to);
         }
     }
 }
@@ -104,15 +111,15 @@ fn edges(run: &[u8]) -> u64 {
     begins + ends
 }
 
-/// The pairs of one macro: over each item, those (q, p) that the items before it lead from q to p.
+/// The pairs of one macro of version 1: over each item, those (q, p) that the items before it lead from q to p.
 pub fn steps(runs: &Runs, states: &States, number: usize) -> u64 {
     let mut steps = 0;
     let mut reached: Vec<u64> = (0..states.s).map(bit).collect();
     let mut run = Vec::new();
-    for &written in runs.book.items(number) {
+    for (item, repeat) in runs.book.repeated(number) {
         steps += reached.iter().map(|set| u64::from(set.count_ones())).sum::<u64>();
         run.clear();
-        runs.write_item(written, &mut run);
+        runs.write_item(item, repeat, &mut run);
         for &key in &run {
             lead(states, &mut reached, key);
         }
