@@ -139,12 +139,13 @@ for cases in pattern_cases cases; do
 done
 single "cases prints the depths that it must within 1 MiB of stack" small_stack cases tests/depth
 single "cases joins three reports as it must within 1 MiB of stack" small_stack cases tests/joining
+single "cases answers about repeat counts as it must within 1 MiB of stack" small_stack cases tests/repeats
 single "both groupings of three reports are one line, and the empty run's report changes nothing" groupings_agree tests/joining
 beside command bash tests/rakvinje.sh
 
 mkdir -p target/examples
 single "it writes the examples" "$room/write" target/examples
-for book in document01.mbk laptop.mbk blocks.mbk arena.mbk; do
+for book in document01.mbk laptop.mbk blocks.mbk chase.mbk arena.mbk; do
     single "examples/$book is what it writes" cmp "target/examples/$book" "examples/$book"
 done
 
@@ -153,6 +154,7 @@ beside selftest target/second selftest
 single "the second program answers the fixed cases alike" second_agrees crates/cases
 single "the second program answers the fixed cases of depths alike" second_agrees tests/depth
 single "the second program joins three reports alike" second_agrees tests/joining
+single "the second program answers about repeat counts alike" second_agrees tests/repeats
 counted "$(stated 'comparisons with the second program')" target/second compare target/bin/cases target/bin/cuecount ./rakvinje 1 6000 crates/pattern_cases/stdin
 single "the second program passes its own test" gather selftest
 counted_beside "$(stated 'runs of the command')" command

@@ -105,6 +105,45 @@ expect 0 'lines 1 steps 26' '' "$r" count 'a$' "$room/alone"
 expect 0 'lines 1 steps 20' '' "$r" count '^$' "$room/alone"
 expect 0 'lines 0 steps 30' '' "$r" count "$cr" "$room/alone"
 
+# Version 2: an item is repeated. The chase: GO LF 400 times between two blackouts, on 30 nights.
+chase=examples/chase.mbk
+expect 0 'lines 12000 steps 0' '' "$r" count GO "$chase"
+expect 0 'lines 400 steps 0' '' "$r" count GO "$chase" 1
+expect 0 'lines 1 steps 0' '' "$r" count GO "$chase" 0
+expect 0 'lines 60 steps 0' '' "$r" count BLACKOUT "$chase"
+expect 0 'lines 12060 steps 0' '' "$r" count -i '^[a-z]' - <"$chase"
+expect 0 'sound version 2 macros 3 items 23 bytes 105' '' "$r" check "$chase"
+expect 0 "$(listed 2 1 0)" '' "$r" reach "$chase"
+expect 0 'end 11940 lowest -1' '*no block is open, and a block is left open*' "$r" depth G B "$chase"
+# LF 65,535 times; LF CR and CR LF again and again; ab three times, which has ba across its seams.
+book ends 'MBK\2\0\1\0\1\0\n\0\377\377'
+expect 0 'lines 65535 steps 0' '' "$r" count '^$' "$room/ends"
+book seams 'MBK\2\0\4\0\2\0\n\0\1\0\r\0\1\0\1\0\0\1\3\0\2\0a\0\1\0b\0\1\0\1\0\2\1\3\0'
+expect 0 'lines 3 steps 0' '' "$r" count '^$' "$room/seams" 1
+expect 0 'lines 1 steps 0' '' "$r" count "$cr" "$room/seams" 1
+expect 0 'lines 1 steps 0' '' "$r" count 'baba$' "$room/seams" 3
+expect 0 'lines 0 steps 0' '' "$r" count 'ba$' "$room/seams" 2
+# The same book in both versions.
+book first 'MBK\1\0\2\0\2\0a\0\n\0\3\0\0\1\0\1\0\1'
+book second 'MBK\2\0\2\0\2\0a\0\1\0\n\0\1\0\1\0\0\1\3\0'
+expect 0 'lines 3 steps 23' '' "$r" count a "$room/first"
+expect 0 'lines 3 steps 0' '' "$r" count a "$room/second"
+# Macro 0 is a LF; each of the next calls the one below it 65,535 times, 41 of them. 65,535^4 is the last power that 64 bits hold.
+{
+    printf 'MBK\2\0\52\0\2\0a\0\1\0\n\0\1\0'
+    for i in {0..40}; do
+        printf -v call '\\x%02x\\1' "$i"
+        printf '\1\0%b\377\377' "$call"
+    done
+} >"$room/nights"
+expect 0 'lines 18445618199572250625 steps 0' '' "$r" count a "$room/nights" 4
+expect 1 'refused 12' '*largest that can be given*' "$r" count a "$room/nights" 5
+expect 1 'refused 12' '*largest that can be given*' "$r" count a "$room/nights"
+expect 0 'lines 0 steps 0' '' "$r" count b "$room/nights"
+expect 0 'end 281462092005375 lowest 0' 'A block is left open*' "$r" depth a b "$room/nights" 3
+expect 1 'refused 19' '*over 4,611,686,018,427,387,904 keys*' "$r" depth a b "$room/nights" 4
+expect 0 "$(seq 41 -1 0)" '' "$r" reach "$room/nights"
+
 # Check.
 expect 0 'sound version 1 macros 2 items 5 bytes 21' '' "$r" check "$small"
 expect 0 'sound version 1 macros 300 items 5434 bytes 11475' '' "$r" check "$arena"
@@ -246,12 +285,34 @@ expect 0 133127 '' stat -c %s "$room/full"
 expect 0 "$(seq 1023 -1 0)" '' "${beyond[@]}" reach "$room/full"
 expect 0 'end 4124800 lowest 0' "$left" "${within[@]}" depth x y "$room/full"
 expect 0 'end 4124800 lowest 0' "$left" "${within[@]}" depth x y - <"$room/full"
+# The longest of version 2: each macro but the first calls the one below it 64 times, 65,535 times over.
+{
+    printf 'MBK\2\0\0\4\100\0'
+    printf 'x\0\377\377%.0s' {1..63}
+    printf '\n\0\1\0'
+    for i in {0..1022}; do
+        printf -v call '\\x%02x\\x%02x' $((i % 256)) $((i / 256 + 1))
+        # shellcheck disable=SC2059
+        printf "\100\0$(printf "$call\\377\\377%.0s" {1..64})"
+    done
+} >"$room/longest2"
+expect 0 264199 '' stat -c %s "$room/longest2"
+expect 0 'sound version 2 macros 1024 items 65536 bytes 264199' '' "${within[@]}" check "$room/longest2"
+expect 0 'lines 1 steps 0' '' "${within[@]}" count "$(many x 29)" "$room/longest2" 0
+expect 0 'lines 4194240 steps 0' '' "${within[@]}" count "$(many x 29)" "$room/longest2" 1
+expect 1 'refused 12' '*largest that can be given*' "${within[@]}" count "$(many x 29)" "$room/longest2"
+expect 0 'lines 0 steps 0' '' "${within[@]}" count "$(many y 29)" - <"$room/longest2"
+expect 1 'refused 19' '*over 4,611,686,018,427,387,904 keys*' "${within[@]}" depth x y "$room/longest2"
+expect 0 "$(seq 1023 -1 0)" '' "${beyond[@]}" reach "$room/longest2"
+cp "$room/longest2" "$room/longer2"
+printf '\0' >>"$room/longer2"
+expect 1 'refused 4' '*cut short or goes on*' "${within[@]}" check "$room/longer2"
 cp "$room/longest" "$room/longer"
 printf '\0' >>"$room/longer"
 cp "$room/longest" "$room/much_longer"
 head -c 1000000 /dev/zero >>"$room/much_longer"
-many '\0' 133127 >"$room/zeros"
-many '\0' 133128 >"$room/more_zeros"
+many '\0' 264199 >"$room/zeros"
+many '\0' 264200 >"$room/more_zeros"
 many '\0' 1000000 >"$room/most_zeros"
 for verb in 'count B' check reach 'depth ( )'; do
     for longer in longer much_longer; do
@@ -289,8 +350,12 @@ book short 'MBK\1\0\1'
 refused_book 1 'begin with MBK' "$room/short"
 refused_book 1 'begin with MBK' /dev/null
 refused_book 1 'begin with MBK' tests/rakvinje.sh
-book version 'MBK\2\0\1\0\1\0B\0'
-refused_book 2 'version is not 1' "$room/version"
+book version 'MBK\3\0\1\0\1\0B\0\1\0'
+refused_book 2 'neither 1 nor 2' "$room/version"
+book version0 'MBK\0\0\1\0\1\0B\0'
+refused_book 2 'neither 1 nor 2' "$room/version0"
+book version258 'MBK\2\1\1\0\1\0B\0\1\0'
+refused_book 2 'neither 1 nor 2' "$room/version258"
 book none 'MBK\1\0\0\0'
 refused_book 3 'no macro, or over 1,024' "$room/none"
 book more 'MBK\1\0\1\0\1\0B\0\0'
@@ -299,6 +364,19 @@ book zero 'MBK\1\0\1\0\1\0\0\0'
 refused_book 5 'item 0' "$room/zero"
 book self 'MBK\1\0\1\0\1\0\0\1'
 refused_book 6 'calls itself' "$room/self"
+# Version 2: 20 behind 5 and 6 of the same item, and before those of the next; an item that is cut short is 4.
+book never 'MBK\2\0\1\0\1\0B\0\0\0'
+refused_book 20 'repeat count 0' "$room/never"
+book never_first 'MBK\2\0\1\0\2\0B\0\0\0\0\0\1\0'
+refused_book 20 'repeat count 0' "$room/never_first"
+book never_zero 'MBK\2\0\1\0\1\0\0\0\0\0'
+refused_book 5 'item 0' "$room/never_zero"
+book never_self 'MBK\2\0\1\0\1\0\0\1\0\0'
+refused_book 6 'calls itself' "$room/never_self"
+book three 'MBK\2\0\1\0\1\0\0\0\0'
+refused_book 4 'cut short or goes on' "$room/three"
+book halves 'MBK\2\0\1\0\1\0B\0'
+refused_book 4 'cut short or goes on' "$room/halves"
 expect 1 'refused 7' '*over 128 bytes*' "$r" count '' "$small"
 expect 1 'refused 7' '*over 128 bytes*' "$r" count -e '' "$small"
 expect 0 'lines 0 steps 13' '' "$r" count "[$(many x 126)]" "$small"

@@ -1,6 +1,6 @@
 // Writes the example books: `examples FOLDER` makes document01.mbk, the book of document 01, laptop.mbk, whose lines end with CR LF,
-// blocks.mbk, where ( and ) open and close cue blocks, and arena.mbk, a made-up show of 300 macros whose run no disk could hold. Standard
-// library only; the same bytes each time.
+// blocks.mbk, where ( and ) open and close cue blocks, chase.mbk, a book of version 2 with a macro that is called 400 times, and arena.mbk,
+// a made-up show of 300 macros whose run no disk could hold. Standard library only; the same bytes each time.
 use std::{env, fs, path::Path};
 
 type Macro = Vec<u16>;
@@ -37,6 +37,29 @@ fn encode(book: &[Macro]) -> Vec<u8> {
         items.iter().for_each(|&item| put(item));
     }
     bytes
+}
+
+// Document 02, S-8: in version 2 an item's repeat count stands behind it, two bytes more.
+fn encode_repeated(book: &[Vec<(u16, u16)>]) -> Vec<u8> {
+    let mut bytes = b"MBK".to_vec();
+    let mut put = |n: u16| bytes.extend(n.to_le_bytes());
+    put(2);
+    put(book.len() as u16);
+    for items in book {
+        put(items.len() as u16);
+        items.iter().for_each(|&(item, times)| {
+            put(item);
+            put(times);
+        });
+    }
+    bytes
+}
+
+// Macro 0 is one step of a chase, macro 1 plays it 400 times between two blackouts, and macro 2 plays macro 1 on thirty nights.
+fn chase() -> Vec<Vec<(u16, u16)>> {
+    let once = |text: &str| keys(text).into_iter().map(|key| (key, 1)).collect::<Vec<_>>();
+    let night = [once("BLACKOUT\n"), vec![(call(0), 400)], once("BLACKOUT\n")].concat();
+    vec![once("GO\n"), night, vec![(call(1), 30)]]
 }
 
 fn document01() -> Vec<Macro> {
@@ -136,4 +159,5 @@ fn main() {
         fs::write(Path::new(&folder).join(name), encode(&book)).expect("the book cannot be written");
         println!("{name}: {} macros, the last one's run has {} keys", book.len(), run_length(&book).last().unwrap());
     }
+    fs::write(Path::new(&folder).join("chase.mbk"), encode_repeated(&chase())).expect("the book cannot be written");
 }

@@ -29,7 +29,7 @@ pub(crate) fn explain(r: Refusal) {
             b"The file is no macro book: it has under 7 bytes, or it does not begin with MBK. Name the book file.\n",
         ),
         Refusal::UnsupportedVersion => text(
-            b"The book's version is not 1. Export the show in version 1.\n",
+            b"The book's version is neither 1 nor 2. Export the show in one of these.\n",
         ),
         Refusal::BadMacroCount => text(
             b"The book has no macro, or over 1,024. Export the show again, in parts if it has more.\n",
@@ -42,6 +42,9 @@ pub(crate) fn explain(r: Refusal) {
         ),
         Refusal::ForwardReference => text(
             b"A macro calls itself, or one that does not stand before it. Mend that call.\n",
+        ),
+        Refusal::ZeroRepeatCount => text(
+            b"A macro holds an item with the repeat count 0. Give it one from 1 to 65,535, or take the item out.\n",
         ),
         Refusal::PatternLength => text(
             b"The pattern is empty, or has over 128 bytes. Give one of 1 to 128.\n",
