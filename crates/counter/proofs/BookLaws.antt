@@ -2,9 +2,9 @@
 use Prim.Native.Nat.{ℕ, suc, _+_, _*_, _^_, _<_}
 use native.Mathlib.Omega.{arith}
 use mathlib.Core.Path.{_≡_, refl, sym, ap, _∙_}
-use mathlib.Core.Bool.{true, cond}
+use mathlib.Core.Bool.{true}
 use mathlib.Core.List.{List}
-use lib.Dec.{leb, eqb}
+use lib.Dec.{leb}
 use lib.ListN.{length, drop}
 use borrow.Author.Tests.{leb-true, eq-eqb, ne-eqb}
 use Rattle.refusal.specs.declared.Refusal.{Refusal}
@@ -44,15 +44,15 @@ use Rattle.counter.proofs.FrontLaws.{pattern-refuses, pattern-in, front
 use Rattle.counter.proofs.FillLaws.{reports-at}
 
 -- the two ways out of `steps_for`
-pub steps-one : (version n : ℕ) → version ≡ 1 → n ≡ cond (eqb version 1) n 0
+pub steps-one : (version n : ℕ) → version ≡ 1 → n ≡ stepsIn version n
 steps-one version n e = rw (eq-eqb version 1 e) refl
 
-pub steps-none : (version n : ℕ) → (version ≡ 1 → ⊥) → 0 ≡ cond (eqb version 1) n 0
+pub steps-none : (version n : ℕ) → (version ≡ 1 → ⊥) → 0 ≡ stepsIn version n
 steps-none version n e = rw (ne-eqb version 1 e) refl
 
 -- Macro m.
 module _ {book offsets : List ℕ} {m : ℕ} {p : Accepting} {before : List ℕ} (g : MacroFits book offsets m p before) where
-  module _ {keys enter after : List ℕ} {n : ℕ} (f : Filled keys enter p (macrosIn book) m before after n) {version k : ℕ} (v : version ≡ versionIn book) (often : k ≡ cond (eqb version 1) n 0) where
+  module _ {keys enter after : List ℕ} {n : ℕ} (f : Filled keys enter p (macrosIn book) m before after n) {version k : ℕ} (v : version ≡ versionIn book) (often : k ≡ stepsIn version n) where
     module _ {r : Report} {a : SpanCount} {x : Total} (l : r ≡ loadedAt after (placeOf p m) (p .states)) (i : a ≡ inReport r) (z : x ≡ totalIn p a) where
       -- the count is that of the run
       counted : (t : Query) → Automaton t keys enter p → x ≡ totalOf (matchingLines t (macrosIn book) m)

@@ -32,8 +32,9 @@ use Rattle.pattern.proofs.Readings.{states-of}
 use Rattle.reports.specs.declared.report.Report.{Report}
 use Rattle.reports.specs.declared.span_count.SpanCount.{SpanCount}
 use Rattle.reports.specs.Reports.{spanCount, emptyCount, extendedCount, joinedCounts, inReport, reportOf, report}
-use Rattle.reports.specs.Repetition.{Repeats}
+use Rattle.reports.specs.Repetition.{repeatedCount}
 use Rattle.reports.specs.Words.{behindRows, loadedAt}
+use Rattle.reports.proofs.RepetitionLaws.{repeat-counts}
 use Rattle.reports.proofs.ReportLaws.{empty-count, empty-small, count-size, count-pairs, extended-small, joined-small, extend-count, join-counts, in-report, report-is}
 use Rattle.spans.specs.declared.span.Span.{Span}
 use Rattle.spans.specs.Pairs.{pairs, pairsIn}
@@ -104,8 +105,8 @@ module _ {keys enter : List ℕ} {p : Accepting} {work : List ℕ} {a : SpanCoun
         extends = λ t h called w run served f. g .extends t h called w run served f ∙ ap (λ (l : List ℕ). spanCount t (w ++ l)) (sym (ap (λ (k : ℕ). times k (keysOf called item)) e ∙ times-one (keysOf called item)));
       }
 
-  pub passes-more : {o c d b : SpanCount} → o ≡ emptyCount (a .span .s) → AfterItem keys enter p work o item c → Repeats n c d → b ≡ joinedCounts a d → AfterPasses keys enter p work a item n b
-  passes-more {o} {c} {d} {b} e g r f =
+  pub passes-more : {o c d b : SpanCount} → n < 65536 → o ≡ emptyCount (a .span .s) → AfterItem keys enter p work o item c → d ≡ repeatedCount n c → b ≡ joinedCounts a d → AfterPasses keys enter p work a item n b
+  passes-more {o} {c} {d} {b} small e g r f =
       record {
         small = rw f (joined-small a d);
         extends = λ t h called w run served s.
@@ -113,7 +114,7 @@ module _ {keys enter : List ℕ} {p : Accepting} {work : List ℕ} {a : SpanCoun
             let none : o ≡ spanCount t [] = e ∙ ap emptyCount same ∙ empty-count t (h .few) in
             let one : c ≡ spanCount t (keysOf called item) = g .extends t h called [] run-none served none in
             let keys-run = run-of-item t called work item served in
-            let all : d ≡ spanCount t (times n (keysOf called item)) = r .run t (h .few) (keysOf called item) keys-run one in
+            let all : d ≡ spanCount t (times n (keysOf called item)) = r ∙ ap (repeatedCount n) one ∙ repeat-counts t (h .few) (keysOf called item) keys-run n small in
             f ∙ rw (s, all) (join-counts t (h .few) w (times n (keysOf called item)) run (times-run n (keysOf called item) keys-run));
       }
 

@@ -18,13 +18,11 @@ use reports::load;
 use reports::store;
 use reports::total_in;
 ghost use mathlib.Core.Path.{_≡_};
-ghost use mathlib.Core.Bool.{cond};
-ghost use lib.Dec.{eqb};
 ghost use Rattle.book.specs.Reading.{macrosIn, readBook, versionIn};
 ghost use Rattle.book.specs.Steps.{InBook};
 ghost use Rattle.pattern.specs.Reader.{readPattern};
 ghost use Rattle.counter.specs.Answers.{outcome};
-ghost use Rattle.counter.specs.Counting.{countResult};
+ghost use Rattle.counter.specs.Counting.{countResult, stepsIn};
 ghost use Rattle.counter.specs.Promises.{BookCounted, Filled, MacroFits};
 
 // Work words that are enough for every book and pattern: the reports of 1,024 macros with 32 states.
@@ -78,7 +76,7 @@ fn fill(
 
 // The steps that are answered: they belong to version 1 alone (document 02, S-8).
 fn steps_for(version: u16, steps: u64) -> u64
-    ensures { λ r. ⌜ r ≡ cond (eqb version 1) steps 0 ⌝ }
+    ensures { λ r. ⌜ r ≡ stepsIn version steps ⌝ }
 {
     if version == 1 { steps } else { 0 }
 }

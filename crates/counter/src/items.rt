@@ -25,7 +25,7 @@ pub(crate) struct MacroCount {
 }
 
 // An item of a macro, and how often it stands there.
-struct Passes {
+struct Repeated {
     item: Item,
     times: u16,
 }
@@ -56,7 +56,7 @@ fn after_item(
 // A run with one item more, as often as it stands there: once as ever, else one pass of it, repeated.
 fn after_passes(
     a: SpanCount,
-    next: Passes,
+    next: Repeated,
     work: &[u64],
     keys: &[u64; 256],
     enter: &[u64; 32],
@@ -93,7 +93,7 @@ pub(crate) fn items_report(
     let mut k = 0;
     while k < count {
         steps += pairs_in(kept.span);
-        let next = Passes {
+        let next = Repeated {
             item: item_of(codes[k]),
             times: times[k],
         };

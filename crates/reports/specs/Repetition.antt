@@ -1,17 +1,21 @@
--- Document 02, S-8: what is kept of a run that is repeated.
-use Prim.Native.Nat.{ℕ, _≤_}
-use mathlib.Core.Path.{_≡_}
-use mathlib.Core.Bool.{true}
-use mathlib.Core.List.{List}
-use Rattle.runs.specs.Keys.{isRun}
-use Rattle.runs.specs.Kept.{times}
-use Rattle.pattern.specs.Meaning.{Query}
-use Rattle.pattern.specs.Form.{atomCount}
+-- Document 02, S-8: what is kept of a run that is repeated, as an operation on any numbers. That it is what is kept of the repeated run is
+-- the theorem `repeat-counts`. On numbers that no run gives, joinings may depend on their grouping (`words-differ`), so it is said here.
+use Prim.Native.Nat.{ℕ, zero, suc}
+use mathlib.Core.Bool.{cond}
+use Rattle.stateset.specs.Set.{bit}
 use Rattle.reports.specs.declared.span_count.SpanCount.{SpanCount}
-use Rattle.reports.specs.Reports.{spanCount}
+use Rattle.reports.specs.Reports.{emptyCount, joinedCounts}
 
--- "The run has the item that many times": of what is kept of a run under an accepted pattern, what is kept of n such runs one after another.
--- Numbers that no run gives have no one n-fold: joining them may depend on the grouping (`words-differ`).
-pub record Repeats (n : ℕ) (a r : SpanCount) : Type 0 where
-  pub small : r .span .s ≤ 32
-  pub run : (t : Query) → atomCount (t .tree) ≤ 29 → (w : List ℕ) → isRun w ≡ true → a ≡ spanCount t w → r ≡ spanCount t (times n w)
+-- 2^k passes
+unfoldable pub doubled : ℕ → SpanCount → SpanCount
+doubled zero a = a
+doubled (suc k) a = joinedCounts (doubled k a) (doubled k a)
+
+-- as many passes as the lowest k binary digits of n say, those of the lowest digit first
+unfoldable pub byDigits : ℕ → ℕ → SpanCount → SpanCount
+byDigits n zero a = emptyCount (a .span .s)
+byDigits n (suc k) a = cond (bit n k) (joinedCounts (byDigits n k a) (doubled k a)) (byDigits n k a)
+
+-- n passes, where n is "a two-byte repeat count"
+unfoldable pub repeatedCount : ℕ → SpanCount → SpanCount
+repeatedCount n a = byDigits n 16 a

@@ -5,7 +5,7 @@ use crate::span_count::joined;
 ghost use mathlib.Core.Path.{_≡_};
 ghost use mathlib.Core.Bool.{cond};
 ghost use Rattle.reports.specs.Reports.{joinedCounts};
-ghost use Rattle.reports.specs.Repetition.{Repeats};
+ghost use Rattle.reports.specs.Repetition.{repeatedCount};
 
 // One run after the other, or the first one alone.
 fn joined_if(both: bool, a: SpanCount, b: SpanCount) -> SpanCount
@@ -19,15 +19,15 @@ fn joined_if(both: bool, a: SpanCount, b: SpanCount) -> SpanCount
 
 // A run n times.
 pub fn repeated(a: SpanCount, n: u16) -> SpanCount
-    ensures { λ r. ⌜ Repeats n a r ⌝ }
+    ensures { λ r. ⌜ r ≡ repeatedCount n a ⌝ }
 {
     let mut all = empty_count(a.span.s);
     let mut part = a;
     let mut left = n;
-    while 0 < left {
+    while 1 < left {
         all = joined_if(left % 2 == 1, all, part);
-        part = joined_if(1 < left, part, part);
+        part = joined(part, part);
         left /= 2;
     }
-    all
+    joined_if(left == 1, all, part)
 }

@@ -1,4 +1,4 @@
--- `repeated`. Invariant: some passes are joined, some are one part, and the parts that are left make up the rest.
+-- `repeated`. Invariant: the passes of the lowest digits are joined, and the part has as many passes as the next digit stands for.
 use Rattle.reports.proofs.RepetitionLaws.{Repeating, repeat-none, repeat-more, repeat-done}
 use borrow.Author.Needs.{needs}
 use Rattle.reports.proofs.repetition.repeated.Statement.{statement}
@@ -19,14 +19,17 @@ loop-holds c = search (repeat-none)
 joined-if-requires : tie.Need-joined-if-requires Inv-loop μ-loop
 joined-if-requires c κs = search needs
 
-joined-if-requires-2 : tie.Need-joined-if-requires-2 Inv-loop μ-loop
-joined-if-requires-2 c κs = search needs
+joined-requires : tie.Need-joined-requires Inv-loop μ-loop
+joined-requires c κs = search needs
 
 loop-less : tie.Need-loop-less Inv-loop μ-loop
 loop-less c = search needs
 
 loop-again : tie.Need-loop-again Inv-loop μ-loop
 loop-again c = search (repeat-more)
+
+joined-if-requires-2 : tie.Need-joined-if-requires-2 Inv-loop μ-loop
+joined-if-requires-2 c κs = search needs
 
 returns : tie.Need-returns Inv-loop μ-loop
 returns c = search (repeat-done)
@@ -40,7 +43,8 @@ repeated-spec =
     empty-count-requires
     loop-holds
     joined-if-requires
-    joined-if-requires-2
+    joined-requires
     loop-less
     loop-again
+    joined-if-requires-2
     returns)
