@@ -87,9 +87,9 @@ module _ (b : List ℕ) (i : ℕ) (h : i < length (macrosIn b)) where
 
 -- the two results of a body
 module _ (b : List ℕ) (at : ℕ × ℕ) (m : ℕ) (g : Reading (List Macro)) where
-  pub body-none : (r : Refusal) (q : ℕ) → g ≡ refused r → q ≡ number r → ([] ≡ bodyOf b m g) × ((at ≡ bodyAt at (versionIn b) m g) × (q ≡ refusalOf g))
+  pub body-none : (r : Refusal) (q : ℕ) → g ≡ refused r → q ≡ number r → ([] ≡ bodyOf b (versionIn b) m g) × ((at ≡ bodyAt at (versionIn b) m g) × (q ≡ refusalOf g))
   body-none r q e f = (rw e, (rw e, rw e f))
 
   module _ (ms : List Macro) (rest : List ℕ) (e : g ≡ got ms rest) (p : List ℕ) (there : ℕ × ℕ) where
-    pub body-some : p ≡ bodyPart (versionIn b) b ms m → there ≡ (at .0, offset (versionIn b) ms m + 2 + at .1) → (p ≡ bodyOf b m g) × ((there ≡ bodyAt at (versionIn b) m g) × (0 ≡ refusalOf g))
+    pub body-some : p ≡ bodyPart (versionIn b) b ms m → there ≡ (at .0, offset (versionIn b) ms m + 2 + at .1) → (p ≡ bodyOf b (versionIn b) m g) × ((there ≡ bodyAt at (versionIn b) m g) × (0 ≡ refusalOf g))
     body-some f h = (rw e f, (rw e h, rw e))

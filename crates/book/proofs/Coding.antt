@@ -8,16 +8,16 @@ use mathlib.Core.List.{List, [], _∷_, _++_, append-assoc, append-nil}
 use lib.Dec.{leb, ltb, eqb}
 use lib.ListN.{length, drop, getD, length-drop, length-append}
 use lib.Seq.{drop-drop, getD-drop, take-at}
-use borrow.Author.Tests.{ltb-true, ltb-false, leb-true, eqb-true, lt-ltb, le-ltb, le-leb, ne-eqb, eq-eqb}
+use borrow.Author.Tests.{ltb-true, ltb-false, leb-true, eqb-true, lt-ltb, le-ltb, le-leb, ne-eqb}
 use Rattle.refusal.specs.declared.Refusal.the-variants.{UnsupportedVersion}
 use Rattle.book.specs.declared.item.Item.{Item}
 use Rattle.book.specs.declared.item.Item.the-variants.{Key, Call}
-use Rattle.book.specs.Reading.{got, refused, next, itemOf, le16, timesIn, checkItem, readItem, readItems, readMacro, readMacros, hasMagic, readHeader, versionIn, readAll, readIn, readBook}
-use Rattle.book.specs.Format.{Encodes, SoundIn, versions, Repeated, repeated, Macro, le16Bytes, code, magic, encodeItem, encodeItems, encodeMacros, encode, soundTarget, soundItem, soundItems, soundMacro, soundMacros, wellFormed, itemFits, itemsFit, fits, width}
+use Rattle.book.specs.Reading.{got, refused, itemOf, le16, timesIn, checkItem, readItem, readItems, readMacro, readMacros, hasMagic, readHeader, versionIn, readAll, readIn, readBook}
+use Rattle.book.specs.Format.{Encodes, SoundIn, Sound, versions, Repeated, repeated, Macro, le16Bytes, code, magic, encodeItem, encodeItems, encodeMacros, encode, soundTarget, soundItem, soundItems, soundMacro, soundMacros, wellFormed, itemFits, itemsFit, fits, width}
 use Rattle.book.specs.Offset.{size, offset, bodyPart}
-use Rattle.book.proofs.Items.{width-least, width-one, width-other}
 use Rattle.book.proofs.Readings.{more-got, same-got}
 use Rattle.book.proofs.Walks.{item-got}
+use Rattle.book.proofs.WellFormed.{one-fits-two}
 use Rattle.book.proofs.Offsets.{items-got, macro-parts, frontItem, item-is, macro-got, whole, version-there, book-at}
 use Rattle.runs.specs.Keys.{Bytes, member}
 use Rattle.runs.proofs.Tests.{and-both, and-parts, by-test}
@@ -303,6 +303,11 @@ sound-iff taken b h ms = (read-encodes taken b h ms [], λ s. encodes-read s)
 pub sound-accepted : (taken b : List ℕ) → Bytes b → SoundIn taken b ↔ ((ms : List Macro) × (readIn taken b ≡ got ms []))
 sound-accepted taken b h = (λ (v, ms, s). (ms, encodes-read s), λ (ms, e). (versionIn b, ms, read-encodes taken b h ms [] e))
 
+-- as the operations read it: "A book is sound if it keeps all that stands above, .. in a version that counts take"
+pub sound-book : (b : List ℕ) → Bytes b → Sound b ↔ ((ms : List Macro) × (readBook b ≡ got ms []))
+unfolding readBook
+sound-book b h = sound-accepted versions b h
+
 -- an encoding has one reading, and one version
 pub one-reading : {taken b : List ℕ} {v w : ℕ} {ms ns : List Macro} → Encodes taken b v ms → Encodes taken b w ns → (v ≡ w) × (ms ≡ ns)
 one-reading x y = (sym (encodes-version x) ∙ encodes-version y, same-got (sym (encodes-read x) ∙ encodes-read y) .0)
@@ -334,6 +339,10 @@ taken-alike s t b e = by-test (leb 7 (length b)) long short
 
     short : leb 7 (length b) ≡ false → readIn s b ≡ readIn t b
     short l = rw l refl
+
+-- a version 1 book has a form in version 2, with the same macros
+pub second-form : {b : List ℕ} {ms : List Macro} → Encodes versions b 1 ms → Encodes versions (encode 2 ms) 2 ms
+second-form {b} {ms} s = record { known = refl; well = s .well; written = one-fits-two ms (s .written); bytes = refl }
 
 -- "Version 1 books are read as ever"
 pub one-read-alike : (b : List ℕ) → versionIn b ≡ 1 → readBook b ≡ readIn (1 ∷ []) b

@@ -18,7 +18,7 @@ use Rattle.runs.specs.Keys.{isKey, isRun}
 use Rattle.runs.specs.Kept.{times}
 use Rattle.runs.proofs.Tests.{and-parts}
 use Rattle.runs.proofs.KeyLaws.{run-keys}
-use Rattle.runs.proofs.KeptLaws.{times-one}
+use Rattle.runs.proofs.KeptLaws.{times-none, times-suc, times-one}
 
 -- what a sound macro has: an item, and sound items
 macro-parts : (n : ℕ) (m : Macro) → soundMacro n m ≡ true → (1 ≤ length m) × (soundItems n m ≡ true)
@@ -193,9 +193,9 @@ expand-append called (i ∷ is) js =
 
 -- of an item that stands there n times its keys n times
 pub expand-times : (called : ℕ → List ℕ) (n : ℕ) (i : Item) → expand called (replicate n i) ≡ times n (keysOf called i)
-unfolding expand times
-expand-times called zero i = refl
-expand-times called (suc n) i = ap (λ (l : List ℕ). keysOf called i ++ l) (expand-times called n i)
+unfolding expand
+expand-times called zero i = sym (times-none (keysOf called i))
+expand-times called (suc n) i = ap (λ (l : List ℕ). keysOf called i ++ l) (expand-times called n i) ∙ sym (times-suc n (keysOf called i))
 
 -- so one item more writes its keys behind, as often as it stands there
 pub expand-more : (called : ℕ → List ℕ) (is : Macro) (i : Repeated) → expand called (unrolled (is ++ (i ∷ []))) ≡ expand called (unrolled is) ++ times (i .times) (keysOf called (i .item))

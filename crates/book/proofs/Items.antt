@@ -1,8 +1,8 @@
 -- The item at a place of some bytes, by the version of the book.
 use Prim.Native.Nat.{ℕ, _+_, _-_, _*_, _<_, _≤_}
 use native.Mathlib.Omega.{arith}
-use mathlib.Core.Path.{_≡_, refl, sym, _∙_}
-use mathlib.Core.List.{List, _∷_, []}
+use mathlib.Core.Path.{_≡_, refl, _∙_}
+use mathlib.Core.List.{List}
 use mathlib.Core.Bool.{Bool, true, false, cond, _||_, or-false}
 use lib.ListN.{length, drop, getD, length-drop}
 use lib.Seq.{getD-drop, drop-drop}
@@ -14,7 +14,7 @@ use Rattle.book.specs.Format.{width, versions}
 use Rattle.book.specs.Reading.{itemOf, le16, timesIn}
 use Rattle.book.specs.Promises.{numbersAt}
 use Rattle.runs.specs.Keys.{member}
-use Rattle.runs.proofs.Tests.{clash, by-test}
+use Rattle.runs.proofs.Tests.{clash}
 
 -- How many bytes an item has.
 module _ (version : ℕ) where

@@ -16,7 +16,7 @@ use Rattle.book.specs.declared.layout.Walk.{Walk}
 use Rattle.book.specs.Format.{Macro, versions, width}
 use Rattle.book.specs.Offset.{size, starts}
 use Rattle.book.specs.Reading.{Reading, got, refused, next, done, readHeader, readMacro, readMacros, readAll, readIn, readBook, versionIn}
-use Rattle.book.specs.Answer.{layoutFigures, bookLayout, layoutFor}
+use Rattle.book.specs.Answer.{layoutFigures, bookLayout, layoutFor, refusedLayout}
 use Rattle.book.specs.Promises.{walkOf, headerOf}
 use Rattle.book.proofs.LayoutLaws.{figures-laid}
 use Rattle.book.proofs.Header.{header-got, headed-macros, headed-refused}
@@ -63,7 +63,7 @@ module _ (version : ℕ) (s : List ℕ) (ev : version ≡ versionIn s) (count : 
     less : count - n ≡ suc (count - (n + 1))
     less = omega arith
 
-    pub laid-refused : (r : Refusal) (x : Layout) → w ≡ Walk.Refused r → x ≡ layoutFor 1 (refused r) → x ≡ layoutFor (versionIn s) (readAll (versionIn s) count (drop 7 s))
+    pub laid-refused : (r : Refusal) (x : Layout) → w ≡ Walk.Refused r → x ≡ refusedLayout r → x ≡ layoutFor (versionIn s) (readAll (versionIn s) count (drop 7 s))
     unfolding readAll readMacros prepend
     laid-refused r x f g =
         let stop : readMacro version n (drop at s) ≡ refused r = walked-refused (length s) (readMacro version n (drop at s)) r (sym e ∙ f) in
@@ -100,7 +100,7 @@ module _ (version : ℕ) (s : List ℕ) (ev : version ≡ versionIn s) (count : 
         let none : count - n ≡ 0 = omega arith in
         l .reading ∙ rw (none, append-nil)
 
-    pub laid-left : (x : Layout) → at < length s → x ≡ layoutFor 1 (refused MalformedBody) → x ≡ layoutFor (versionIn s) (readAll (versionIn s) count (drop 7 s))
+    pub laid-left : (x : Layout) → at < length s → x ≡ refusedLayout MalformedBody → x ≡ layoutFor (versionIn s) (readAll (versionIn s) count (drop 7 s))
     unfolding readAll
     laid-left x i f =
         let some : length (drop at s) ≡ 0 → ⊥ = rw length-drop (omega arith) in
@@ -128,6 +128,6 @@ module _ (s : List ℕ) (g : Header) (e : g ≡ headerOf (readHeader versions s)
       let (rest, h) = headed-macros (readHeader versions s) k (sym e ∙ f) in
       figures-laid (versionIn s) x (readBook s) (i ∙ rw (h, header-got versions s k rest h .behind))
 
-  pub whole-refused : (x : Layout) (r : Refusal) → g ≡ Header.Refused r → x ≡ layoutFor 1 (refused r) → layoutFigures x ≡ bookLayout s
+  pub whole-refused : (x : Layout) (r : Refusal) → g ≡ Header.Refused r → x ≡ refusedLayout r → layoutFigures x ≡ bookLayout s
   unfolding readBook readIn
   whole-refused x r f i = figures-laid (versionIn s) x (readBook s) (i ∙ rw (headed-refused (readHeader versions s) r (sym e ∙ f)))

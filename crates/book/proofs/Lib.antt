@@ -5,6 +5,8 @@ pub mod Items
 pub mod Walks
 pub mod Header
 pub mod Offsets
+pub mod Expansion
+pub mod WellFormed
 pub mod Coding
 pub mod Laid
 pub mod LayoutLaws
@@ -12,8 +14,6 @@ pub mod StepLaws
 pub mod Bodies
 pub mod MacroItems
 pub mod Requiring
-pub mod Expansion
-pub mod WellFormed
 pub mod Reach
 pub mod Sizes
 pub mod Prefix

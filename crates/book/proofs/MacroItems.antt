@@ -5,11 +5,10 @@ use native.Mathlib.Omega.{arith}
 use native.Mathlib.Numerals.{add-one}
 use mathlib.Core.Path.{_≡_, refl, sym, ap, _∙_}
 use mathlib.Core.Bool.{Bool, true, false, cond}
-use mathlib.Core.List.{List, [], _∷_, _++_, append-nil, List·Memᴰ, List·Memᴰ·head, Memᴰ·append-left, Memᴰ·append-right}
-use lib.Dec.{ltb, eqb}
-use lib.ListN.{length, drop, getD, set, take, replicate, length-append, length-drop, length-replicate, length-take, take-append-drop, List·getD-append}
-use lib.Seq.{append-snoc, drop-drop, getD-take, set-at, take-all, take-append-le, take-at, take-nil}
-use borrow.Author.Tests.{ltb-true, ltb-false}
+use mathlib.Core.List.{List, [], _∷_, _++_, List·Memᴰ, List·Memᴰ·head, Memᴰ·append-left, Memᴰ·append-right}
+use lib.Dec.{eqb}
+use lib.ListN.{length, drop, getD, set, take, replicate, length-append, length-drop, length-replicate, length-take, take-append-drop}
+use lib.Seq.{append-snoc, drop-drop, getD-take, set-at, take-all, take-append-le, take-nil}
 use Rattle.book.specs.declared.item.Item.{Item}
 use Rattle.book.specs.declared.item.ItemRead.{ItemRead}
 use Rattle.book.specs.declared.item.ItemRead.the-variants.{Found, Short}

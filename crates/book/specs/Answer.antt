@@ -4,6 +4,7 @@ use mathlib.Core.Bool.{cond}
 use mathlib.Core.List.{List, [], _++_}
 use lib.Dec.{ltb}
 use lib.ListN.{length, replicate}
+use Rattle.refusal.specs.declared.Refusal.{Refusal}
 use Rattle.refusal.specs.declared.Refusal.the-variants.{NoSuchMacro}
 use Rattle.refusal.specs.Number as Number
 use Rattle.refusal.specs.Figures.{Figures, answered, refusedFor}
@@ -42,24 +43,28 @@ layoutResult version g = record { check = checkResult g; offsets = offsetsOf ver
 abbrev pub bookLayout : List ℕ → LayoutFigures
 bookLayout b = layoutResult (versionIn b) (readBook b)
 
+-- the layout of a book that is refused
+abbrev pub refusedLayout : Refusal → Layout
+refusedLayout r = record { answer = Checked.Refused r; offsets = replicate 1025 0 }
+
 -- the layout with these figures, and that of a book's bytes; no public contract cites it
 abbrev pub layoutFor : ℕ → Reading (List Macro) → Layout
 layoutFor version (got ms rest) = record { answer = Checked.Sound (length ms); offsets = offsetsOf version (got ms rest) }
-layoutFor version (refused r) = record { answer = Checked.Refused r; offsets = offsetsOf version (refused r) }
+layoutFor version (refused r) = refusedLayout r
 
 unfoldable pub layout : List ℕ → Layout
 layout b = layoutFor (versionIn b) (readBook b)
 
--- 10 after 1 to 6: "m not below M"
+-- 10 after 1 to 6 and 20: "m not below M"
 unfoldable pub requireMacro : ℕ → Reader (List Macro)
 requireMacro m = do
   ms ← readBook
   λ rest. cond (ltb m (length ms)) (got ms rest) (refused NoSuchMacro)
 
--- the body of macro m; "a refused body is an empty part"
-abbrev pub bodyOf : List ℕ → ℕ → Reading (List Macro) → List ℕ
-bodyOf b m (got ms rest) = bodyPart (versionIn b) b ms m
-bodyOf b m (refused r) = []
+-- the body of macro m, in a book of a version; "a refused body is an empty part"
+abbrev pub bodyOf : List ℕ → ℕ → ℕ → Reading (List Macro) → List ℕ
+bodyOf b version m (got ms rest) = bodyPart version b ms m
+bodyOf b version m (refused r) = []
 
 -- where the body of macro m stands, in a book of a version that stands at p
 abbrev pub bodyAt : ℕ × ℕ → ℕ → ℕ → Reading (List Macro) → ℕ × ℕ

@@ -25,7 +25,7 @@ Macro = List Repeated
 abbrev pub le16Bytes : ℕ → List ℕ
 le16Bytes n = n % 256 ∷ n / 256 ∷ []
 
--- how many bytes an item has: "two-byte items"; "In a version 2 book an item is four bytes"
+-- how many bytes an item has: "two-byte items"; "In a version 2 book an item is four bytes", and so in every version that is not 1
 unfoldable pub width : ℕ → ℕ
 width version = cond (eqb version 1) 2 4
 

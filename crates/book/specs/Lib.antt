@@ -1,4 +1,4 @@
--- The macro book of document 01: its format, its reading, where its macros stand, their items, the written-out run of a macro, what a
+-- The macro book of documents 01 and 02: its format, its reading, where its macros stand, their items, the written-out run of a macro, what a
 -- macro reaches, what the operations answer, the steps that come before any work, and what private functions promise each other.
 pub mod Format
 pub mod Reading

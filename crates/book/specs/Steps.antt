@@ -28,7 +28,7 @@ abbrev pub answerBy : {A B : Type 0} → (Refusal → B) → (A → B) → Settl
 answerBy f g (refused r) = f r
 answerBy f g (settled a) = g a
 
--- "1 to 6 come in reading order, item by item": a sound book's macros
+-- "1 to 6 come in reading order, item by item", and 20 with them (document 02, S-8): a sound book's macros
 abbrev pub bookStep : Reading (List Macro) → Settled (List Macro)
 bookStep (Reading.refused r) = refused r
 bookStep (Reading.got ms rest) = settled ms

@@ -19,7 +19,7 @@ pub fn check(book: &[u8]) -> Checked
 
 // The body of macro m, as that part of the book; the refusal's number goes to `refused`, 0 if there is none.
 pub fn body<'a>(book: &'a [u8], m: usize, refused: &mut u8) -> &'a [u8]
-    ensures part { λ r. ⌜ now r ≡ bodyOf (now (book .entry)) m (requireMacro m (now (book .entry))) ⌝ }
+    ensures part { λ r. ⌜ now r ≡ bodyOf (now (book .entry)) (versionIn (now (book .entry))) m (requireMacro m (now (book .entry))) ⌝ }
     ensures offset { λ r. ⌜ ptr r ≡ bodyAt (ptr (book .entry)) (versionIn (now (book .entry))) m (requireMacro m (now (book .entry))) ⌝ }
     ensures number { λ _. ⌜ now (refused .exit) ≡ refusalOf (requireMacro m (now (book .entry))) ⌝ }
 {

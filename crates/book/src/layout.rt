@@ -17,8 +17,8 @@ ghost use lib.ListN.{length, drop, replicate};
 ghost use Rattle.refusal.specs.declared.Refusal.the-variants.{ZeroRepeatCount};
 ghost use Rattle.book.specs.declared.layout.Walk.{Walk};
 ghost use Rattle.book.specs.Format.{versions};
-ghost use Rattle.book.specs.Reading.{hasMagic, readAll, readHeader, readItem, readItems, readMacro, refused, versionIn};
-ghost use Rattle.book.specs.Answer.{bookLayout, layoutFigures, layoutFor};
+ghost use Rattle.book.specs.Reading.{hasMagic, readAll, readHeader, readItem, readItems, readMacro, versionIn};
+ghost use Rattle.book.specs.Answer.{bookLayout, layoutFigures, layoutFor, refusedLayout};
 ghost use Rattle.book.specs.Promises.{headerOf, walkOf};
 
 // Document 01's mark, which a book begins with.
@@ -147,7 +147,7 @@ fn check_macro(s: &[u8], at: usize, n: u16, version: u16) -> Walk
 }
 
 fn refused_layout(r: Refusal) -> Layout
-    ensures { λ x. ⌜ x ≡ layoutFor 1 (refused r) ⌝ }
+    ensures { λ x. ⌜ x ≡ refusedLayout r ⌝ }
 {
     Layout {
         answer: Checked::Refused(r),

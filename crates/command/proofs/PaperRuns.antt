@@ -1,5 +1,5 @@
--- Document 01, "Runs on both sides": the runs marked *, with the program's own example, in one table, and what document 02 says of case and of
--- line ends; and that each is as the papers say.
+-- Document 01, "Runs on both sides": the runs marked *, with the program's own example, in one table, and what document 02 says of case, of
+-- line ends and of repeat counts; and that each is as the papers say.
 use Prim.Native.Nat.{ℕ}
 use mathlib.Core.Path.{_≡_, refl}
 use mathlib.Core.Bool.{Bool, true, _&&_, xor}

@@ -99,7 +99,7 @@ abbrev pub countOf : ℕ → Query → List Macro → ℕ → List ℕ → Outco
 countOf version t ms m work = finishedBy (totalOf (matchingLines t ms m)) (stepsIn version (steps t ms m)) (filled t ms m work)
 
 -- "1 to 6 come in reading order, item by item; then 7; then 8 over the whole pattern; 9; 10; 11; 12."; "other lent memory is
--- unchanged"; of a book of a version
+-- unchanged"; of a book of a version, which 20 may refuse, too
 unfoldable pub countResult : Case → ℕ → Reading (List Macro) → reader.Read → ℕ → List ℕ → Outcome
 countResult c version book pattern m work =
     answerBy (λ r. stopped r work) (λ (ms, t). countOf version (query c t) ms m work) (front book pattern (λ t. needed (query c t) m) m (length work))

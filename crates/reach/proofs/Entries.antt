@@ -1,5 +1,5 @@
 -- Laws of the macros that a run enters.
-use Prim.Native.Nat.{ℕ, zero, suc, _+_, _<_}
+use Prim.Native.Nat.{ℕ, zero, suc, _<_}
 use native.Mathlib.Omega.{arith}
 use mathlib.Core.Path.{_≡_, refl, sym, ap, _∙_}
 use mathlib.Core.Logic.{_↔_}
@@ -8,6 +8,7 @@ use mathlib.Core.List.{List, [], _∷_, _++_, append-nil, append-assoc, map, Lis
 use lib.ListN.{getD, replicate}
 use Rattle.runs.specs.Keys.{member}
 use Rattle.runs.specs.Kept.{times}
+use Rattle.runs.proofs.KeptLaws.{times-none, times-suc}
 use Rattle.runs.proofs.KeyLaws.{member-iff}
 use Rattle.book.specs.declared.item.Item.{Item}
 use Rattle.book.specs.declared.item.Item.the-variants.{Key, Call}
@@ -43,9 +44,9 @@ keys-enter f zero k = refl
 keys-enter f (suc n) k = keys-enter f n k
 
 calls-enter : (f : ℕ → List ℕ) (n j : ℕ) → entriesOf f (replicate n (Call j)) ≡ times n (f j)
-unfolding entriesOf times
-calls-enter f zero j = refl
-calls-enter f (suc n) j = ap (λ (l : List ℕ). f j ++ l) (calls-enter f n j)
+unfolding entriesOf
+calls-enter f zero j = sym (times-none (f j))
+calls-enter f (suc n) j = ap (λ (l : List ℕ). f j ++ l) (calls-enter f n j) ∙ sym (times-suc n (f j))
 
 -- one item more, as often as it stands there
 module _ (f : ℕ → List ℕ) (is : Macro) (n : ℕ) where

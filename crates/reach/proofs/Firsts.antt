@@ -72,7 +72,7 @@ extend-times listed js n h =
     ∙ extend-append listed js (times (n - 1) js)
     ∙ extend-all (extend listed js) (times (n - 1) js) (λ j m. rw (extend-has listed js j) (or-right (member j listed) (member j js) (member-iff j js .1 (times-member (n - 1) js (member-iff j (times (n - 1) js) .0 m)))))
 
--- and not less
+-- what is listed then is not less than what was
 pub extend-longer : (listed js : List ℕ) → length listed ≤ length (extend listed js)
 extend-longer listed [] = rw (extend-none listed) (omega arith)
 extend-longer listed (j ∷ js) =

@@ -80,9 +80,12 @@ pub times-none : (w : List ℕ) → times 0 w ≡ []
 unfolding times
 times-none w = refl
 
-pub times-more : (n : ℕ) (w : List ℕ) → times (n + 1) w ≡ w ++ times n w
+pub times-suc : (n : ℕ) (w : List ℕ) → times (suc n) w ≡ w ++ times n w
 unfolding times
-times-more n w = rw (add-one n) refl
+times-suc n w = refl
+
+pub times-more : (n : ℕ) (w : List ℕ) → times (n + 1) w ≡ w ++ times n w
+times-more n w = rw (add-one n) (times-suc n w)
 
 pub times-length : (n : ℕ) (w : List ℕ) → length (times n w) ≡ n * length w
 unfolding times

@@ -103,7 +103,7 @@ pub nothing-deep : (book : List ℕ) (n : ℕ) (keys : Delimiters) (text : List 
 unfolding NamedDepths
 nothing-deep book n keys text e f b g = number-none text e f
 
--- What the command is refused for: 1 to 6, 10, 18 and 19. With words for 1,024 macros 11 is never answered.
+-- What the command is refused for: 1 to 6, 10, and 18 to 20. With words for 1,024 macros 11 is never answered.
 answer-known : (keys : Delimiters) (b : List ℕ) (m : ℕ) → KnownRefusal (depthAnswer keys b m .refusal)
 unfolding depthAnswer
 answer-known keys b m = depth-refusals (keys .opening) (keys .closing) b m (replicate mostWords 0) (omega (arith, length-replicate {A = ℕ} mostWords 0))

@@ -1,5 +1,5 @@
 -- Laws of the reach list of the macro that a command names, or of the last one.
-use Prim.Native.Nat.{ℕ, _≤_}
+use Prim.Native.Nat.{ℕ}
 use mathlib.Core.Path.{_≡_, refl, ap}
 use mathlib.Core.Logic.{_⊎_}
 use mathlib.Core.List.{List}
@@ -44,7 +44,7 @@ pub nothing-reached : (book : List ℕ) (n : ℕ) (text : List ℕ) {a : Number}
 unfolding NamedReached
 nothing-reached book n text e list f b g = (number-none text e f, refl)
 
--- What the command is refused for: 1 to 6, and 10. With 1,024 entries 11 is never answered.
+-- What the command is refused for: 1 to 6, 20, and 10. With 1,024 entries 11 is never answered.
 module _ (book : List ℕ) (n : ℕ) (before after : List ℕ) (long : length before ≡ 1024) where
   pub reach-last-refusals : (f : Figures ℕ) → LastReached book n f before after → BookNumber (f .refusal) ⊎ (f .refusal ≡ 10)
   unfolding LastReached
