@@ -39,9 +39,10 @@ lacks 'union of stateset is public and has a requires' crates/stateset/src/lib.r
 lacks 'more of refusal is not in the table' crates/refusal/src/lib.rt sed -i '$a pub fn more(n: u64) -> u64\n{\n    n\n}'
 lacks 'there is no public function sum of reports' crates/reports/src/total.rt sed -i 's/^pub fn sum(/pub(crate) fn sum(/'
 lacks 'counter has' crates/counter/must-fail/count_zero.edit rm
-lacks 'rows of `paper-runs`: 33' crates/command/proofs/PaperRuns.antt sed -i '/row (programSteps example)/d'
+lacks 'rows of `paper-runs`: 45' crates/command/proofs/PaperRuns.antt sed -i '/row (programSteps example)/d'
 lacks 'fixed cases of `cases`' crates/cases/stdout sed -i '7d'
 lacks 'fixed cases of depths' tests/depth/stdout sed -i '7d'
 lacks 'fixed cases of joining' tests/joining/stdout sed -i '7d'
+lacks 'fixed cases of repeat counts' tests/repeats/stdout sed -i '7d'
 lacks 'patterns of `pattern_cases`' crates/pattern_cases/stdin sed -i '7d'
 finish
