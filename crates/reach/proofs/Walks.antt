@@ -26,7 +26,8 @@ use Rattle.book.proofs.Reach.{reach-trans}
 use Rattle.book.proofs.LayoutLaws.{macros-few, well-in}
 use Rattle.book.proofs.MacroItems.{count-few, items-all, items-more, item-among}
 use Rattle.reach.specs.Entries.{entriesOf, entries, reachList}
-use Rattle.reach.specs.Promises.{MacroOf, Entering, Entered, calledBy, extend, Walk, Closed}
+use Rattle.reach.specs.declared.listing.Codes.{Codes}
+use Rattle.reach.specs.Promises.{codesFrom, MacroOf, Entering, Entered, calledBy, extend, Walk, Closed}
 use Rattle.reach.proofs.Firsts.{member-append, extend-none, extend-new, extend-append, extend-all, extend-times, extend-has, extend-longer, extend-firsts, once-none, once-more, once-room}
 use Rattle.reach.proofs.Entries.{entriesOf-none, entriesOf-key, entriesOf-call, entries-law, entries-iff}
 
@@ -185,33 +186,55 @@ module _ {ms : List Macro} {i : ℕ} {front before : List ℕ} {is : Macro} {k :
         closed = rw same (closed-more ms sound i (listedBy ms front (take k is)) j (x .closed));
       }
 
+-- what `codes_of` keeps of a macro's items
+pub codes-told : (b offsets : List ℕ) (i : ℕ) {r : Items} → r ≡ itemsFrom b offsets i → record { codes = r .codes; count = r .count } ≡ codesFrom b offsets i
+codes-told b offsets i e = ap (λ (x : Items). record { codes = x .codes; count = x .count }) e
+
 -- The turns of the loop over a macro's items.
-module _ (b offsets : List ℕ) (i n : ℕ) (marks : List Bool) (list : List ℕ) (x : Entered b offsets i n marks list) (r : Items) (e : r ≡ itemsFrom b offsets i) where
+module _ (b offsets : List ℕ) (i n : ℕ) (marks : List Bool) (list : List ℕ) (x : Entered b offsets i n marks list) (q : Codes) (f : q ≡ codesFrom b offsets i) where
+  abbrev r : Items
+  r = itemsFrom b offsets i
+
+  count-is : q .count ≡ r .count
+  count-is = ap (λ (x : Codes). x .count) f
+
+  code-is : (k : ℕ) → getD (q .codes) k 0 ≡ getD (r .codes) k 0
+  code-is k = ap (λ (x : Codes). getD (x .codes) k 0) f
+
+  e : r ≡ itemsFrom b offsets i
+  e = refl
+
   abbrev Turn : ℕ → List ℕ → List Bool → ℕ → Type 0
-  Turn k now made listed = Within (macrosIn b) i (take n list) list (decoded r) k now made listed
+  Turn k now made listed = Within (macrosIn b) i (take n list) list (decoded (itemsFrom b offsets i)) k now made listed
 
   pub turn-first : Turn 0 list marks n
   turn-first =
       let none : listedBy (macrosIn b) (take n list) (take 0 (decoded r)) ≡ take n list = rw (unrolled-none, entriesOf-none (λ j. entries (macrosIn b) j)) (extend-none (take n list)) in
       record { walk = rw none (x .walk); closed = rw none (x .closed) }
 
-  pub turn-few : (k : ℕ) → k < r .count → k < 64
-  turn-few k h = omega (arith, count-few b offsets i e)
+  pub turn-few : (k : ℕ) → k < q .count → k < 64
+  turn-few k h = omega (arith, count-is, count-few b offsets i e)
 
   module _ (k : ℕ) (now : List ℕ) (made : List Bool) (listed : ℕ) (v : Turn k now made listed) where
     pub turn-long : length now ≡ length list
     turn-long = walk-long (v .walk)
 
-    pub turn-end : r .count ≤ k → Walk (extend (take n list) (calledBy (macrosIn b) i)) list now made listed
-    turn-end l = rw (← items-all b offsets i (x .place .table) (x .place .inside) e k l) (v .walk)
+    pub turn-end : q .count ≤ k → Walk (extend (take n list) (calledBy (macrosIn b) i)) list now made listed
+    turn-end l = rw (← items-all b offsets i (x .place .table) (x .place .inside) e k (omega (arith, count-is))) (v .walk)
 
-    module _ (l : k < r .count) (item : Item) (f : item ≡ itemOf (getD (r .codes) k 0)) where
+    module _ (within-count : k < q .count) (item : Item) (told : item ≡ itemOf (getD (q .codes) k 0)) where
+      l : k < r .count
+      l = omega (arith, count-is)
+
+      here : item ≡ itemOf (getD (r .codes) k 0)
+      here = told ∙ ap itemOf (code-is k)
+
       pub turn-key : (c : ℕ) → item ≡ Key c → Turn (k + 1) now made listed
-      turn-key c g = within-key v c (getD (r .times) k 0) (rw g at (items-more b offsets i (x .place .table) (x .place .inside) e k l f))
+      turn-key c g = within-key v c (getD (r .times) k 0) (rw g at (items-more b offsets i (x .place .table) (x .place .inside) e k l here))
 
       module _ (j : ℕ) (g : item ≡ Call j) where
         pub turn-lower : j < i
-        turn-lower = well-call (macrosIn b) (well-in b (x .place .inside)) i (rw g at (item-among b offsets i (x .place .table) (x .place .inside) e k l f))
+        turn-lower = well-call (macrosIn b) (well-in b (x .place .inside)) i (rw g at (item-among b offsets i (x .place .table) (x .place .inside) e k l here))
 
         pub turn-enters : Entering b offsets j listed made now
         turn-enters =
@@ -223,7 +246,7 @@ module _ (b offsets : List ℕ) (i n : ℕ) (marks : List Bool) (list : List ℕ
             }
 
         pub turn-call : {after : List ℕ} {more : List Bool} {t : ℕ} → Walk (extend (take listed now) (entries (macrosIn b) j)) now after more t → Turn (k + 1) after more t
-        turn-call w = within-call v (well-in b (x .place .inside)) j (getD (r .times) k 0) (well-times (macrosIn b) (well-in b (x .place .inside)) i (item-among b offsets i (x .place .table) (x .place .inside) e k l f)) (rw g at (items-more b offsets i (x .place .table) (x .place .inside) e k l f)) w
+        turn-call w = within-call v (well-in b (x .place .inside)) j (getD (r .times) k 0) (well-times (macrosIn b) (well-in b (x .place .inside)) i (item-among b offsets i (x .place .table) (x .place .inside) e k l here)) (rw g at (items-more b offsets i (x .place .table) (x .place .inside) e k l here)) w
 
 -- The whole walk.
 

@@ -9,14 +9,20 @@ use Rattle.runs.specs.Kept.{over}
 use Rattle.book.specs.Format.{Macro}
 use Rattle.book.specs.Answer.{layout}
 use Rattle.book.specs.Expansion.{unrolled}
+use Rattle.book.specs.MacroItems.{itemsFrom}
 use Rattle.book.specs.Reach.{Reaches}
 use Rattle.book.specs.Reading.{macrosIn}
+use Rattle.reach.specs.declared.listing.Codes.{Codes}
 use Rattle.reach.specs.Entries.{entriesOf, entries}
 
 -- the offsets of a book's layout, and a macro of the book
 pub record MacroOf (b offsets : List ℕ) (m : ℕ) : Type 0 where
   pub table : offsets ≡ layout b .offsets
   pub inside : m < length (macrosIn b)
+
+-- the numbers of macro i's items, where `offsets` says where the macros start
+abbrev pub codesFrom : List ℕ → List ℕ → ℕ → Codes
+codesFrom b offsets i = record { codes = itemsFrom b offsets i .codes; count = itemsFrom b offsets i .count }
 
 -- some numbers, and behind them those of others that are new
 unfoldable pub extend : List ℕ → List ℕ → List ℕ

@@ -12,12 +12,18 @@ ghost use Rattle.runs.specs.Kept.{over};
 ghost use Rattle.book.specs.Reading.{macrosIn};
 ghost use Rattle.reach.specs.Entries.{entries, reachList};
 ghost use Rattle.reach.specs.Answer.{ReachAnswer, reachedFigures, requireEntries};
-ghost use Rattle.reach.specs.Promises.{Entered, Entering, MacroOf, Walk, calledBy, extend};
+ghost use Rattle.reach.specs.Promises.{Entered, Entering, MacroOf, Walk, calledBy, codesFrom, extend};
 
 // How many numbers were written, or why none was.
 pub enum Reached {
     Written(usize),
     Refused(Refusal),
+}
+
+// The numbers of a macro's items.
+struct Codes {
+    codes: [u16; 64],
+    count: usize,
 }
 
 // Lists macro i behind n numbers; answers how many there are then.
@@ -51,7 +57,21 @@ fn enter(
     enter_items(book, offsets, i, listed, marks, list)
 }
 
-// Enters each macro that the items of macro i call, in order.
+// What the items of macro i are, without how often each stands there: the walk keeps them for each macro that it is in, so they are to
+// be few bytes.
+fn codes_of(book: &[u8], offsets: &[usize; 1025], i: usize) -> Codes
+    ensures { λ r. ⌜ r ≡ codesFrom (now (book .entry)) (now (offsets .entry)) i ⌝ }
+{
+    let items = items_of(book, offsets, i);
+    let codes = items.codes;
+    Codes {
+        codes: codes,
+        count: items.count,
+    }
+}
+
+// Enters each macro that the items of macro i call, in order. However often an item stands there, its macro is entered first at the first
+// time.
 fn enter_items(
     book: &[u8],
     offsets: &[usize; 1025],
@@ -63,7 +83,7 @@ fn enter_items(
     requires { ⌜ Entered (now book) (now offsets) i n (now marks) (now list) ⌝ }
     ensures { λ r. ⌜ Walk (extend (take n (now (list .entry))) (calledBy (macrosIn (now (book .entry))) i)) (now (list .entry)) (now (list .exit)) (now (marks .exit)) r ⌝ }
 {
-    let items = items_of(book, offsets, i);
+    let items = codes_of(book, offsets, i);
     let count = items.count;
     let mut listed = n;
     for k in 0..count {

@@ -7,7 +7,7 @@ use lib.ListN.{take}
 use borrow.Author.Needs.{needs}
 use borrow.Fn.Kinds.{In}
 use borrow.Fn.PlainCycle.{Measures, is, falls, and}
-use Rattle.book.specs.MacroItems.{decoded}
+use Rattle.book.specs.MacroItems.{decoded, itemsFrom}
 use Rattle.book.specs.Reading.{macrosIn}
 use Rattle.reach.proofs.Walks as laws
 use Rattle.reach.proofs.listing.enter.Reads as enter
@@ -17,7 +17,7 @@ use Rattle.reach.proofs.listing.enter_items.Reads as enter-items
 use Rattle.reach.proofs.listing.enter_items.Kinds as enter-items-kinds
 use Rattle.reach.proofs.listing.+enter+enter_items.Lts-enter_items as enter-items-lts
 use Rattle.book.proofs.item_of.Reads as item-of-reads
-use Rattle.book.proofs.items_of.Reads as items-of-reads
+use Rattle.reach.proofs.listing.codes_of.Reads as codes-of-reads
 use Rattle.reach.proofs.listing.put.Reads as put-reads
 use Rattle.reach.proofs.listing.+enter+enter_items.{statement}
 use Rattle.reach.proofs.listing.+enter+enter_items.Tie.{close}
@@ -43,7 +43,7 @@ enter-items-below t =
     and 4 enter-items-kinds.ps (falls 4 enter-items-kinds.ps _<_ μ-enter-items t) enter-items.Pre
 
 abbrev Inv-loop : enter-items-lts.InvT-loop
-Inv-loop book offsets i n marks₀ list₀ items count listed₀ k₀ marks list listed k = laws.Within (macrosIn book) i (take n list₀) list₀ (decoded items) k list marks listed
+Inv-loop book offsets i n marks₀ list₀ items count listed₀ k₀ marks list listed k = laws.Within (macrosIn book) i (take n list₀) list₀ (decoded (itemsFrom book offsets i)) k list marks listed
 
 abbrev μ-loop : enter-items-lts.MeasureT-loop
 μ-loop book offsets i n marks₀ list₀ items count listed₀ k₀ marks list listed k = items .count - k
@@ -65,8 +65,8 @@ pub +enter+enter-items-spec : {M : Type 1} → statement M
     (λ c. search needs)
     (λ c. search (laws.enter-left)))
     λ t. enter-items-lts.spec (
-      items-of-reads.Asked,
-      items-of-reads.Learnt,
+      codes-of-reads.Asked,
+      codes-of-reads.Learnt,
       item-of-reads.Asked,
       item-of-reads.Learnt,
       enter-below t,
@@ -81,7 +81,7 @@ pub +enter+enter-items-spec : {M : Type 1} → statement M
     (λ c.
     let e = c .before .before in
     let s = e .before .before .before in
-    omega (arith, laws.turn-few _ _ _ _ _ _ (s .pre .1) _ (e .items-of .ensures) _ (c .loop-test .taken)))
+    omega (arith, laws.turn-few _ _ _ _ _ _ (s .pre .1) _ (e .codes-of .ensures) _ (c .loop-test .taken)))
     (λ c. search (laws.turn-few))
     (λ c κs. search needs)
     (λ c. search needs)
@@ -93,8 +93,8 @@ pub +enter+enter-items-spec : {M : Type 1} → statement M
     let l = turn .before in
     let e = l .before in
     let s = e .before .before .before in
-    let lower = laws.turn-lower _ _ _ _ _ _ (s .pre .1) _ (e .items-of .ensures) _ _ _ _ (l .loop .inv) (turn .loop-test .taken) _ (item .item-of .ensures) _ (j .j .given .1) in
-    (omega (arith, lower, s .pre .0), laws.turn-enters _ _ _ _ _ _ (s .pre .1) _ (e .items-of .ensures) _ _ _ _ (l .loop .inv) (turn .loop-test .taken) _ (item .item-of .ensures) _ (j .j .given .1)))
+    let lower = laws.turn-lower _ _ _ _ _ _ (s .pre .1) _ (e .codes-of .ensures) _ _ _ _ (l .loop .inv) (turn .loop-test .taken) _ (item .item-of .ensures) _ (j .j .given .1) in
+    (omega (arith, lower, s .pre .0), laws.turn-enters _ _ _ _ _ _ (s .pre .1) _ (e .codes-of .ensures) _ _ _ _ (l .loop .inv) (turn .loop-test .taken) _ (item .item-of .ensures) _ (j .j .given .1)))
     (λ c. search needs)
     (λ c. search needs)
     (λ c. search needs)
@@ -105,8 +105,8 @@ pub +enter+enter-items-spec : {M : Type 1} → statement M
     let e = l .before in
     let s = e .before .before .before in
     ⊎-elim
-    (λ w. rw (w .8, w .9, w .10) (laws.turn-call _ _ _ _ _ _ (s .pre .1) _ (e .items-of .ensures) _ _ _ _ (l .loop .inv) (turn .loop-test .taken) _ (item .item-of .ensures) _ (w .1 .given .1) (w .5 .ensures)))
-    (λ w. rw (w .2, w .3, w .4) (laws.turn-key _ _ _ _ _ _ (s .pre .1) _ (e .items-of .ensures) _ _ _ _ (l .loop .inv) (turn .loop-test .taken) _ (item .item-of .ensures) _ (w .1 .given .1)))
+    (λ w. rw (w .8, w .9, w .10) (laws.turn-call _ _ _ _ _ _ (s .pre .1) _ (e .codes-of .ensures) _ _ _ _ (l .loop .inv) (turn .loop-test .taken) _ (item .item-of .ensures) _ (w .1 .given .1) (w .5 .ensures)))
+    (λ w. rw (w .2, w .3, w .4) (laws.turn-key _ _ _ _ _ _ (s .pre .1) _ (e .codes-of .ensures) _ _ _ _ (l .loop .inv) (turn .loop-test .taken) _ (item .item-of .ensures) _ (w .1 .given .1)))
     (c .match .came))
     (λ c. search (laws.turn-long))
     (λ c. search (laws.turn-end))
