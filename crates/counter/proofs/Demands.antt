@@ -127,6 +127,10 @@ module _ (t : Query) where
       within : (items : Macro) → itemSteps t (λ j. expansion ms j) items ≤ length items * (states t * states t)
       within items = sum-le (length items) (states t * states t) (λ k. pairs t (expand (λ j. expansion ms j) (unrolled (take k items)))) (λ k l. pairs-square t (expand (λ j. expansion ms j) (unrolled (take k items))))
 
+-- so are those of an answer of version 1
+pub steps-within : {c : Case} {b p work : List ℕ} {ms : List Macro} {t : Pattern} {m : ℕ} (a : Countable c b p work ms t m) → a .version ≡ 1 → matchingLines (query c t) ms m ≤ most → bookResult c b p m work .steps ≤ itemsTo ms m * (states (query c t) * states (query c t))
+steps-within {c} {ms = ms} {t = t} {m = m} a e h = rw (steps-equal a e h) (steps-bound (query c t) ms m)
+
 -- So many words are enough for every sound book and accepted pattern.
 pub needed-most : (c : Case) (b p : List ℕ) (t : Pattern) (m : ℕ) → reader.readPattern p ≡ reader.accepted t → m < length (macrosIn b) → needed (query c t) m ≤ mostWords
 needed-most c b p t m e h =

@@ -5,7 +5,7 @@ use native.Mathlib.Numerals.{add-one}
 use mathlib.Core.Path.{_≡_, refl, sym, ap, _∙_}
 use mathlib.Core.Logic.{_⊎_, ⊎-elim}
 use mathlib.Core.Bool.{Bool, true, false, or-false, or-true}
-use mathlib.Core.List.{List, [], _∷_, _++_}
+use mathlib.Core.List.{List, [], _∷_, _++_, List·Memᴰ}
 use lib.Dec.{eqb}
 use lib.ListN.{length, getD, set, take, drop, replicate, length-append, length-set, length-replicate, getD-replicate, take-append-drop}
 use lib.Seq.{drop-set-lt, getD-set-same, getD-set-other, take-at, take-suc-set}
@@ -191,50 +191,54 @@ pub codes-told : (b offsets : List ℕ) (i : ℕ) {r : Items} → r ≡ itemsFro
 codes-told b offsets i e = ap (λ (x : Items). record { codes = x .codes; count = x .count }) e
 
 -- The turns of the loop over a macro's items.
-module _ (b offsets : List ℕ) (i n : ℕ) (marks : List Bool) (list : List ℕ) (x : Entered b offsets i n marks list) (q : Codes) (f : q ≡ codesFrom b offsets i) where
-  abbrev r : Items
-  r = itemsFrom b offsets i
+module _ (b offsets : List ℕ) (i n : ℕ) (marks : List Bool) (list : List ℕ) (x : Entered b offsets i n marks list) (numbers : Codes) (e : numbers ≡ codesFrom b offsets i) where
+  abbrev items : Items
+  items = itemsFrom b offsets i
 
-  count-is : q .count ≡ r .count
-  count-is = ap (λ (x : Codes). x .count) f
+  count-is : numbers .count ≡ items .count
+  count-is = ap (λ (c : Codes). c .count) e
 
-  code-is : (k : ℕ) → getD (q .codes) k 0 ≡ getD (r .codes) k 0
-  code-is k = ap (λ (x : Codes). getD (x .codes) k 0) f
-
-  e : r ≡ itemsFrom b offsets i
-  e = refl
+  code-is : (k : ℕ) → getD (numbers .codes) k 0 ≡ getD (items .codes) k 0
+  code-is k = ap (λ (c : Codes). getD (c .codes) k 0) e
 
   abbrev Turn : ℕ → List ℕ → List Bool → ℕ → Type 0
-  Turn k now made listed = Within (macrosIn b) i (take n list) list (decoded (itemsFrom b offsets i)) k now made listed
+  Turn k now made listed = Within (macrosIn b) i (take n list) list (decoded items) k now made listed
 
   pub turn-first : Turn 0 list marks n
   turn-first =
-      let none : listedBy (macrosIn b) (take n list) (take 0 (decoded r)) ≡ take n list = rw (unrolled-none, entriesOf-none (λ j. entries (macrosIn b) j)) (extend-none (take n list)) in
+      let none : listedBy (macrosIn b) (take n list) (take 0 (decoded items)) ≡ take n list = rw (unrolled-none, entriesOf-none (λ j. entries (macrosIn b) j)) (extend-none (take n list)) in
       record { walk = rw none (x .walk); closed = rw none (x .closed) }
 
-  pub turn-few : (k : ℕ) → k < q .count → k < 64
-  turn-few k h = omega (arith, count-is, count-few b offsets i e)
+  pub turn-few : (k : ℕ) → k < numbers .count → k < 64
+  turn-few k h = omega (arith, count-is, count-few b offsets i {r = items} refl)
 
   module _ (k : ℕ) (now : List ℕ) (made : List Bool) (listed : ℕ) (v : Turn k now made listed) where
     pub turn-long : length now ≡ length list
     turn-long = walk-long (v .walk)
 
-    pub turn-end : q .count ≤ k → Walk (extend (take n list) (calledBy (macrosIn b) i)) list now made listed
-    turn-end l = rw (← items-all b offsets i (x .place .table) (x .place .inside) e k (omega (arith, count-is))) (v .walk)
+    pub turn-end : numbers .count ≤ k → Walk (extend (take n list) (calledBy (macrosIn b) i)) list now made listed
+    turn-end l = rw (← items-all b offsets i (x .place .table) (x .place .inside) {r = items} refl k (omega (arith, count-is))) (v .walk)
 
-    module _ (within-count : k < q .count) (item : Item) (told : item ≡ itemOf (getD (q .codes) k 0)) where
-      l : k < r .count
-      l = omega (arith, count-is)
+    module _ (h : k < numbers .count) (item : Item) (told : item ≡ itemOf (getD (numbers .codes) k 0)) where
+      inside : k < items .count
+      inside = omega (arith, count-is)
 
-      here : item ≡ itemOf (getD (r .codes) k 0)
+      here : item ≡ itemOf (getD (items .codes) k 0)
       here = told ∙ ap itemOf (code-is k)
 
+      -- the item is one of the macro's, as often as it stands there
+      among : List·Memᴰ (repeated item (getD (items .times) k 0)) (getD (macrosIn b) i [])
+      among = item-among b offsets i (x .place .table) (x .place .inside) {r = items} refl k inside here
+
+      next : take (k + 1) (decoded items) ≡ take k (decoded items) ++ (repeated item (getD (items .times) k 0) ∷ [])
+      next = items-more b offsets i (x .place .table) (x .place .inside) {r = items} refl k inside here
+
       pub turn-key : (c : ℕ) → item ≡ Key c → Turn (k + 1) now made listed
-      turn-key c g = within-key v c (getD (r .times) k 0) (rw g at (items-more b offsets i (x .place .table) (x .place .inside) e k l here))
+      turn-key c g = within-key v c (getD (items .times) k 0) (rw g at next)
 
       module _ (j : ℕ) (g : item ≡ Call j) where
         pub turn-lower : j < i
-        turn-lower = well-call (macrosIn b) (well-in b (x .place .inside)) i (rw g at (item-among b offsets i (x .place .table) (x .place .inside) e k l here))
+        turn-lower = well-call (macrosIn b) (well-in b (x .place .inside)) i (rw g at among)
 
         pub turn-enters : Entering b offsets j listed made now
         turn-enters =
@@ -246,7 +250,7 @@ module _ (b offsets : List ℕ) (i n : ℕ) (marks : List Bool) (list : List ℕ
             }
 
         pub turn-call : {after : List ℕ} {more : List Bool} {t : ℕ} → Walk (extend (take listed now) (entries (macrosIn b) j)) now after more t → Turn (k + 1) after more t
-        turn-call w = within-call v (well-in b (x .place .inside)) j (getD (r .times) k 0) (well-times (macrosIn b) (well-in b (x .place .inside)) i (item-among b offsets i (x .place .table) (x .place .inside) e k l here)) (rw g at (items-more b offsets i (x .place .table) (x .place .inside) e k l here)) w
+        turn-call w = within-call v (well-in b (x .place .inside)) j (getD (items .times) k 0) (well-times (macrosIn b) (well-in b (x .place .inside)) i among) (rw g at next) w
 
 -- The whole walk.
 
