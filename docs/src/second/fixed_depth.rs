@@ -3,7 +3,7 @@
 use crate::case::Case;
 use crate::depth::Keys;
 use crate::fixed::Fixed;
-use crate::make_book::{call, write, Macros};
+use crate::make_book::{named, write, Macros};
 
 /// More words than any case needs.
 pub const MANY: usize = 4_096;
@@ -116,17 +116,7 @@ fn known(rows: Rows) -> Vec<Row> {
 
 /// The macros that such texts stand for.
 pub fn macros(texts: &[&str]) -> Macros {
-    texts.iter().map(|text| text.split(' ').map(item).collect()).collect()
-}
-
-fn item(word: &str) -> u16 {
-    match word {
-        "LF" => 10,
-        "CR" => 13,
-        "ONE" => 1,
-        "TOP" => 255,
-        _ => word.parse().map_or_else(|_| u16::from(word.as_bytes()[0]), call),
-    }
+    texts.iter().map(|text| text.split(' ').map(named).collect()).collect()
 }
 
 pub fn asked(number: usize, words: usize, keys: Keys, book: Vec<u8>, stated: &str) -> Fixed {

@@ -16,6 +16,17 @@ pub fn call(number: usize) -> u16 {
     FIRST_CALL + number as u16
 }
 
+/// The item that a word stands for: a key, by a letter or a name, or the call of a macro, by its number.
+pub fn named(word: &str) -> u16 {
+    match word {
+        "LF" => 10,
+        "CR" => 13,
+        "ONE" => 1,
+        "TOP" => 255,
+        _ => word.parse().map_or_else(|_| u16::from(word.as_bytes()[0]), call),
+    }
+}
+
 pub fn keys(text: &[u8]) -> Vec<u16> {
     text.iter().map(|&key| u16::from(key)).collect()
 }

@@ -1,8 +1,9 @@
 //! Damaged books of version 2: one or two faults put into a sound one (document 02, S-8).
 
+use crate::make_damage::{damage_item, damage_item_count, put, shift, some_item};
 use crate::rng::Rng;
 
-/// So many bytes an item has.
+/// So many bytes an item of version 2 has.
 const ITEM: usize = 4;
 
 pub fn damage(rng: &mut Rng, bytes: &mut Vec<u8>) {
@@ -24,8 +25,8 @@ fn damage_once(rng: &mut Rng, bytes: &mut Vec<u8>) {
         3 => bytes.truncate(rng.below(length)),
         4..=5 => bytes.truncate(length - rng.between(1, 4)),
         6 => bytes.extend((0..rng.between(1, 5)).map(|place| place as u8)),
-        7 => damage_item_count(rng, bytes),
-        8..=9 => damage_item(rng, bytes),
+        7 => damage_item_count(rng, bytes, ITEM),
+        8..=9 => damage_item(rng, bytes, ITEM),
         10..=13 => no_repeat(rng, bytes),
         _ => {
             let place = rng.below(length);
@@ -34,68 +35,9 @@ fn damage_once(rng: &mut Rng, bytes: &mut Vec<u8>) {
     }
 }
 
-fn put(bytes: &mut [u8], at: usize, number: u16) {
-    bytes[at..at + 2].copy_from_slice(&number.to_le_bytes());
-}
-
-fn get(bytes: &[u8], at: usize) -> usize {
-    usize::from(bytes[at]) + 256 * usize::from(bytes[at + 1])
-}
-
-/// One more or one less than stands there.
-fn shift(rng: &mut Rng, bytes: &mut [u8], at: usize) {
-    let number = get(bytes, at) as u16;
-    put(bytes, at, if rng.chance(50) { number.wrapping_add(1) } else { number.wrapping_sub(1) });
-}
-
-/// Where the item counts stand, as far as they can be followed.
-fn counts(bytes: &[u8]) -> Vec<usize> {
-    let mut places = Vec::new();
-    let mut at = 7;
-    while at + 2 <= bytes.len() {
-        places.push(at);
-        at += 2 + ITEM * get(bytes, at);
-    }
-    places
-}
-
-fn damage_item_count(rng: &mut Rng, bytes: &mut [u8]) {
-    let places = counts(bytes);
-    if places.is_empty() {
-        return;
-    }
-    let at = rng.pick(&places);
-    if rng.chance(40) {
-        shift(rng, bytes, at);
-    } else {
-        put(bytes, at, rng.pick(&[0, 64, 65, 256, 257, 65_535]));
-    }
-}
-
-/// Where an item stands, and the number of its macro.
-fn some_item(rng: &mut Rng, bytes: &[u8]) -> Option<(usize, usize)> {
-    let places = counts(bytes);
-    if places.is_empty() {
-        return None;
-    }
-    let number = rng.below(places.len());
-    let items = get(bytes, places[number]).max(1);
-    let at = places[number] + 2 + ITEM * rng.below(items);
-    (at + ITEM <= bytes.len()).then_some((at, number))
-}
-
-/// An item 0, a call of the macro itself or a later one, or a call far away.
-fn damage_item(rng: &mut Rng, bytes: &mut [u8]) {
-    if let Some((at, number)) = some_item(rng, bytes) {
-        let itself = 256 + number as u16;
-        let choices = [0, itself, itself.wrapping_sub(1), itself + 1, 256, 65_535, 255, 1];
-        put(bytes, at, rng.pick(&choices));
-    }
-}
-
 /// A repeat count of 0, sometimes with another fault of the same item or of one near it.
 fn no_repeat(rng: &mut Rng, bytes: &mut Vec<u8>) {
-    if let Some((at, number)) = some_item(rng, bytes) {
+    if let Some((at, number)) = some_item(rng, bytes, ITEM) {
         put(bytes, at + 2, 0);
         match rng.below(8) {
             0 => put(bytes, at, 0),

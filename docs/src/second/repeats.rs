@@ -1,7 +1,7 @@
 //! Books of version 2 before they are written down (document 02, S-8), and the forms of a version 1 book.
 
 use crate::book::{MARK, REPEATING_VERSION};
-use crate::make_book::call;
+use crate::make_book::named;
 
 /// The items of each macro, each with its repeat count.
 pub type Repeats = Vec<Vec<(u16, u16)>>;
@@ -44,14 +44,4 @@ pub fn macros(texts: &[&str]) -> Repeats {
         None => (named(word), 1),
     };
     texts.iter().map(|text| text.split(' ').map(item).collect()).collect()
-}
-
-fn named(word: &str) -> u16 {
-    match word {
-        "LF" => 10,
-        "CR" => 13,
-        "ONE" => 1,
-        "TOP" => 255,
-        _ => word.parse().map_or_else(|_| u16::from(word.as_bytes()[0]), call),
-    }
 }
