@@ -34,17 +34,18 @@ Served t called work (Call j) = (loadedAt work (j * (states t + behindRows)) (st
 abbrev pub AllServed : Query → (ℕ → List ℕ) → List ℕ → Macro → Type 0
 AllServed t called work items = (i : Repeated) → List·Memᴰ i items → Served t called work (i .item)
 
--- what is kept of a run with the run of one item more
-pub record AfterItem (keys enter : List ℕ) (p : Accepting) (work : List ℕ) (a : SpanCount) (item : Item) (b : SpanCount) : Type 0 where
+-- what is kept of a run with some keys more, where the item is served
+pub record After (keys enter : List ℕ) (p : Accepting) (work : List ℕ) (a : SpanCount) (item : Item) (more : (ℕ → List ℕ) → List ℕ) (b : SpanCount) : Type 0 where
   pub small : b .span .s ≤ 32
   pub extends : (t : Query) → Automaton t keys enter p → (called : ℕ → List ℕ) (w : List ℕ) → isRun w ≡ true → Served t called work item → a ≡ spanCount t w
-      → b ≡ spanCount t (w ++ keysOf called item)
+      → b ≡ spanCount t (w ++ more called)
 
--- what is kept of a run with the run of one item more, n times
-pub record AfterPasses (keys enter : List ℕ) (p : Accepting) (work : List ℕ) (a : SpanCount) (item : Item) (n : ℕ) (b : SpanCount) : Type 0 where
-  pub small : b .span .s ≤ 32
-  pub extends : (t : Query) → Automaton t keys enter p → (called : ℕ → List ℕ) (w : List ℕ) → isRun w ≡ true → Served t called work item → a ≡ spanCount t w
-      → b ≡ spanCount t (w ++ times n (keysOf called item))
+-- with the run of the item, and with n of them
+abbrev pub AfterItem : List ℕ → List ℕ → Accepting → List ℕ → SpanCount → Item → SpanCount → Type 0
+AfterItem keys enter p work a item b = After keys enter p work a item (λ called. keysOf called item) b
+
+abbrev pub AfterPasses : List ℕ → List ℕ → Accepting → List ℕ → SpanCount → Item → ℕ → SpanCount → Type 0
+AfterPasses keys enter p work a item n b = After keys enter p work a item (λ called. times n (keysOf called item)) b
 
 -- items and states within the limits of the code
 pub record ItemsFit (items : Items) (p : Accepting) : Type 0 where
