@@ -78,9 +78,9 @@ stated() {
     awk -F ' *[|] *' -v what="$1" '$2 == what { print $3 }' docs/ASSURANCE.md
 }
 
-# small_stack PROGRAM FOLDER: on the cases in the folder.
+# small_stack PROGRAM FOLDER [BUFFERS]: on the cases in the folder, with 1 MiB of stack and as many KiB more as the program's buffers have.
 small_stack() {
-    (ulimit -s 1024 && "target/bin/$1" <"$2/stdin" | cmp - "$2/stdout")
+    (ulimit -s "$((1024 + ${3-0}))" && "target/bin/$1" <"$2/stdin" | cmp - "$2/stdout")
 }
 
 # No crate opens a definition of another, but for the computed tables; there the search must find some.
@@ -140,6 +140,7 @@ done
 single "cases prints the depths that it must within 1 MiB of stack" small_stack cases tests/depth
 single "cases joins three reports as it must within 1 MiB of stack" small_stack cases tests/joining
 single "cases answers about repeat counts as it must within 1 MiB of stack" small_stack cases tests/repeats
+single "cases finds lines as it must within 1 MiB of stack beyond its buffers" small_stack cases tests/find 848
 single "both groupings of three reports are one line, and the empty run's report changes nothing" groupings_agree tests/joining
 beside command bash tests/rakvinje.sh
 
@@ -155,6 +156,7 @@ single "the second program answers the fixed cases alike" second_agrees crates/c
 single "the second program answers the fixed cases of depths alike" second_agrees tests/depth
 single "the second program joins three reports alike" second_agrees tests/joining
 single "the second program answers about repeat counts alike" second_agrees tests/repeats
+single "the second program finds lines alike" second_agrees tests/find
 counted "$(stated 'comparisons with the second program')" target/second compare target/bin/cases target/bin/cuecount ./rakvinje 1 6000 crates/pattern_cases/stdin
 single "the second program passes its own test" gather selftest
 counted_beside "$(stated 'runs of the command')" command

@@ -112,6 +112,7 @@ at_least 'fixed cases of `cases`' "$(wc -l <crates/cases/stdout)"
 at_least 'fixed cases of depths' "$(wc -l <tests/depth/stdout)"
 at_least 'fixed cases of joining' "$(wc -l <tests/joining/stdout)"
 at_least 'fixed cases of repeat counts' "$(wc -l <tests/repeats/stdout)"
+at_least 'fixed cases of lines' "$(wc -l <tests/find/stdout)"
 at_least 'patterns of `pattern_cases`' "$(wc -l <crates/pattern_cases/stdin)"
 at_least 'rows of `paper-runs`' "$(LC_ALL=C grep -Ec '^ *(. |...? )?row \(' crates/command/proofs/PaperRuns.antt)"
 

@@ -44,5 +44,6 @@ lacks 'fixed cases of `cases`' crates/cases/stdout sed -i '7d'
 lacks 'fixed cases of depths' tests/depth/stdout sed -i '7d'
 lacks 'fixed cases of joining' tests/joining/stdout sed -i '7d'
 lacks 'fixed cases of repeat counts' tests/repeats/stdout sed -i '7d'
+lacks 'fixed cases of lines' tests/find/stdout sed -i '7d'
 lacks 'patterns of `pattern_cases`' crates/pattern_cases/stdin sed -i '7d'
 finish

@@ -1,12 +1,15 @@
 -- The items of one macro: laws of what `items_of` answers, for those that fold over it, and of how it is read.
 use Prim.Native.Nat.{ℕ, zero, suc, _+_, _-_, _*_, _/_, _<_, _≤_, min}
-use native.Mathlib.Nat.{suc-add, mul-le-mul}
+use native.Mathlib.Nat.{suc-add, mul-le-mul, div-lt-iff-lt-mul, le-div-iff-mul-le}
 use native.Mathlib.Omega.{arith}
 use native.Mathlib.Numerals.{add-one}
+use mir.Val.{Fits}
+use mir.Syntax.{w64}
 use mathlib.Core.Path.{_≡_, refl, sym, ap, _∙_}
 use mathlib.Core.Bool.{Bool, true, false, cond}
 use mathlib.Core.List.{List, [], _∷_, _++_, List·Memᴰ, List·Memᴰ·head, Memᴰ·append-left, Memᴰ·append-right}
-use lib.Dec.{eqb}
+use lib.Dec.{eqb, ltb}
+use borrow.Author.Tests.{ltb-true, ltb-false, lt-ltb, le-ltb}
 use lib.ListN.{length, drop, getD, set, take, replicate, length-append, length-drop, length-replicate, length-take, take-append-drop}
 use lib.Seq.{append-snoc, drop-drop, getD-take, set-at, take-all, take-append-le, take-nil}
 use Rattle.book.specs.declared.item.Item.{Item}
@@ -14,7 +17,7 @@ use Rattle.book.specs.declared.item.ItemRead.{ItemRead}
 use Rattle.book.specs.declared.item.ItemRead.the-variants.{Found, Short}
 use Rattle.book.specs.declared.macro_items.Items.{Items}
 use Rattle.book.specs.Format.{Repeated, repeated, Macro, versions, width}
-use Rattle.book.specs.MacroItems.{eachIn, partFrom, itemsUpTo, itemsIn, itemsFrom, itemAt, decodedTo, decoded}
+use Rattle.book.specs.MacroItems.{eachIn, partFrom, itemsUpTo, itemsIn, itemsFrom, itemReadAt, itemAt, decodedTo, decoded}
 use Rattle.book.specs.Offset.{offset}
 use Rattle.book.specs.Promises.{numbersAt}
 use Rattle.book.specs.Reading.{itemOf, le16, timesIn, versionIn, macrosIn}
@@ -23,7 +26,7 @@ use Rattle.book.proofs.Items.{width-least, width-most, found-at, short-
 use Rattle.book.proofs.Bodies.{part-offsets, part-is}
 use Rattle.book.proofs.LayoutLaws.{read-in, read-with}
 use Rattle.book.proofs.Offsets.{frontItem, frontItems, book-few, book-front}
-use Rattle.runs.proofs.Tests.{either}
+use Rattle.runs.proofs.Tests.{either, clash}
 
 -- A number of each item in some bytes.
 module _ (f : List ℕ → ℕ) (wide : ℕ) where
@@ -113,6 +116,9 @@ count-most version n count = go (eqb version 1)
 pub place-most : (version wide : ℕ) → wide ≡ width version → (count : ℕ) → count < 64 → wide * count ≤ 256
 place-most version wide e count h = let four : wide ≤ 4 = omega (arith, width-most version) in let few : count ≤ 64 = omega arith in let most : wide * count ≤ 4 * 64 = mul-le-mul four few in omega arith
 
+pub place-fits : (version wide k : ℕ) → wide ≡ width version → k < 64 → Fits w64 (wide * k)
+place-fits version wide k e h = omega (arith, place-most version wide e k h)
+
 module _ (version wide : ℕ) (ew : wide ≡ width version) (s codes times : List ℕ) (count : ℕ) (x : ItemsSoFar version s codes times count) where
   module _ (r : ItemRead) (e : r ≡ numbersAt version (drop (wide * count) s)) where
     here : numbersAt version (drop (width version * count) s) ≡ r
@@ -172,6 +178,73 @@ module _ (b offsets : List ℕ) (i : ℕ) {r : Items} (e : r ≡ itemsFrom b off
 
   pub times-fit : r .count ≤ length (r .times)
   times-fit = rw (e, times-wide b offsets i) (items-few b offsets i)
+
+-- One item alone.
+module _ (version : ℕ) (s : List ℕ) (k : ℕ) where
+  abbrev behind : List ℕ
+  behind = drop (width version * k) s
+
+  read-short : length s < width version * k + width version → numbersAt version behind ≡ itemReadAt (itemsIn version s) k
+  unfolding itemReadAt itemsIn
+  read-short h =
+      let wide : 0 < width version = omega (arith, width-least version) in
+      let short : length behind < width version = rw length-drop (omega arith) in
+      let turned : length s < (k + 1) * width version = omega arith in
+      let few : length s / width version < k + 1 = div-lt-iff-lt-mul wide .1 turned in
+      let past : min 64 (length s / width version) ≤ k = omega arith in
+      rw (lt-ltb (length behind) (width version) short, le-ltb k (min 64 (length s / width version)) past) refl
+
+  read-there : k < 64 → width version * k + width version ≤ length s → numbersAt version behind ≡ itemReadAt (itemsIn version s) k
+  unfolding itemReadAt itemsIn
+  read-there h l =
+      let wide : 0 < width version = omega (arith, width-least version) in
+      let long : width version ≤ length behind = rw length-drop (omega arith) in
+      let turned : (k + 1) * width version ≤ length s = omega arith in
+      let many : k + 1 ≤ length s / width version = le-div-iff-mul-le wide .1 turned in
+      let count = min 64 (length s / width version) in
+      let inside : k < count = omega arith in
+      let code : getD (itemsUpTo version count s .codes) k 0 ≡ le16 behind = each-at le16 (width version) count s (replicate (64 - count) 0) k inside in
+      let often : getD (itemsUpTo version count s .times) k 0 ≡ timesIn version behind = each-at (timesIn version) (width version) count s (replicate (64 - count) 0) k inside in
+      rw (le-ltb (length behind) (width version) long, lt-ltb k count inside, code, often) refl
+
+  read-one : k < 64 → numbersAt version behind ≡ itemReadAt (itemsIn version s) k
+  read-one h = either (length s) (width version * k + width version) (λ l. read-short l) (λ l. read-there h l)
+
+module _ (b offsets : List ℕ) (i k : ℕ) where
+  pub item-beyond : 64 ≤ k → Short ≡ itemReadAt (itemsFrom b offsets i) k
+  unfolding itemReadAt
+  item-beyond h = rw (le-ltb k (itemsFrom b offsets i .count) (omega (arith, items-few b offsets i))) refl
+
+  pub item-read : {p : List ℕ} {v wide : ℕ} {r : ItemRead} → k < 64 → v ≡ versionIn b → p ≡ partFrom b offsets i → wide ≡ width v → r ≡ numbersAt v (drop (wide * k) p) → r ≡ itemReadAt (itemsFrom b offsets i) k
+  unfolding itemsFrom
+  item-read {p} {v} {wide} {r} h e f w g = g ∙ ap (λ (n : ℕ). numbersAt v (drop (n * k) p)) w ∙ rw (e, f) (read-one (versionIn b) (partFrom b offsets i) k h)
+
+-- what was read, and that there was none
+module _ (r : Items) (k : ℕ) {x : ItemRead} (e : x ≡ itemReadAt r k) where
+  told : {c n : ℕ} → x ≡ Found c n → (k < r .count) × (c ≡ getD (r .codes) k 0) × (n ≡ getD (r .times) k 0)
+  unfolding itemReadAt
+  told {c} {n} f = go (ltb k (r .count)) refl (sym e ∙ f)
+    where
+      go : (t : Bool) → ltb k (r .count) ≡ t → cond t (Found (getD (r .codes) k 0) (getD (r .times) k 0)) Short ≡ Found c n → (k < r .count) × (c ≡ getD (r .codes) k 0) × (n ≡ getD (r .times) k 0)
+      go true h g = (ltb-true k (r .count) h, cc, cc)
+      go false h g = clash (cc)
+
+  pub read-inside : {c n : ℕ} → x ≡ Found c n → k < r .count
+  read-inside f = told f .0
+
+  pub read-code : {c n : ℕ} → x ≡ Found c n → c ≡ getD (r .codes) k 0
+  read-code f = told f .1
+
+  pub read-times : {c n : ℕ} → x ≡ Found c n → n ≡ getD (r .times) k 0
+  read-times f = told f .2
+
+  pub read-end : x ≡ Short → r .count ≤ k
+  unfolding itemReadAt
+  read-end f = go (ltb k (r .count)) refl (sym e ∙ f)
+    where
+      go : (t : Bool) → ltb k (r .count) ≡ t → cond t (Found (getD (r .codes) k 0) (getD (r .times) k 0)) Short ≡ Short → r .count ≤ k
+      go true h g = clash (cc)
+      go false h g = ltb-false k (r .count) h
 
 -- What the numbers stand for.
 

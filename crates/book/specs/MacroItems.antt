@@ -4,6 +4,8 @@ use mathlib.Core.Bool.{Bool, _&&_, cond}
 use mathlib.Core.List.{List, [], _∷_, _++_}
 use lib.Dec.{leb, ltb}
 use lib.ListN.{length, drop, getD, replicate, take}
+use Rattle.book.specs.declared.item.ItemRead.{ItemRead}
+use Rattle.book.specs.declared.item.ItemRead.the-variants.{Found, Short}
 use Rattle.book.specs.declared.macro_items.Items.{Items}
 use Rattle.book.specs.Format.{Repeated, repeated, Macro, width}
 use Rattle.book.specs.Reading.{itemOf, le16, timesIn, versionIn}
@@ -52,6 +54,10 @@ itemsIn version b = itemsUpTo version (min 64 (length b / width version)) b
 -- the items of macro i of b, where `offsets` says where the macros start
 unfoldable pub itemsFrom : List ℕ → List ℕ → ℕ → Items
 itemsFrom b offsets i = itemsIn (versionIn b) (partFrom b offsets i)
+
+-- the numbers of item k, where there is one
+unfoldable pub itemReadAt : Items → ℕ → ItemRead
+itemReadAt r k = cond (ltb k (r .count)) (Found (getD (r .codes) k 0) (getD (r .times) k 0)) Short
 
 -- what the numbers of item k stand for
 abbrev pub itemAt : Items → ℕ → Repeated

@@ -15,7 +15,7 @@ pub enum Item {
 }
 
 // What stands at a place: the number of an item and its repeat count, or fewer bytes than an item has.
-pub(crate) enum ItemRead {
+pub enum ItemRead {
     Found(u16, u16),
     Short,
 }

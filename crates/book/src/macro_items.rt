@@ -5,7 +5,7 @@ use crate::version::version_of;
 use crate::version::width_of;
 ghost use mathlib.Core.Path.{_≡_};
 ghost use denote.Ref.{ptr};
-ghost use Rattle.book.specs.MacroItems.{itemsFrom, itemsIn, partAt, partFrom};
+ghost use Rattle.book.specs.MacroItems.{itemReadAt, itemsFrom, itemsIn, partAt, partFrom};
 
 // The numbers of a macro's items and how often each stands there, `count` of them, and zeros behind them.
 pub struct Items {
@@ -71,4 +71,15 @@ pub fn items_of(book: &[u8], offsets: &[usize; 1025], i: usize) -> Items
 {
     let version = version_of(book);
     items_in(part_of(book, offsets, i), version)
+}
+
+// Item k of macro i alone, for whoever has no room for all of them; or that there is none.
+pub fn item_at(book: &[u8], offsets: &[usize; 1025], i: usize, k: usize) -> ItemRead
+    ensures { λ r. ⌜ r ≡ itemReadAt (itemsFrom (now (book .entry)) (now (offsets .entry)) i) k ⌝ }
+{
+    if 64 <= k {
+        return ItemRead::Short;
+    }
+    let version = version_of(book);
+    read_item(part_of(book, offsets, i), width_of(version) * k, version)
 }

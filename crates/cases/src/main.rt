@@ -1,7 +1,8 @@
-// Cases from standard input through the operations of `book`, `counter` and `depth`: what they answer to each.
+// Cases from standard input through the operations of `book`, `counter`, `depth` and `find`: what they answer to each.
 mod books;
 mod counts;
 mod depths;
+mod finds;
 mod numbers;
 mod plain;
 mod reach_lists;

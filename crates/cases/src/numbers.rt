@@ -2,7 +2,7 @@
 use counter::Report;
 ghost use Prim.Native.Nat.{_+_, _<_, _≤_};
 ghost use lib.ListN.{length};
-ghost use Rattle.counter.specs.Counting.{mostWords};
+ghost use Rattle.find.specs.Answer.{mostWords};
 
 fn byte(b: u8) -> usize
     ensures { λ r. ⌜ r < 256 ⌝ }
@@ -23,7 +23,7 @@ fn wide(b: u8) -> u64 {
 }
 
 // A number of eight bytes, low byte first.
-fn large(bytes: &[u8], at: usize) -> u64
+pub(crate) fn large(bytes: &[u8], at: usize) -> u64
     requires { ⌜ at + 8 ≤ length (now bytes) ⌝ }
 {
     let mut n = 0;

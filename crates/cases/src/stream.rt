@@ -5,6 +5,7 @@ use crate::books::checks;
 use crate::counts::counting;
 use crate::counts::joining;
 use crate::depths::depths;
+use crate::finds::finds;
 use crate::plain::lines;
 use crate::plain::runs;
 use crate::reach_lists::reaches;
@@ -32,6 +33,8 @@ fn first(bytes: &[u8]) -> usize
         b'B' => bodies(bytes),
         b'H' => reaches(bytes),
         b'D' => depths(bytes),
+        b'F' => finds(bytes, Case::Sensitive),
+        b'f' => finds(bytes, Case::Ignored),
         b'J' => joining(bytes),
         _ => 0,
     }

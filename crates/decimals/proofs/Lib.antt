@@ -3,3 +3,4 @@ pub mod NumberLaws
 pub mod NumeralLaws
 pub mod TextLaws
 pub mod WholeLaws
+pub mod WideLaws

@@ -49,8 +49,12 @@ number-from v (c ∷ w) =
     let shifted : v * 10 ^ suc (length w) ≡ 10 * v * p = rw (pow-succ' 10 (length w)) (sym (mul-assoc v 10 p) ∙ ap (λ (x : ℕ). x * p) (mul-comm v 10)) in
     number-from (10 * v + d) w ∙ ap (λ (x : ℕ). x + decimal w) (add-mul (10 * v) d p) ∙ add-assoc (10 * v * p) (d * p) (decimal w) ∙ ap (λ (x : ℕ). x + (d * p + decimal w)) (sym shifted)
 
+-- digits by themselves
+pub number-zero : (w : List ℕ) → numberFrom 0 w ≡ decimal w
+number-zero w = number-from 0 w ∙ simp (zero-mul, zero-add) refl
+
 -- The number never falls, so one that has reached 1,024 stays there or above.
-number-grows : (v : ℕ) (w : List ℕ) → v ≤ numberFrom v w
+pub number-grows : (v : ℕ) (w : List ℕ) → v ≤ numberFrom v w
 unfolding numberFrom
 number-grows v [] = omega arith
 number-grows v (c ∷ w) = omega (arith, number-grows (10 * v + (c - 48)) w)
@@ -71,7 +75,7 @@ pub record Written (w : List ℕ) (at n : ℕ) : Type 0 where
   pub number : min (decimal w) 1024 ≡ min (numberFrom n (drop at w)) 1024
 
 pub written-none : (w : List ℕ) → (length w ≡ 0 → ⊥) → Written w 0 0
-written-none w h = record { some = omega (arith, h); small = omega arith; inside = omega arith; digits = refl; number = ap (λ (x : ℕ). min x 1024) (sym (number-from 0 w ∙ simp (zero-mul, zero-add) refl)) }
+written-none w h = record { some = omega (arith, h); small = omega arith; inside = omega arith; digits = refl; number = ap (λ (x : ℕ). min x 1024) (sym (number-zero w)) }
 
 pub nothing-written : (w : List ℕ) → length w ≡ 0 → Number.Malformed ≡ numberIn w
 unfolding numberIn
@@ -79,7 +83,7 @@ nothing-written [] h = refl
 nothing-written (c ∷ w) h = absurd (omega (arith, h))
 
 -- where there is a byte, a number is digits
-is-number : (w : List ℕ) → 1 ≤ length w → isNumber w ≡ allDigits w
+pub is-number : (w : List ℕ) → 1 ≤ length w → isNumber w ≡ allDigits w
 is-number [] h = absurd (omega (arith, h))
 is-number (c ∷ w) h = refl
 

@@ -5,6 +5,7 @@ use mathlib.Core.List.{List, [], _∷_, _++_}
 use lib.Dec.{leb, ltb}
 use lib.ListN.{length}
 use Rattle.decimals.specs.declared.number.Number.{Number}
+use Rattle.decimals.specs.declared.wide.Wide.{Wide}
 
 unfoldable pub isDigit : ℕ → Bool
 isDigit c = leb 48 c && leb c 57
@@ -26,6 +27,17 @@ decimal (c ∷ w) = (c - 48) * 10 ^ length w + decimal w
 -- the number that a text writes, where 1,024 stands for all from there on: no book has a macro of such a number
 unfoldable pub numberIn : List ℕ → Number
 numberIn w = cond (isNumber w) (Number.Value (min (decimal w) 1024)) Number.Malformed
+
+-- the number of 64 bits that a text writes, if it writes one and that fits
+abbrev pub fitting : ℕ → Wide
+fitting n = cond (leb n (2 ^ 64 - 1)) (Wide.Value n) Wide.Unfit
+
+unfoldable pub wideIn : List ℕ → Wide
+wideIn w = cond (isNumber w) (fitting (decimal w)) Wide.Unfit
+
+-- a number with one more digit; no public contract cites it
+unfoldable pub wideStep : ℕ → ℕ → Wide
+wideStep n d = fitting (10 * n + d)
 
 -- a number's digits, f of them at the most
 unfoldable pub numeralTo : ℕ → ℕ → List ℕ

@@ -12,7 +12,7 @@ pub enum Number {
 // A number that no macro has: a book has at most 1,024, from 0 on.
 const BEYOND: usize = 1024;
 
-fn is_digit(c: u8) -> bool
+pub(crate) fn is_digit(c: u8) -> bool
     ensures { λ r. ⌜ r ≡ isDigit c ⌝ }
 {
     (b'0' <= c) & (c <= b'9')

@@ -31,6 +31,25 @@ pub lines-open : (c : ℕ) (l : List ℕ) → member lineEnd (c ∷ l) ≡ false
 unfolding lines
 lines-open c l h = let whole = later-without (c ∷ l) h in rw (whole, first-whole (c ∷ l) whole) refl
 
+-- the lines are those of the parts
+pub lines-by : (w : List ℕ) → lines w ≡ linesFrom (firstPart w) (laterParts w)
+unfolding lines
+lines-by w = refl
+
+-- how many of none, and of one more, have X
+pub count-none : (X : List ℕ → Bool) → countIn X [] ≡ 0
+unfolding countIn
+count-none X = refl
+
+pub count-cons : (X : List ℕ → Bool) (l : List ℕ) (ls : List (List ℕ)) → countIn X (l ∷ ls) ≡ cond (X l) 1 0 + countIn X ls
+unfolding countIn
+count-cons X l ls = refl
+
+-- how many lines match
+pub matching-is : (t : Query) (w : List ℕ) → matching t w ≡ countIn (matches t) (lines w)
+unfolding matching
+matching-is t w = refl
+
 pub lines-none : lines [] ≡ []
 unfolding lines firstPart laterParts
 lines-none = refl

@@ -37,7 +37,7 @@ abbrev pub firstThen : List ℕ → List (List ℕ) → List ℕ → List ℕ
 firstThen l [] v = l ++ firstPart v
 firstThen l (m ∷ ms) v = l
 
-first-append : (u v : List ℕ) → firstPart (u ++ v) ≡ firstThen (firstPart u) (laterParts u) v
+pub first-append : (u v : List ℕ) → firstPart (u ++ v) ≡ firstThen (firstPart u) (laterParts u) v
 unfolding firstPart laterParts
 first-append [] v = refl
 first-append (c ∷ u) v = go (eqb lineEnd c) (laterParts u) (first-append u v)
@@ -52,7 +52,7 @@ abbrev pub laterThen : List (List ℕ) → List ℕ → List (List ℕ)
 laterThen [] v = laterParts v
 laterThen (l ∷ ls) v = firstThen l ls v ∷ laterThen ls v
 
-later-append : (u v : List ℕ) → laterParts (u ++ v) ≡ laterThen (laterParts u) v
+pub later-append : (u v : List ℕ) → laterParts (u ++ v) ≡ laterThen (laterParts u) v
 unfolding laterParts
 later-append [] v = refl
 later-append (c ∷ u) v = go (eqb lineEnd c) (later-append u v)
@@ -227,6 +227,29 @@ end-first = refl
 pub key-part : (k : ℕ) → eqb lineEnd k ≡ false → laterParts (k ∷ []) ≡ []
 unfolding laterParts
 key-part k f = rw f refl
+
+-- A run with one key more in front, which may be a line end.
+
+pub later-cons : (c : ℕ) (w : List ℕ) → laterParts (c ∷ w) ≡ cond (eqb lineEnd c) (firstPart w ∷ laterParts w) (laterParts w)
+unfolding laterParts
+later-cons c w = refl
+
+pub first-cons : (c : ℕ) (w : List ℕ) → firstPart (c ∷ w) ≡ cond (eqb lineEnd c) [] (c ∷ firstPart w)
+unfolding firstPart
+first-cons c w = refl
+
+-- the last of parts is the last behind the first of them, and those before it have that one in front
+pub last-more : (l m : List ℕ) (ms : List (List ℕ)) → lastPart l (m ∷ ms) ≡ lastPart m ms
+unfolding lastPart
+last-more l m ms = refl
+
+pub parts-none : (l : List ℕ) → partsBefore l [] ≡ []
+unfolding partsBefore
+parts-none l = refl
+
+pub parts-more : (l m : List ℕ) (ms : List (List ℕ)) → partsBefore l (m ∷ ms) ≡ l ∷ partsBefore m ms
+unfolding partsBefore
+parts-more l m ms = refl
 
 -- one part is the last, and has none before it
 pub last-one : (l : List ℕ) → lastPart l [] ≡ l

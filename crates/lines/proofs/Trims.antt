@@ -1,9 +1,11 @@
 -- Laws of the keys less a final CR.
-use Prim.Native.Nat.{ℕ}
+use Prim.Native.Nat.{ℕ, suc, _-_}
+use native.Mathlib.Omega.{arith}
 use mathlib.Core.Path.{_≡_, refl, sym, ap, _∙_}
 use mathlib.Core.Bool.{Bool, true, false, not, cond, _&&_, _||_, or-false}
 use mathlib.Core.List.{List, [], _∷_, _++_, append-nil}
 use lib.Dec.{eqb}
+use lib.ListN.{length, take}
 use Rattle.runs.specs.Keys.{member, isLine}
 use Rattle.runs.proofs.KeyLaws.{line-cons, line-first, line-rest, line-none, member-first, member-rest}
 use Rattle.runs.proofs.Tests.{clash}
@@ -68,6 +70,32 @@ ends-more w c = ends-append w (c ∷ []) refl
 
 pub trim-other : (w : List ℕ) (c : ℕ) → eqb carriageReturn c ≡ false → trimmed (w ++ (c ∷ [])) ≡ w ++ (c ∷ [])
 trim-other w c h = trim-kept (w ++ (c ∷ [])) (ends-more w c ∙ h)
+
+-- how many keys are left
+pub trim-length : (w : List ℕ) → length (trimmed w) ≡ length w - cond (endsInReturn w) 1 0
+unfolding trimmed endsInReturn
+trim-length [] = refl
+trim-length (c ∷ []) = go (eqb carriageReturn c)
+  where
+    go : (b : Bool) → length (cond b [] (c ∷ [])) ≡ length (c ∷ []) - cond b 1 0
+    go true = refl
+    go false = refl
+trim-length (c ∷ d ∷ w) = go (endsInReturn (d ∷ w)) (trim-length (d ∷ w))
+  where
+    go : (b : Bool) → length (trimmed (d ∷ w)) ≡ length (d ∷ w) - cond b 1 0 → suc (length (trimmed (d ∷ w))) ≡ length (c ∷ d ∷ w) - cond b 1 0
+    go true e = omega (arith, e)
+    go false e = omega (arith, e)
+
+-- they stand in front
+pub trim-front : (w : List ℕ) → take (length (trimmed w)) w ≡ trimmed w
+unfolding trimmed
+trim-front [] = refl
+trim-front (c ∷ []) = go (eqb carriageReturn c)
+  where
+    go : (b : Bool) → take (length (cond b [] (c ∷ []))) (c ∷ []) ≡ cond b [] (c ∷ [])
+    go true = refl
+    go false = refl
+trim-front (c ∷ d ∷ w) = ap (λ (l : List ℕ). c ∷ l) (trim-front (d ∷ w))
 
 -- without any CR nothing is dropped
 pub ends-without : (w : List ℕ) → member carriageReturn w ≡ false → endsInReturn w ≡ false

@@ -11,5 +11,6 @@ pub use line::LINE;
 pub use line::count_line;
 pub use list::LISTING;
 pub use list::reached_lines;
+pub use writing::write_front;
 pub use writing::write_line;
 pub use writing::write_lines;

@@ -4,7 +4,7 @@ use crate::list::LISTING;
 use libc::STDOUT_FILENO;
 
 // The first n bytes of a buffer on standard output. What fails is said on standard error.
-fn write_front(out: &[u8], n: usize) {
+pub fn write_front(out: &[u8], n: usize) {
     if out.len() < n {
         return;
     }

@@ -3,6 +3,8 @@ use crate::say;
 use command::BOOK_READ;
 use command::PATTERN_READ;
 use counter::Case;
+use decimals::Wide;
+use decimals::wide_in;
 use files::FileRead;
 use files::read_path;
 use libc::ENAMETOOLONG;
@@ -112,4 +114,14 @@ pub(crate) fn number_at(i: usize, space: &mut [u8]) -> NumberText
         say::text(b"the macro number is too long\n");
     }
     NumberText { failed, digits: n }
+}
+
+// The number that an argument is; what does not fit the space is none.
+pub(crate) fn wide_at(i: usize) -> Wide {
+    let mut space = number_space();
+    let n = os::arg(i, &mut space);
+    if os::errno() != 0 {
+        return Wide::Unfit;
+    }
+    wide_in(&space[..n])
 }

@@ -1,6 +1,6 @@
 // The command for people: `rakvinje count CASE PATTERN BOOK [MACRO]`, `rakvinje check BOOK`, `rakvinje reach BOOK [MACRO]`,
-// `rakvinje depth OPEN CLOSE BOOK [MACRO]`, where CASE is `sensitive` or `ignored`. Standard output has the answer; standard error says
-// what depths and refusals mean, or why there is no answer.
+// `rakvinje depth OPEN CLOSE BOOK [MACRO]`, `rakvinje lines CASE FIRST COUNT PATTERN BOOK [MACRO]`, where CASE is `sensitive` or `ignored`.
+// Standard output has the answer; standard error says what depths, long lines and refusals mean, or why there is no answer.
 mod arguments;
 mod check;
 mod count;
@@ -8,6 +8,7 @@ mod depths;
 mod meaning;
 mod reaching;
 mod say;
+mod showing;
 
 use arguments::is_verb;
 
@@ -23,6 +24,10 @@ fn main() {
     }
     if is_verb(b"depth") & ((n == 5) | (n == 6)) {
         depths::depth();
+        return;
+    }
+    if is_verb(b"lines") & ((n == 7) | (n == 8)) {
+        showing::lines();
         return;
     }
     if is_verb(b"reach") & ((n == 3) | (n == 4)) {

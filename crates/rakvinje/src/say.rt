@@ -15,8 +15,20 @@ pub(crate) fn no_key() {
     );
 }
 
+pub(crate) fn no_place() {
+    text(
+        b"a line's number and how many are shown must be decimal digits, up to 18446744073709551615\n",
+    );
+}
+
+pub(crate) fn long_line() {
+    text(
+        b"The line is not shown: it has over 65,536 keys. Its length is told up to 18446744073709551614, which stands for that and more.\n",
+    );
+}
+
 pub(crate) fn usage() {
     text(
-        b"usage: rakvinje count sensitive|ignored PATTERN BOOK [MACRO] | rakvinje check BOOK | rakvinje reach BOOK [MACRO] | rakvinje depth OPEN CLOSE BOOK [MACRO]\n",
+        b"usage: rakvinje count sensitive|ignored PATTERN BOOK [MACRO] | rakvinje check BOOK | rakvinje reach BOOK [MACRO] | rakvinje depth OPEN CLOSE BOOK [MACRO] | rakvinje lines sensitive|ignored FIRST COUNT PATTERN BOOK [MACRO]\n",
     );
 }

@@ -5,13 +5,13 @@ use mathlib.Core.List.{List, [], _∷_}
 use mathlib.Core.Path.{_≡_, refl, ap, sym, _∙_}
 use lib.ListN.{getD}
 use Rattle.refusal.specs.declared.Refusal.{Refusal}
-use Rattle.refusal.specs.declared.Refusal.the-variants.{BadMagic, UnsupportedVersion, BadMacroCount, MalformedBody, InvalidKey, ForwardReference, PatternLength, PatternSyntax, TooManyAtoms, NoSuchMacro, InsufficientSpace, CountOverflow, ReportMismatch, InputTooLong, InvalidDelimiters, RunTooLong, ZeroRepeatCount}
+use Rattle.refusal.specs.declared.Refusal.the-variants.{BadMagic, UnsupportedVersion, BadMacroCount, MalformedBody, InvalidKey, ForwardReference, PatternLength, PatternSyntax, TooManyAtoms, NoSuchMacro, InsufficientSpace, CountOverflow, ReportMismatch, InputTooLong, NoSuchLine, LineNumberOverflow, BufferTooShort, InvalidDelimiters, RunTooLong, ZeroRepeatCount}
 use Rattle.refusal.specs.Number.{number}
 
--- the refusals in the order of their numbers; no refusal has 15 to 17
+-- the refusals in the order of their numbers
 table : List Refusal
 table =
-    BadMagic ∷ UnsupportedVersion ∷ BadMacroCount ∷ MalformedBody ∷ InvalidKey ∷ ForwardReference ∷ PatternLength ∷ PatternSyntax ∷ TooManyAtoms ∷ NoSuchMacro ∷ InsufficientSpace ∷ CountOverflow ∷ ReportMismatch ∷ InputTooLong ∷ BadMagic ∷ BadMagic ∷ BadMagic ∷ InvalidDelimiters ∷ RunTooLong ∷ ZeroRepeatCount ∷ []
+    BadMagic ∷ UnsupportedVersion ∷ BadMacroCount ∷ MalformedBody ∷ InvalidKey ∷ ForwardReference ∷ PatternLength ∷ PatternSyntax ∷ TooManyAtoms ∷ NoSuchMacro ∷ InsufficientSpace ∷ CountOverflow ∷ ReportMismatch ∷ InputTooLong ∷ NoSuchLine ∷ LineNumberOverflow ∷ BufferTooShort ∷ InvalidDelimiters ∷ RunTooLong ∷ ZeroRepeatCount ∷ []
 
 named : ℕ → Refusal
 named n = getD table (n - 1) BadMagic
@@ -32,6 +32,9 @@ named-number InsufficientSpace = refl
 named-number CountOverflow = refl
 named-number ReportMismatch = refl
 named-number InputTooLong = refl
+named-number NoSuchLine = refl
+named-number LineNumberOverflow = refl
+named-number BufferTooShort = refl
 named-number InvalidDelimiters = refl
 named-number RunTooLong = refl
 named-number ZeroRepeatCount = refl
@@ -56,6 +59,9 @@ number-positive InsufficientSpace = omega arith
 number-positive CountOverflow = omega arith
 number-positive ReportMismatch = omega arith
 number-positive InputTooLong = omega arith
+number-positive NoSuchLine = omega arith
+number-positive LineNumberOverflow = omega arith
+number-positive BufferTooShort = omega arith
 number-positive InvalidDelimiters = omega arith
 number-positive RunTooLong = omega arith
 number-positive ZeroRepeatCount = omega arith

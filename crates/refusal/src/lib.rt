@@ -32,7 +32,13 @@ pub enum Refusal {
     ReportMismatch,
     // 14, "long input": program only.
     InputTooLong,
-    // Document 02, S-6. 18: the two keys are equal, or one is 0 or 10. 15 to 17 are S-3's.
+    // Document 02, S-3. 15: fewer than k matching lines, or k is 0.
+    NoSuchLine,
+    // 16: the line number passes 2^64 - 1.
+    LineNumberOverflow,
+    // 17: the buffer is shorter than the line.
+    BufferTooShort,
+    // S-6. 18: the two keys are equal, or one is 0 or 10.
     InvalidDelimiters,
     // 19: the macro's run is longer than 2^62 keys.
     RunTooLong,
@@ -59,6 +65,9 @@ pub fn code(r: Refusal) -> u8
         Refusal::CountOverflow => 12,
         Refusal::ReportMismatch => 13,
         Refusal::InputTooLong => 14,
+        Refusal::NoSuchLine => 15,
+        Refusal::LineNumberOverflow => 16,
+        Refusal::BufferTooShort => 17,
         Refusal::InvalidDelimiters => 18,
         Refusal::RunTooLong => 19,
         Refusal::ZeroRepeatCount => 20,

@@ -67,6 +67,15 @@ module _ {t : Query} {keys enter : List ℕ} {p : Accepting} (d : Automaton t ke
       ∙ total-sum (closedLines t w) ends
       ∙ ap totalOf (sym (matching-ends t (d .few) p (accepting-of d) w h))
 
+-- the span and the closed lines that are kept
+pub count-span : (t : Query) (w : List ℕ) → spanCount t w .span ≡ span t w
+unfolding spanCount
+count-span t w = refl
+
+pub count-closed : (t : Query) (w : List ℕ) → spanCount t w .closed ≡ totalOf (closedLines t w)
+unfolding spanCount
+count-closed t w = refl
+
 -- it shows the pairs of its run
 pub count-pairs : (t : Query) → atomCount (t .tree) ≤ 29 → (w : List ℕ) → pairsIn (spanCount t w .span) ≡ pairs t w
 unfolding spanCount

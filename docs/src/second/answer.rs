@@ -2,6 +2,7 @@
 
 use crate::case::Case;
 use crate::depth::{book_depths, depth_line, Keys};
+use crate::find::{book_find, find_line};
 use crate::hash::hash;
 use crate::join::join;
 use crate::operations::*;
@@ -20,6 +21,9 @@ pub fn answer(case: &Case) -> String {
         Case::Body { number, book } => or_refused(body(*number, book).map(|body| body_answer(&body))),
         Case::Reach { number, entries, book } => reach_answer(*number, *entries, book),
         Case::Depth { number, words, keys, book } => depth_answer(*number, *words, *keys, book),
+        Case::Find { number, words, buffer, k, question, book } => {
+            find_answer(*number, *words, *buffer, *k, question, book)
+        }
         Case::Join { left, right } => or_refused(join(left, right).map(|report| report_answer(&report))),
     }
 }
@@ -33,7 +37,11 @@ fn line_answer(result: Result<bool, Refusal>) -> String {
 }
 
 fn body_answer(body: &[u8]) -> String {
-    format!("body {} {}", body.len(), hash(body.iter().map(|&byte| u64::from(byte))))
+    format!("body {} {}", body.len(), hash_bytes(body))
+}
+
+pub fn hash_bytes(bytes: &[u8]) -> u64 {
+    hash(bytes.iter().map(|&byte| u64::from(byte)))
 }
 
 /// The work words are filled before, so that words which must stay are seen in the hash.
@@ -51,6 +59,24 @@ fn count_answer(number: usize, words: usize, question: &Question, book: &[u8]) -
     let mut work = work_words(words);
     let line = count_line(book_count(number, question, book, &mut work));
     format!("{line} work {}", hash(work.into_iter()))
+}
+
+/// What the bytes of a lent buffer are before, as with the work words.
+pub fn lent_bytes(count: usize) -> Vec<u8> {
+    (0..count).map(|place| 255 - (place % 256) as u8).collect()
+}
+
+fn find_answer(
+    number: usize,
+    words: usize,
+    bytes: usize,
+    k: u64,
+    question: &Question,
+    book: &[u8],
+) -> String {
+    let (mut work, mut buffer) = (work_words(words), lent_bytes(bytes));
+    let line = find_line(book_find(number, question, k, book, &mut buffer, &mut work));
+    format!("{line} buffer {} work {}", hash_bytes(&buffer), hash(work.into_iter()))
 }
 
 fn reach_answer(number: usize, count: usize, book: &[u8]) -> String {

@@ -1,5 +1,5 @@
-//! A case, and how it stands in a stream: a byte for its kind, then numbers of three bytes (reports:
-//! of eight), low byte first, then the texts.
+//! A case, and how it stands in a stream: a byte for its kind, then numbers of three bytes (reports, and which line
+//! is sought: of eight), low byte first, then the texts.
 
 use crate::depth::Keys;
 use crate::letters::Letters;
@@ -8,14 +8,51 @@ use crate::report::{Report, MOST_STATES};
 
 #[derive(Clone)]
 pub enum Case {
-    Line { question: Question, line: Vec<u8> },
-    Run { question: Question, run: Vec<u8> },
-    Count { number: usize, words: usize, question: Question, book: Vec<u8> },
-    Sound { book: Vec<u8> },
-    Body { number: usize, book: Vec<u8> },
-    Reach { number: usize, entries: usize, book: Vec<u8> },
-    Depth { number: usize, words: usize, keys: Keys, book: Vec<u8> },
-    Join { left: Report, right: Report },
+    Line {
+        question: Question,
+        line: Vec<u8>,
+    },
+    Run {
+        question: Question,
+        run: Vec<u8>,
+    },
+    Count {
+        number: usize,
+        words: usize,
+        question: Question,
+        book: Vec<u8>,
+    },
+    Sound {
+        book: Vec<u8>,
+    },
+    Body {
+        number: usize,
+        book: Vec<u8>,
+    },
+    Reach {
+        number: usize,
+        entries: usize,
+        book: Vec<u8>,
+    },
+    Depth {
+        number: usize,
+        words: usize,
+        keys: Keys,
+        book: Vec<u8>,
+    },
+    /// The k-th matching line, into a buffer of so many bytes.
+    Find {
+        number: usize,
+        words: usize,
+        buffer: usize,
+        k: u64,
+        question: Question,
+        book: Vec<u8>,
+    },
+    Join {
+        left: Report,
+        right: Report,
+    },
 }
 
 impl Case {
@@ -28,6 +65,7 @@ impl Case {
             Case::Body { .. } => b'B',
             Case::Reach { .. } => b'H',
             Case::Depth { .. } => b'D',
+            Case::Find { question, .. } => kind_of(question, b'F', b'f'),
             Case::Join { .. } => b'J',
         }
     }
@@ -46,6 +84,11 @@ impl Case {
             Case::Depth { number, words, keys, book } => {
                 let [opening, closing] = [keys.opening, keys.closing].map(usize::from);
                 write_parts(stream, &[*number, *words, opening, closing], &[book])
+            }
+            Case::Find { number, words, buffer, k, question, book } => {
+                write_numbers(stream, [*number, *words, *buffer].into_iter());
+                stream.extend_from_slice(&k.to_le_bytes());
+                write_parts(stream, &[], &[&question.pattern, book]);
             }
             Case::Join { left, right } => {
                 write_report(stream, left);
@@ -72,11 +115,15 @@ fn kind_of(question: &Question, apart: u8, alike: u8) -> u8 {
 /// The numbers, the lengths of the texts, the texts.
 fn write_parts(stream: &mut Vec<u8>, numbers: &[usize], texts: &[&Vec<u8>]) {
     let lengths = texts.iter().map(|text| text.len());
-    for number in numbers.iter().copied().chain(lengths) {
-        stream.extend_from_slice(&(number as u64).to_le_bytes()[..3]);
-    }
+    write_numbers(stream, numbers.iter().copied().chain(lengths));
     for text in texts {
         stream.extend_from_slice(text);
+    }
+}
+
+fn write_numbers(stream: &mut Vec<u8>, numbers: impl Iterator<Item = usize>) {
+    for number in numbers {
+        stream.extend_from_slice(&(number as u64).to_le_bytes()[..3]);
     }
 }
 
@@ -112,6 +159,8 @@ impl Stream<'_> {
                 self.one_text().map(|book| Case::Reach { number, entries, book })
             }
             b'D' => self.depth(),
+            b'F' => self.find(Letters::Apart),
+            b'f' => self.find(Letters::Alike),
             b'J' => {
                 let left = self.report()?;
                 self.report().map(|right| Case::Join { left, right })
@@ -139,6 +188,13 @@ impl Stream<'_> {
         let (number, words) = (self.number()?, self.number()?);
         let (opening, closing) = (self.key()?, self.key()?);
         self.one_text().map(|book| Case::Depth { number, words, keys: Keys { opening, closing }, book })
+    }
+
+    fn find(&mut self, letters: Letters) -> Option<Case> {
+        let (number, words, buffer) = (self.number()?, self.number()?, self.number()?);
+        let k = self.low_first(8)?;
+        let (question, book) = self.question(letters)?;
+        Some(Case::Find { number, words, buffer, k, question, book })
     }
 
     fn key(&mut self) -> Option<u8> {

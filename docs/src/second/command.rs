@@ -2,7 +2,7 @@
 
 use crate::book_file::BookFile;
 use crate::child::{self, Outcome};
-use crate::command_form::{self, Form};
+use crate::command_form::{self, Form, Sought};
 use crate::describe::{hex, hex_of_long, pattern_lines};
 use crate::expected::Expected;
 use crate::question::Question;
@@ -24,10 +24,12 @@ pub enum Way {
 
 pub struct Start {
     pub verb: &'static str,
-    /// For a count alone; the form tells the choice of case.
+    /// For a count and for lines; the form tells the choice of case.
     pub pattern: Option<(Form, Vec<u8>)>,
     /// For depths alone: the words in the places of the two keys.
     pub keys: Option<[Vec<u8>; 2]>,
+    /// For lines alone.
+    pub sought: Sought,
     pub way: Way,
     pub book: Vec<u8>,
     pub asked: Option<String>,
@@ -55,13 +57,14 @@ impl Start {
     fn arguments(&self, book: OsString) -> Vec<OsString> {
         let mut arguments = vec![OsString::from(self.verb)];
         if let Some((form, pattern)) = &self.pattern {
-            arguments.extend(command_form::words(form, pattern));
+            arguments.extend(command_form::words(form, pattern, &self.sought));
         }
         for word in self.keys.iter().flatten() {
             arguments.push(OsStr::from_bytes(word).to_os_string());
         }
         arguments.push(book);
         arguments.extend(self.asked.iter().map(OsString::from));
+        arguments.extend(command_form::words(self.sought.behind, &[], &self.sought));
         arguments
     }
 
@@ -89,7 +92,7 @@ impl Start {
         let way = if matches!(self.way, Way::Path) { "path" } else { "input" };
         match self.pattern {
             None => String::from(way),
-            Some((form, _)) => format!("{way} {form}"),
+            Some((form, _)) => String::from([way, form, self.sought.behind].join(" ").trim_end()),
         }
     }
 
@@ -98,8 +101,9 @@ impl Start {
         let lengths: Vec<usize> = self.pieces().iter().map(Vec::len).collect();
         let pattern = self.pattern.as_ref().map_or(String::new(), |(_, pattern)| pattern_lines(pattern));
         let keys = self.keys.iter().flatten().map(|word| format!("key in hex: {}\n", hex(word)));
+        let (k, most) = (&self.sought.k, &self.sought.most);
         format!(
-            "kind: {}, {}, pieces {lengths:?}\nmacro: {asked}\n{pattern}{}book in hex: {}",
+            "kind: {}, {}, pieces {lengths:?}\nmacro: {asked}, line {k:?}, lines {most:?}\n{pattern}{}book in hex: {}",
             self.verb,
             self.kind(),
             keys.collect::<String>(),

@@ -1,10 +1,10 @@
-//! How the command is given a pattern and the choice of case (PROTOCOL.md, "The command").
+//! How the command is given a pattern, the choice of case, and which lines are sought (PROTOCOL.md, "The command").
 
 use crate::letters::Letters;
 use std::ffi::{OsStr, OsString};
 use std::os::unix::ffi::OsStrExt;
 
-/// The words between `count` and the book; P stands for the pattern.
+/// The words between the verb and the book; P stands for the pattern, K and C for the numbers of lines.
 pub type Form = &'static str;
 
 pub const BARE: Form = "P";
@@ -59,10 +59,23 @@ pub fn in_turn(place: usize, letters: Letters, pattern: &[u8]) -> Form {
     }
 }
 
-pub fn words(form: Form, pattern: &[u8]) -> Vec<OsString> {
+/// For `line` and `lines`: which line, how many lines, and the form of the words behind the operands.
+#[derive(Clone, Default)]
+pub struct Sought {
+    pub k: Option<String>,
+    pub most: Option<String>,
+    pub behind: Form,
+}
+
+pub fn words(form: Form, pattern: &[u8], sought: &Sought) -> Vec<OsString> {
+    let (k, most) = [&sought.k, &sought.most].map(|number| number.as_deref().unwrap_or("")).into();
     let word = |word: &str| match word {
         "P" => OsStr::from_bytes(pattern).to_os_string(),
+        "K" => OsString::from(k),
+        "C" => OsString::from(most),
+        "--first=K" => OsString::from(format!("--first={k}")),
+        "--count=C" => OsString::from(format!("--count={most}")),
         word => OsString::from(word),
     };
-    form.split(' ').map(word).collect()
+    form.split_whitespace().map(word).collect()
 }

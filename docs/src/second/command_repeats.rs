@@ -4,7 +4,7 @@
 use crate::asked;
 use crate::case::Case;
 use crate::command::{Run, Start, Way};
-use crate::command_form::safe;
+use crate::command_form::{safe, Sought};
 use crate::command_key::word;
 use crate::compare_count::vary;
 use crate::compare_repeats;
@@ -30,7 +30,7 @@ const SEEDED: u64 = 40;
 const FORMS: u64 = 8;
 
 fn bare(verb: &'static str, book: Vec<u8>, asked: Option<String>) -> Start {
-    Start { verb, pattern: None, keys: None, way: Way::Path, book, asked }
+    Start { verb, pattern: None, keys: None, sought: Sought::default(), way: Way::Path, book, asked }
 }
 
 fn count(question: &Question, book: Vec<u8>, asked: Option<String>) -> Start {

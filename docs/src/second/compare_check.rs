@@ -1,6 +1,7 @@
 //! Runs of the command's `check`.
 
 use crate::command::{self, Run, Start, Way};
+use crate::command_form::Sought;
 use crate::expected::Expected;
 use crate::fixed_books::{example, tower};
 use crate::make::some_book;
@@ -39,7 +40,15 @@ pub fn own_answer(start: &Start) -> Expected {
 
 fn run(book: Vec<u8>, stated: Option<&str>) -> Run {
     (
-        Start { verb: "check", pattern: None, keys: None, way: Way::Path, book, asked: None },
+        Start {
+            verb: "check",
+            pattern: None,
+            keys: None,
+            sought: Sought::default(),
+            way: Way::Path,
+            book,
+            asked: None,
+        },
         stated.map(String::from),
     )
 }

@@ -3,7 +3,7 @@
 use crate::asked;
 use crate::case::Case;
 use crate::command::{self, Run, Start, Way};
-use crate::command_form::{in_turn, letters, safe};
+use crate::command_form::{in_turn, letters, safe, Sought};
 use crate::count_edges;
 use crate::count_letters;
 use crate::expected::Expected;
@@ -53,7 +53,7 @@ pub fn own_answer(start: &Start) -> Expected {
 
 fn start(question: Question, book: Vec<u8>, asked: Option<String>) -> Start {
     let pattern = Some((safe(question.letters), question.pattern));
-    Start { verb: "count", pattern, keys: None, way: Way::Path, book, asked }
+    Start { verb: "count", pattern, keys: None, sought: Sought::default(), way: Way::Path, book, asked }
 }
 
 /// Gives some runs another form of the pattern, another way of the book, or leading zeros.

@@ -2,6 +2,7 @@
 
 use crate::asked;
 use crate::command::{self, Run, Start, Way};
+use crate::command_form::Sought;
 use crate::command_key::{key, word};
 use crate::compare_depth_words;
 use crate::depth::{asked_depths, depth_line, Keys};
@@ -52,7 +53,8 @@ pub fn own_answer(start: &Start) -> Expected {
 
 pub fn run(keys: [&[u8]; 2], book: Vec<u8>, asked: Option<&str>, stated: Option<&str>) -> Run {
     let (keys, asked) = (Some(keys.map(<[u8]>::to_vec)), asked.map(String::from));
-    let start = Start { verb: "depth", pattern: None, keys, way: Way::Path, book, asked };
+    let start =
+        Start { verb: "depth", pattern: None, keys, sought: Sought::default(), way: Way::Path, book, asked };
     (start, stated.map(String::from))
 }
 

@@ -3,6 +3,7 @@
 use crate::asked;
 use crate::book::MOST_MACROS;
 use crate::command::{self, Run, Start, Way};
+use crate::command_form::Sought;
 use crate::expected::Expected;
 use crate::fixed_books::example;
 use crate::fixed_reach::macros;
@@ -50,7 +51,15 @@ pub fn own_answer(start: &Start) -> Expected {
 fn run(book: Vec<u8>, asked: Option<&str>, stated: Option<&str>) -> Run {
     let asked = asked.map(String::from);
     (
-        Start { verb: "reach", pattern: None, keys: None, way: Way::Path, book, asked },
+        Start {
+            verb: "reach",
+            pattern: None,
+            keys: None,
+            sought: Sought::default(),
+            way: Way::Path,
+            book,
+            asked,
+        },
         stated.map(String::from),
     )
 }

@@ -43,7 +43,7 @@ pub fn compare_largest(program: &str, seed: u64) -> Result<Tally, String> {
 }
 
 /// The statement must be met before the case is asked.
-fn add(batch: &mut Batch, fixed: Fixed) -> Result<(), String> {
+pub fn add(batch: &mut Batch, fixed: Fixed) -> Result<(), String> {
     let own = answer(&fixed.case);
     if !fixed.agrees(&own) {
         return Err(difference(&fixed.case, &own, &format!("stated: {}", fixed.stated)));

@@ -1,7 +1,7 @@
 //! Runs of the command's `count` at the edges: long books, long patterns, patterns that begin with `-`.
 
 use crate::command::{Run, Start, Way};
-use crate::command_form::{Form, BARE, DASHES, OPTION};
+use crate::command_form::{Form, Sought, BARE, DASHES, OPTION};
 use crate::fixed_books::example;
 use crate::make_book::{keys, write};
 use crate::make_large::longest_book;
@@ -18,7 +18,15 @@ pub fn runs(seed: u64) -> Vec<Run> {
 
 pub fn run(form: Form, pattern: &[u8], way: Way, book: &[u8], stated: &str) -> Run {
     let pattern = Some((form, pattern.to_vec()));
-    let start = Start { verb: "count", pattern, keys: None, way, book: book.to_vec(), asked: None };
+    let start = Start {
+        verb: "count",
+        pattern,
+        keys: None,
+        sought: Sought::default(),
+        way,
+        book: book.to_vec(),
+        asked: None,
+    };
     (start, Some(String::from(stated)))
 }
 

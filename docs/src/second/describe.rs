@@ -47,6 +47,13 @@ pub fn describe(case: &Case) -> String {
         Case::Depth { number, words, keys, book } => {
             format!("macro {number}, work words {words}, {keys:?}\nbook in hex: {}", hex(book))
         }
+        Case::Find { number, words, buffer, k, question, book } => {
+            format!(
+                "macro {number}, work words {words}, buffer {buffer}, line {k}\n{}book in hex: {}",
+                pattern_lines(&question.pattern),
+                hex(book)
+            )
+        }
         Case::Join { left, right } => format!("left {}\nright {}", numbers(left), numbers(right)),
     };
     format!("kind: {kind}\n{rest}")

@@ -7,6 +7,8 @@ pub enum Expected {
     Line(String),
     /// These numbers in this order, each on a line of its own.
     Numbers(Vec<usize>),
+    /// These lines of a run, each with its LF.
+    Shown(Vec<String>),
     /// No answer.
     Nothing,
 }
@@ -32,6 +34,7 @@ impl Expected {
                 let list: String = numbers.iter().map(|number| format!(" {number}")).collect();
                 format!("numbers{list}")
             }
+            Expected::Shown(lines) => format!("shown {}", lines.join("\n")),
             Expected::Nothing => String::from("nothing"),
         }
     }
@@ -40,6 +43,7 @@ impl Expected {
         let printed = match self {
             Expected::Line(line) => output == [line.as_bytes(), b"\n"].concat(),
             Expected::Numbers(numbers) => output == lines(numbers).as_bytes(),
+            Expected::Shown(lines) => output == [lines.join("\n").as_bytes(), b"\n"].concat(),
             Expected::Nothing => output.is_empty(),
         };
         printed && status == Some(self.status())

@@ -10,6 +10,13 @@ use crate::fixed_depth_long::long_depths;
 use crate::fixed_depth_refused::refused_depths;
 use crate::fixed_depth_sums::long_sums;
 use crate::fixed_ends::ends;
+use crate::fixed_find;
+use crate::fixed_find_deep::deep;
+use crate::fixed_find_huge;
+use crate::fixed_find_long::long;
+use crate::fixed_find_refused::refusals;
+use crate::fixed_find_seeded::every_line;
+use crate::fixed_find_words::in_words;
 use crate::fixed_fronts::fronts;
 use crate::fixed_letters::letters;
 use crate::fixed_letters_books::letters_in_books;
@@ -56,9 +63,9 @@ impl Fixed {
         Fixed::new(Case::Run { question: Question::new(letters, pattern), run: run.to_vec() }, stated)
     }
 
-    /// Whether an answer begins with the words stated; only a count, and the depths of a run, may say more.
+    /// Whether an answer begins with the words stated; only a count, the depths of a run and a line may say more.
     pub fn agrees(&self, answer: &str) -> bool {
-        let open = matches!(self.case, Case::Count { .. } | Case::Depth { .. });
+        let open = matches!(self.case, Case::Count { .. } | Case::Depth { .. } | Case::Find { .. });
         let more = open && answer.starts_with(&format!("{} ", self.stated));
         more || answer == self.stated
     }
@@ -100,6 +107,12 @@ pub fn of_depths() -> Vec<Fixed> {
 pub fn of_repeats() -> Vec<Fixed> {
     let counts = [fixed_repeats::counts(), ends_of_passes(), huge()];
     [counts.concat(), refused(), reaches_and_bodies(), fixed_repeats_depth::depths()].concat()
+}
+
+/// Those of a line that is sought.
+pub fn of_finds() -> Vec<Fixed> {
+    let far = [fixed_find_huge::huge(), long(), deep()].concat();
+    [fixed_find::small(), far, in_words(), refusals(), every_line()].concat()
 }
 
 fn of_document_01() -> Vec<Fixed> {

@@ -16,7 +16,7 @@ use crate::question::Question;
 use crate::repeats::{macros, write};
 
 /// The version, the macro count and what stands behind them, in numbers of two bytes.
-fn numbers(list: &[u16]) -> Vec<u8> {
+pub fn numbers(list: &[u16]) -> Vec<u8> {
     let bytes = list.iter().flat_map(|number| number.to_le_bytes());
     MARK.iter().copied().chain(bytes).collect()
 }

@@ -1,5 +1,5 @@
-//! A second program for document 01, and S-1, S-2, S-4, S-5, S-6, S-7 and S-8 of document 02, written apart from the
-//! first, to test it with. It works everything out by the definitions and prefers plainness to speed.
+//! A second program for document 01, and S-1 to S-8 of document 02, written apart from the first, to test it with.
+//! It works everything out by the definitions and prefers plainness to speed.
 
 mod answer;
 mod asked;
@@ -12,6 +12,7 @@ mod child;
 mod classes;
 mod command;
 mod command_form;
+mod command_form_lines;
 mod command_key;
 mod command_repeats;
 mod compare;
@@ -21,6 +22,9 @@ mod compare_count;
 mod compare_cuecount;
 mod compare_depth;
 mod compare_depth_words;
+mod compare_find;
+mod compare_line;
+mod compare_line_stated;
 mod compare_patterns;
 mod compare_reach;
 mod compare_regroup;
@@ -37,6 +41,7 @@ mod depth_paired;
 mod describe;
 mod enumerate;
 mod expected;
+mod find;
 mod fixed;
 mod fixed_again;
 mod fixed_books;
@@ -46,6 +51,13 @@ mod fixed_depth_long;
 mod fixed_depth_refused;
 mod fixed_depth_sums;
 mod fixed_ends;
+mod fixed_find;
+mod fixed_find_deep;
+mod fixed_find_huge;
+mod fixed_find_long;
+mod fixed_find_refused;
+mod fixed_find_seeded;
+mod fixed_find_words;
 mod fixed_forms;
 mod fixed_fronts;
 mod fixed_letters;
@@ -96,6 +108,7 @@ mod make_deep;
 mod make_depth;
 mod make_depth_long;
 mod make_ends;
+mod make_find;
 mod make_forms;
 mod make_large;
 mod make_letters;
@@ -119,9 +132,12 @@ mod make_triple;
 mod make_triple_long;
 mod make_triple_report;
 mod meaning;
+mod measures;
 mod natural;
 mod operations;
 mod parser;
+mod passage;
+mod place;
 mod question;
 mod reach;
 mod refusal;
@@ -130,6 +146,7 @@ mod repeats;
 mod report;
 mod rng;
 mod scan;
+mod seek;
 mod selftest;
 mod selftest_brackets;
 mod selftest_command;
@@ -137,8 +154,14 @@ mod selftest_depth;
 mod selftest_depth_made;
 mod selftest_depth_told;
 mod selftest_depth_wrong;
+mod selftest_find;
+mod selftest_find_laws;
+mod selftest_find_made;
+mod selftest_find_parts;
+mod selftest_find_wrong;
 mod selftest_forms;
 mod selftest_letters;
+mod selftest_line;
 mod selftest_patterns;
 mod selftest_reach;
 mod selftest_reach_made;
@@ -158,6 +181,7 @@ mod selftest_triple;
 mod selftest_triple_made;
 mod selftest_triple_wrong;
 mod selftest_triple_wrong_sums;
+mod show;
 mod states;
 mod summary;
 mod tally;
@@ -175,6 +199,7 @@ second make SEED COUNT > cases
 second depths SEED COUNT > cases
 second triples SEED COUNT > cases
 second repeats SEED COUNT > cases
+second finds SEED COUNT > cases
 second compare CASES CUECOUNT RAKVINJE SEED N [PATTERNS]
 second selftest";
 
@@ -187,6 +212,7 @@ fn main() {
         ["depths", seed, count] => depths_stream(seed, count),
         ["triples", seed, count] => triples_stream(seed, count),
         ["repeats", seed, count] => repeats_stream(seed, count),
+        ["finds", seed, count] => finds_stream(seed, count),
         ["compare", cases, cuecount, command, seed, cases_wanted] => {
             compare_programs([cases, cuecount, command], seed, cases_wanted, None)
         }
@@ -239,6 +265,12 @@ fn triples_stream(seed: &str, count: &str) -> Result<(), String> {
 fn repeats_stream(seed: &str, count: &str) -> Result<(), String> {
     let seeded = make_repeats::cases(number(seed)?, number(count)?);
     print_cases(fixed::of_repeats().into_iter().map(|fixed| fixed.case).chain(seeded))
+}
+
+/// The fixed ones, and behind them the seeded ones.
+fn finds_stream(seed: &str, count: &str) -> Result<(), String> {
+    let seeded = make_find::cases(number(seed)?, number(count)?);
+    print_cases(fixed::of_finds().into_iter().map(|fixed| fixed.case).chain(seeded))
 }
 
 fn print_cases(cases: impl Iterator<Item = case::Case>) -> Result<(), String> {

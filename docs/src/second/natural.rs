@@ -13,6 +13,25 @@ impl Natural {
         Natural { words: vec![1] }
     }
 
+    pub fn of(number: u64) -> Natural {
+        let mut natural = Natural { words: vec![number] };
+        natural.trim();
+        natural
+    }
+
+    pub fn is_zero(&self) -> bool {
+        self.words.is_empty()
+    }
+
+    /// The smaller of this number and 2^64 - 1.
+    pub fn word(&self) -> u64 {
+        match self.words[..] {
+            [] => 0,
+            [word] => word,
+            _ => u64::MAX,
+        }
+    }
+
     pub fn add(&mut self, other: &Natural) {
         self.add_times(other, 1);
     }
@@ -31,6 +50,27 @@ impl Natural {
         }
         if carry > 0 {
             self.words.push(carry as u64);
+        }
+        self.trim();
+    }
+
+    /// Takes away another one, which is not greater.
+    pub fn subtract(&mut self, other: &Natural) {
+        let mut borrowed = false;
+        for (place, word) in self.words.iter_mut().enumerate() {
+            let less = other.words.get(place).copied().unwrap_or(0);
+            let (once, under) = word.overflowing_sub(less);
+            let (twice, again) = once.overflowing_sub(u64::from(borrowed));
+            *word = twice;
+            borrowed = under || again;
+        }
+        assert!(!borrowed, "a greater number was taken away: the second program is wrong");
+        self.trim();
+    }
+
+    fn trim(&mut self) {
+        while self.words.last() == Some(&0) {
+            self.words.pop();
         }
     }
 }

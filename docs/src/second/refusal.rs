@@ -16,6 +16,11 @@ pub const SHORT_WORK: Refusal = 11;
 pub const COUNT_TOO_HIGH: Refusal = 12;
 pub const UNLIKE_REPORTS: Refusal = 13;
 pub const LONG_INPUT: Refusal = 14;
+/// Document 02, S-3: fewer matching lines than asked for, a line number over 2^64 - 1, and a buffer that is shorter
+/// than the line.
+pub const NO_SUCH_LINE: Refusal = 15;
+pub const LINE_NUMBER: Refusal = 16;
+pub const SHORT_BUFFER: Refusal = 17;
 /// Document 02, S-6.
 pub const BAD_KEYS: Refusal = 18;
 pub const LONG_RUN: Refusal = 19;

@@ -1,6 +1,6 @@
 //! Checks this program with itself: stated answers, the two methods of counting, trees written down
 //! and read again, the meaning against a list of texts, joins against reports of longer runs, reach lists,
-//! depths, triples of reports, regroupings, repeat counts; under both choices of case.
+//! depths, triples of reports, regroupings, repeat counts, lines that are sought; under both choices of case.
 
 use crate::answer::answer;
 use crate::book;
@@ -27,8 +27,10 @@ use crate::rng::Rng;
 use crate::selftest_brackets;
 use crate::selftest_command;
 use crate::selftest_depth;
+use crate::selftest_find;
 use crate::selftest_forms;
 use crate::selftest_letters;
+use crate::selftest_line;
 use crate::selftest_patterns;
 use crate::selftest_reach;
 use crate::selftest_regroup;
@@ -75,6 +77,8 @@ pub fn selftest() -> bool {
     selftest_regroup::all(&mut checks);
     selftest_repeats::all(&mut checks);
     selftest_forms::all(&mut checks);
+    selftest_find::all(&mut checks);
+    selftest_line::all(&mut checks);
     for number in 0..2000 {
         let mut rng = Rng::for_case(0x5E1F, number);
         let letters = BOTH[number as usize % 2];
