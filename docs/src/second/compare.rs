@@ -5,7 +5,7 @@ use crate::command_repeats::{check_runs, count_runs, depth_runs, reach_runs};
 use crate::expected::Expected;
 use crate::tally::Tally;
 use crate::{
-    compare_cases, compare_check, compare_count, compare_cuecount, compare_find,
+    compare_cases, compare_check, compare_count, compare_cuecount, compare_find, compare_line,
     compare_regroup, compare_repeats,
 };
 use crate::{compare_depth, compare_patterns, compare_reach, compare_triples, compare_usage};
@@ -79,7 +79,7 @@ fn compare_command(command: &str, seed: u64, done: &mut impl FnMut(&str, Tally))
     ] {
         done(&group, tally);
     }
-    // The command has no verbs `line` and `lines` yet: `compare_line::compare` asks them.
+    done("runs of line and lines", compare_line::compare(command, seed)?);
     done("runs with no answer", compare_usage::compare(command)?);
     Ok(())
 }
