@@ -144,6 +144,120 @@ expect 0 'end 281462092005375 lowest 0' 'A block is left open*' "$r" depth a b "
 expect 1 'refused 19' '*over 4,611,686,018,427,387,904 keys*' "$r" depth a b "$room/nights" 4
 expect 0 "$(seq 41 -1 0)" '' "$r" reach "$room/nights"
 
+# Lines of a run.
+expect 0 1:B '' "$r" line 1 B "$small"
+expect 0 1:B '' "$r" line 0001 B "$small" 01
+expect 0 1:B '' "$r" line 1 B - <"$small"
+expect 0 2:CB '' "$r" line 2 B "$small"
+expect 0 1:B '' "$r" line 1 B "$small" 0
+expect 1 'refused 15' '*Fewer lines of the run match*' "$r" line 2 B "$small" 0
+expect 0 "$(listed 1:B 2:CB)" '' "$r" lines B "$small"
+expect 0 "$(listed 1:B 2:CB)" '' "$r" lines B - < <(slowly "$small")
+expect 0 2:CB '' "$r" lines C "$small"
+expect 0 2:CB '' "$r" lines B "$small" --first 2
+expect 1 'refused 15' '*Fewer lines of the run match*' "$r" lines B "$small" --first 3
+# Two of the lines of GO, go, Go1, by all forms of the options.
+for words in '-i go FILE' '-i GO FILE 0' '-ie gO FILE' '-i -e Go FILE' '-e gO -i FILE' '-i -i go FILE' '-i -- GO FILE 0'; do
+    # shellcheck disable=SC2086 # these are words
+    expect 0 "$(listed 1:GO 2:go 3:Go1)" '' "$r" lines ${words/FILE/"$letters"}
+    for range in '--first 2 --count 1' '--count=1 --first=2' '--count 01 --first=002'; do
+        # shellcheck disable=SC2086
+        expect 0 2:go '' "$r" lines $range ${words/FILE/"$letters"}
+        # shellcheck disable=SC2086
+        [[ $words == *--* ]] || expect 0 2:go '' "$r" lines ${words/FILE/"$letters"} $range
+    done
+done
+for words in '-i 2 go FILE' '-i -- 2 go FILE 0' '-ie gO 2 FILE' '-i -e Go 2 FILE' '-e gO -i 02 FILE 00'; do
+    # shellcheck disable=SC2086
+    expect 0 2:go '' "$r" line ${words/FILE/"$letters"}
+done
+expect 0 2:go '' "$r" line 1 go "$letters"
+expect 1 'refused 15' '*Fewer lines of the run match*' "$r" line 2 go "$letters"
+# Ten lines without --count.
+expect 0 "$(seq -f %g:GO 2 11)" '' "$r" lines GO "$chase"
+expect 0 "$(seq -f %g:GO 2 12)" '' "$r" lines GO "$chase" --count 11
+expect 0 "$(seq -f %g:GO 2 401; seq -f %g:GO 404 803; seq -f %g:GO 806 1029)" '' "$r" lines GO "$chase" --count 1024
+expect 0 "$(listed 12060:BLACKOUT)" '' "$r" lines BLACKOUT "$chase" --first 60
+# Line ends: a CR before LF is none of the line's keys, any other is one.
+expect 0 "$(listed 1:GO '2:HAZE GO' '3:GO\x0d')" '' "$r" lines . "$laptop"
+expect 0 '1:a\x0d' '' "$r" line 1 a "$room/returns"
+expect 0 '2:\x0d' '' "$r" line 2 . "$room/returns"
+expect 0 2: '' "$r" line 1 '^$' "$room/alone"
+expect 0 "$(listed 1: 2: 3:)" '' "$r" lines '^$' "$room/seams" 1
+expect 0 '4:\x0d' '' "$r" line 1 "$cr" "$room/seams" 1
+expect 0 1:ababab '' "$r" line 1 ba "$room/seams" 3
+# Every key but LF, in order: 32 to 126 as they are, but for the backslash; the others by their numbers.
+{
+    printf 'MBK\1\0\5\0'
+    for from in 0 64 128 192; do
+        printf -v items '\\x%02x\\0' "$((from == 0 ? 62 : 64))"
+        printf %b "$items"
+        for ((i = from; i < from + 64; i++)); do
+            case $i in 0 | 10) ;; *) printf -v key '\\x%02x\\0' "$i"; printf '%b' "$key" ;; esac
+        done
+    done
+    printf '\4\0\0\1\1\1\2\1\3\1'
+} >"$room/bytes"
+all=$(for i in {1..9} {11..255}; do
+    printf -v key '\\x%02x' "$i"
+    if [ "$i" -eq 92 ]; then key='\\'; elif [ "$i" -ge 32 ] && [ "$i" -le 126 ]; then printf -v key %b "$key"; fi
+    printf %s "$key"
+done)
+expect 0 "1:$all" '' "$r" line 1 a "$room/bytes"
+# A line that begins in one macro and ends in another, forty calls below: x, forty times y before a call, z, LF, and a.
+{
+    printf 'MBK\1\0\53\0\2\0z\0\n\0'
+    for i in {0..39}; do
+        printf -v call '\\x%02x\\1' "$i"
+        printf '\2\0y\0%b' "$call"
+    done
+    printf '\2\0x\0\50\1\3\0\n\0\51\1a\0'
+} >"$room/forty"
+expect 0 "2:x$(many y 40)z" '' "$r" line 1 x.*z "$room/forty"
+expect 0 "$(listed 1: "2:x$(many y 40)z" 3:a)" '' "$r" lines '^' "$room/forty"
+# 65,536 keys are shown, one more is told of: x 65,535 times, x, LF, y 65,535 times, yy, LF, the last two without a line end, too.
+book long 'MBK\2\0\2\0\6\0x\0\377\377x\0\1\0\n\0\1\0y\0\377\377y\0\2\0\n\0\1\0\3\0\0\1\2\0y\0\377\377y\0\2\0'
+told='The line is not shown: it has over 65,536 keys.*'
+expect 0 "1:$(many x 65536)" '' "$r" line 1 . "$room/long"
+expect 0 '2 length 65537' "$told" "$r" line 2 . "$room/long"
+expect 0 '2 length 65537' "$told" "$r" line 1 y "$room/long"
+expect 0 '5 length 65537' "$told" "$r" line 5 . "$room/long"
+expect 0 "$(listed "1:$(many x 65536)" '2 length 65537' "3:$(many x 65536)" '4 length 65537' '5 length 65537')" "$told" "$r" lines . "$room/long"
+# \ and CR: 65,536 backslashes are 131,072 bytes; with CR LF behind them they are no more keys.
+book slashes 'MBK\2\0\1\0\5\0\\\0\377\377\\\0\1\0\r\0\1\0\n\0\1\0\377\0\377\377'
+expect 0 "1:$(many '\\' 131072)" '' "$r" line 1 . "$room/slashes"
+expect 0 "2:$(many x 65535 | sed 's/x/\\xff/g')" '' "$r" line 2 . "$room/slashes"
+# LF 2^64 - 1 times is macro 63: behind it b has a number that is too high; 64 has one LF less, and b, and 65 calls 64 and has b again.
+{
+    printf 'MBK\1\0\103\0\1\0\n\0'
+    for i in {0..62}; do
+        printf -v call '\\x%02x\\1' "$i"
+        printf '\3\0%b%b\0\1' "$call" "$call"
+    done
+    printf '\3\0\76\1\76\1b\0\3\0\100\1\n\0b\0\2\0\77\1b\0'
+} >"$room/far"
+expect 0 18446744073709551615:b '' "$r" line 1 b "$room/far" 64
+expect 0 18446744073709551615:b '' "$r" lines b "$room/far" 65
+expect 1 'refused 16' '*number is over 18,446,744,073,709,551,615*' "$r" line 2 b "$room/far" 65
+expect 1 'refused 16' '*number is over 18,446,744,073,709,551,615*' "$r" lines b "$room/far" 65 --first 2
+expect 1 'refused 16' '*number is over 18,446,744,073,709,551,615*' "$r" line 1 b "$room/far"
+expect 1 'refused 15' '*Fewer lines of the run match*' "$r" line 2 b "$room/far"
+expect 0 18446744073709551615: '' "$r" line 18446744073709551615 '^$' "$room/far" 63
+# The nights: the last line that can be asked for, in runs that have more.
+expect 0 18446744073709551615:a '' "$r" line 18446744073709551615 a "$room/nights"
+expect 1 'refused 15' '*Fewer lines of the run match*' "$r" line 18446744073709551615 a "$room/nights" 4
+expect 0 "$(listed 18446744073709551614:a 18446744073709551615:a)" '' "$r" lines a "$room/nights" --first 18446744073709551614
+# A key 65,535^4 times and more: the length is told up to 2^64 - 2.
+{
+    printf 'MBK\2\0\6\0\1\0x\0\1\0'
+    for i in {0..4}; do
+        printf -v call '\\x%02x\\1' "$i"
+        printf '\1\0%b\377\377' "$call"
+    done
+} >"$room/endless"
+expect 0 '1 length 18445618199572250625' "$told" "$r" line 1 x "$room/endless" 4
+expect 0 '1 length 18446744073709551614' "$told" "$r" line 1 x "$room/endless"
+
 # Check.
 expect 0 'sound version 1 macros 2 items 5 bytes 21' '' "$r" check "$small"
 expect 0 'sound version 1 macros 300 items 5434 bytes 11475' '' "$r" check "$arena"
@@ -267,8 +381,9 @@ expect 0 'sound version 1 macros 1024 items 65536 bytes 133127' '' "${within[@]}
 expect 0 'lines 1 steps 5043200' '' "${within[@]}" count "$(many x 29)" "$room/longest" 1023
 expect 0 1023 '' "${within[@]}" reach "$room/longest"
 expect 0 1023 '' "${within[@]}" reach "$room/longest" "$(many 0 131000)1023"
-# Macros one inside the other, with 1 MiB of stack beyond the program's buffers, which are less than 600 KiB.
+# Macros one inside the other, with 1 MiB of stack beyond the program's buffers, which are less than 600 KiB, and 914 KiB where lines are shown.
 beyond=(bash -c 'ulimit -s 1600; exec "$@"' - "$r")
+finding=(bash -c 'ulimit -s 1938; exec "$@"' - "$r")
 expect 0 "$(seq 1023 -1 0)" '' "${beyond[@]}" reach "$room/chain"
 # 64 keys, and 1,023 macros of 64 calls: the first item of each calls the macro below, the others macro 0.
 {
@@ -285,6 +400,18 @@ expect 0 133127 '' stat -c %s "$room/full"
 expect 0 "$(seq 1023 -1 0)" '' "${beyond[@]}" reach "$room/full"
 expect 0 'end 4124800 lowest 0' "$left" "${within[@]}" depth x y "$room/full"
 expect 0 'end 4124800 lowest 0' "$left" "${within[@]}" depth x y - <"$room/full"
+# A line of these macros, and one of 65,536 keys, four bytes each where they are shown, 1,023 macros inside the other.
+expect 0 '1 length 4124800' "$told" "${finding[@]}" line 1 x "$room/full"
+expect 0 1:x '' "${finding[@]}" line 1 x "$room/chain"
+{
+    printf 'MBK\2\0\0\4\2\0\1\0\377\377\1\0\1\0'
+    for i in {0..1022}; do
+        printf -v call '\\x%02x\\x%02x' $((i % 256)) $((i / 256 + 1))
+        printf '\2\0\n\0\1\0%b\1\0' "$call"
+    done
+} >"$room/inside"
+expect 0 "1024:$(many x 65536 | sed 's/x/\\x01/g')" '' "${finding[@]}" line 1 . "$room/inside"
+expect 0 "1024:$(many x 65536 | sed 's/x/\\x01/g')" '' "${finding[@]}" lines -i . - 1023 <"$room/inside"
 # The longest of version 2: each macro but the first calls the one below it 64 times, 65,535 times over.
 {
     printf 'MBK\2\0\0\4\100\0'
@@ -307,6 +434,7 @@ expect 1 'refused 12' '*largest that can be given*' "${within[@]}" count "$(many
 expect 0 'lines 0 steps 0' '' "${within[@]}" count "$(many y 29)" - <"$room/longest2"
 expect 1 'refused 19' '*over 4,611,686,018,427,387,904 keys*' "${within[@]}" depth x y "$room/longest2"
 expect 0 "$(seq 1023 -1 0)" '' "${beyond[@]}" reach "$room/longest2"
+expect 0 '18446744073709551615 length 4128705' "$told" "${finding[@]}" line 18446744073709551615 x "$room/longest2"
 cp "$room/longest2" "$room/longer2"
 printf '\0' >>"$room/longer2"
 expect 1 'refused 4' '*cut short or goes on*' "${within[@]}" check "$room/longer2"
@@ -317,16 +445,18 @@ head -c 1000000 /dev/zero >>"$room/much_longer"
 many '\0' 264199 >"$room/zeros"
 many '\0' 264200 >"$room/more_zeros"
 many '\0' 1000000 >"$room/most_zeros"
-for verb in 'count B' check reach 'depth ( )'; do
+for verb in 'count B' check reach 'depth ( )' 'line 1 B' 'lines B'; do
+    limited=("${within[@]}")
+    [[ $verb != line* ]] || limited=("${finding[@]}")
     for longer in longer much_longer; do
         # shellcheck disable=SC2086
-        expect 1 'refused 4' '*cut short or goes on*' "${within[@]}" $verb "$room/$longer"
+        expect 1 'refused 4' '*cut short or goes on*' "${limited[@]}" $verb "$room/$longer"
         # shellcheck disable=SC2086
-        expect 1 'refused 4' '*cut short or goes on*' "${within[@]}" $verb - < <(cat "$room/$longer")
+        expect 1 'refused 4' '*cut short or goes on*' "${limited[@]}" $verb - < <(cat "$room/$longer")
     done
     for zeros in zeros more_zeros most_zeros; do
         # shellcheck disable=SC2086
-        expect 1 'refused 1' '*begin with MBK*' "${within[@]}" $verb "$room/$zeros"
+        expect 1 'refused 1' '*begin with MBK*' "${limited[@]}" $verb "$room/$zeros"
     done
 done
 
@@ -346,6 +476,9 @@ refused_book() {
     expect 1 "refused $1" "*$2*" "$r" reach "$3" 5
     expect 1 "refused $1" "*$2*" "$r" depth '(' ')' "$3"
     expect 1 "refused $1" "*$2*" "$r" depth '(' ')' "$3" 5
+    expect 1 "refused $1" "*$2*" "$r" line 1 B "$3"
+    expect 1 "refused $1" "*$2*" "$r" line 0 '' "$3" 5
+    expect 1 "refused $1" "*$2*" "$r" lines '' "$3" 5 --first 9
 }
 
 # Refusals.
@@ -399,7 +532,16 @@ for asked in 2 1024 18446744073709551616 340282366920938463463374607431768211457
     expect 1 'refused 10' '*no macro of that number*' "$r" count B "$small" "$asked"
     expect 1 'refused 10' '*no macro of that number*' "$r" reach "$small" "$asked"
     expect 1 'refused 10' '*no macro of that number*' "$r" depth B C "$small" "$asked"
+    expect 1 'refused 10' '*no macro of that number*' "$r" line 0 B "$small" "$asked"
+    expect 1 'refused 10' '*no macro of that number*' "$r" lines B "$small" "$asked" --first 9
 done
+for k in 0 000 3 18446744073709551615; do
+    expect 1 'refused 15' '*Fewer lines of the run match*the first is 1*' "$r" line "$k" B "$small"
+    expect 1 'refused 15' '*Fewer lines of the run match*the first is 1*' "$r" lines --first "$k" B "$small"
+done
+expect 1 'refused 7' '*over 128 bytes*' "$r" line 0 '' "$small" 9
+expect 1 'refused 8' '*not of the form*' "$r" lines '(' "$small" --first 0
+expect 1 'refused 9' '*over 29 atoms*' "$r" line -i 1 "$(many x 30)" "$small"
 {
     printf 'MBK\1\0\101\0\2\0a\0\n\0'
     for i in {0..62}; do
@@ -410,9 +552,12 @@ done
 } >"$room/high"
 expect 0 'lines 18446744073709551615 steps 389' '' "$r" count a "$room/high" 63
 expect 1 'refused 12' '*largest that can be given*' "$r" count a "$room/high"
+expect 0 18446744073709551615:a '' "$r" line 18446744073709551615 a "$room/high" 63
+expect 0 18446744073709551615:a '' "$r" line 18446744073709551615 a "$room/high"
+expect 0 18446744073709551615:a '' "$r" lines a "$room/high" --first 18446744073709551615 --count 1024
 
 # No answer: files, numbers, the answer itself.
-for verb in 'count B' check reach 'depth ( )'; do
+for verb in 'count B' check reach 'depth ( )' 'line 1 B' 'lines B'; do
     # shellcheck disable=SC2206
     asked=("$r" $verb)
     expect 2 '' '*No such file or directory*' "${asked[@]}" "$room/missing"
@@ -428,13 +573,23 @@ for asked in '' x -1 +1 1x ' 1' 0x1 1.0; do
     expect 2 '' '*decimal digits*' "$r" count B "$small" "$asked"
     expect 2 '' '*decimal digits*' "$r" reach "$small" "$asked"
     expect 2 '' '*decimal digits*' "$r" depth B C "$small" "$asked"
+    expect 2 '' '*macro number must be decimal digits*' "$r" line 1 B "$small" "$asked"
+    expect 2 '' '*macro number must be decimal digits*' "$r" lines B "$small" "$asked"
+done
+for k in '' x -1 +1 1x ' 1' 0x1 1.0 18446744073709551616 "$(many 9 5000)"; do
+    expect 2 '' "*line's number*decimal digits*" "$r" line -- "$k" B "$small"
+    expect 2 '' "*line's number*decimal digits*" "$r" lines B "$small" --first "$k"
+done
+for count in '' x -1 +1 1x ' 1' 0 000 1025 01025 99999 18446744073709551617 "$(many 9 5000)"; do
+    expect 2 '' '*from 1 to 1,024*rakvinje help lines*' "$r" lines B "$small" --count "$count"
+    expect 2 '' '*from 1 to 1,024*rakvinje help lines*' "$r" lines --count="$count" B "$small"
 done
 
 # Help.
 expect 0 "$(<scripts/help/verbs.txt)" '' "$r" help
 expect 0 "$(<scripts/help/verbs.txt)" '' "$r" --help
 expect 0 "$(<scripts/help/verbs.txt)" '' "$r" -h
-for verb in count check reach depth help; do
+for verb in count line lines check reach depth help; do
     text=$(<scripts/help/$verb.txt)
     expect 0 "$text" '' "$r" help "$verb"
     expect 0 "$text" '' "$r" "$verb" --help
@@ -446,7 +601,7 @@ done
 expect 2 '' '*' bash -c '"$@" >/dev/full' - "$r" help count
 
 # The examples of the help are what is printed.
-for verb in count check reach depth; do
+for verb in count line lines check reach depth; do
     example=$(sed -n 's/^  \$ //p' scripts/help/$verb.txt)
     [ -n "$example" ] || example="echo 'the help of $verb has no example'"
     said=''
@@ -463,13 +618,13 @@ expect 0 '' 'standard output: No space left on device' bash -c '"$1" >/dev/full'
 
 # Wrong usage.
 expect 2 '' 'usage: rakvinje VERB*' "$r"
-expect 2 '' "*no verb 'lines'*rakvinje help*" "$r" lines
+expect 2 '' "*no verb 'show'*rakvinje help*" "$r" show
 expect 2 '' "*no verb ''*rakvinje help*" "$r" ''
 expect 2 '' "*no verb 'verbs'*rakvinje help*" "$r" help verbs
 expect 2 '' "*no verb '../count'*rakvinje help*" "$r" help ../count
 expect 2 '' "*no option '-x' before the verb*rakvinje help*" "$r" -x count B "$small"
 expect 2 '' "*no option '--' before the verb*rakvinje help*" "$r" -- count B "$small"
-for verb in count check reach depth help; do
+for verb in count line lines check reach depth help; do
     for option in -x --x --helping --help=1 -: '-?'; do
         expect 2 '' "*$verb has no option '${option/\?/\\?}'*rakvinje help $verb*" "$r" "$verb" "$option" B "$small"
     done
@@ -494,6 +649,30 @@ expect 2 '' 'usage: rakvinje check BOOK' "$r" check
 expect 2 '' 'usage: rakvinje check BOOK' "$r" check "$small" 1
 expect 2 '' 'usage: rakvinje reach BOOK [[]MACRO]' "$r" reach
 expect 2 '' 'usage: rakvinje reach BOOK [[]MACRO]' "$r" reach "$small" 1 1
+usage='usage: rakvinje line [[]-i] K*'
+expect 2 '' "$usage" "$r" line
+expect 2 '' "$usage" "$r" line 1 B
+expect 2 '' "$usage" "$r" line -i 1 B
+expect 2 '' "$usage" "$r" line -e B
+expect 2 '' "$usage" "$r" line -ie B 1
+expect 2 '' "$usage" "$r" line 1 B "$small" 1 1
+expect 2 '' "*line has no option '--first'*rakvinje help line*" "$r" line --first 1 B "$small"
+expect 2 '' "$usage" "$r" line 1 B "$small" --first 1
+usage='usage: rakvinje lines [[]-i] PATTERN*'
+expect 2 '' "$usage" "$r" lines
+expect 2 '' "$usage" "$r" lines B
+expect 2 '' "$usage" "$r" lines --first 1 B
+expect 2 '' "$usage" "$r" lines -e B --count 1
+expect 2 '' "$usage" "$r" lines B "$small" 1 1
+expect 2 '' "$usage" "$r" lines -- B "$small" --first 1
+expect 2 '' "*lines has no option '--firs'*rakvinje help lines*" "$r" lines --firs 1 B "$small"
+for option in --first --count; do
+    expect 2 '' "*option $option needs a value*rakvinje help lines*" "$r" lines B "$small" "$option"
+    expect 2 '' "*option $option is given twice*rakvinje help lines*" "$r" lines "$option" 1 B "$small" "$option=1"
+    expect 2 '' "*option $option is given twice*rakvinje help lines*" "$r" lines B "$small" "$option" '' "$option" 1
+done
+expect 2 '' '*option -e needs a value*rakvinje help lines*' "$r" lines --first 1 -e
+expect 2 '' '*option -e is given twice*rakvinje help line*' "$r" line -e B -e C 1 "$small"
 usage='usage: rakvinje depth OPEN CLOSE BOOK [[]MACRO]'
 expect 2 '' "$usage" "$r" depth
 expect 2 '' "$usage" "$r" depth '(' ')'
