@@ -115,5 +115,6 @@ at_least 'fixed cases of repeat counts' "$(wc -l <tests/repeats/stdout)"
 at_least 'fixed cases of lines' "$(wc -l <tests/find/stdout)"
 at_least 'patterns of `pattern_cases`' "$(wc -l <crates/pattern_cases/stdin)"
 at_least 'rows of `paper-runs`' "$(LC_ALL=C grep -Ec '^ *(. |...? )?row \(' crates/command/proofs/PaperRuns.antt)"
+at_least 'rows of `paper-lines`' "$(LC_ALL=C grep -Ec '^ +(. |...? )?row ' crates/display/proofs/Examples.antt)"
 
 [ "$faults" -eq 0 ]

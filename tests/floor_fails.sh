@@ -40,6 +40,8 @@ lacks 'more of refusal is not in the table' crates/refusal/src/lib.rt sed -i '$a
 lacks 'there is no public function sum of reports' crates/reports/src/total.rt sed -i 's/^pub fn sum(/pub(crate) fn sum(/'
 lacks 'counter has' crates/counter/must-fail/count_zero.edit rm
 lacks 'rows of `paper-runs`: 45' crates/command/proofs/PaperRuns.antt sed -i '/row (programSteps example)/d'
+lacks 'rows of `paper-lines`: 11' crates/display/proofs/Examples.antt sed -i '/row (chase 144 1) (97 ∷ \[\]) 1 401/d'
+lacks 'too-short-iff does not stand' crates/find/proofs/Locating.antt sed -i 's/pub too-short-iff :/too-short-iff :/'
 lacks 'fixed cases of `cases`' crates/cases/stdout sed -i '7d'
 lacks 'fixed cases of depths' tests/depth/stdout sed -i '7d'
 lacks 'fixed cases of joining' tests/joining/stdout sed -i '7d'

@@ -1,22 +1,21 @@
 -- Laws of what a pen writes: of runs one behind the other, of passes that are skipped, of an item's passes and of a macro's items.
 use Prim.Native.Nat.{ℕ, zero, suc, _+_, _-_, _*_, _/_, _<_, _≤_}
 use native.Mathlib.Nat.{div-mul-le-self, mul-le-mul-right}
-use native.Mathlib.Numerals.{add-one}
 use native.Mathlib.Omega.{arith}
 use mir.Val.{Fits}
 use mir.Syntax.{w64}
 use mathlib.Core.Path.{_≡_, refl, sym, ap, _∙_}
 use mathlib.Core.Logic.{_⊎_, inl, inr, ⊎-elim}
 use mathlib.Core.Bool.{true, false, _&&_, cond}
-use mathlib.Core.List.{List, [], _∷_, _++_, append-assoc, append-nil, List·Memᴰ}
+use mathlib.Core.List.{List, [], _∷_, _++_, append-assoc, List·Memᴰ}
 use lib.Dec.{eqb, ltb}
-use lib.ListN.{length, getD, set, take, drop, length-append, length-take, length-drop, take-append-drop, drop-of-length-le}
-use lib.Seq.{take-nil, drop-nil, take-at, drop-append-add, drop-drop, set-split}
+use lib.ListN.{length, getD, set, take, drop, length-append, length-take, length-drop, take-append-drop}
+use lib.Seq.{take-nil, take-at, drop-append-add, drop-drop, set-split}
 use borrow.Author.Tests.{eqb-true, eqb-false, eq-eqb, ne-eqb, ltb-true, ltb-false, lt-ltb, le-ltb}
 use Rattle.runs.specs.Keys.{lineEnd}
 use Rattle.runs.specs.Kept.{firstWords, times}
 use Rattle.runs.proofs.Tests.{and-parts, by-test, either}
-use Rattle.runs.proofs.KeptLaws.{words-length, words-stored, times-add, times-none, times-one}
+use Rattle.runs.proofs.KeptLaws.{words-suc, times-add, times-none, times-one}
 use Rattle.book.specs.declared.item.Item.{Item}
 use Rattle.book.specs.declared.item.Item.the-variants.{Key, Call}
 use Rattle.book.specs.declared.item.ItemRead.{ItemRead}
@@ -32,7 +31,6 @@ use Rattle.book.proofs.Expansion.{well-key, well-call, unrolled-none, expand-no
 use Rattle.extents.specs.Capped.{most, capped}
 use Rattle.extents.specs.declared.extent.Extent.{Extent}
 use Rattle.extents.specs.Extents.{endCount, extentOf}
-use Rattle.extents.specs.Words.{width}
 use Rattle.extents.proofs.CappedLaws.{capped-below}
 use Rattle.extents.proofs.ExtentLaws.{ends-none, ends-cons, ends-append, ends-times, extent-fields, key-extent}
 use Rattle.find.specs.declared.writing.Pen.{Pen}
@@ -392,24 +390,12 @@ served-extent ms words (Call j) s = extent-at ms (suc j) j (omega arith) words (
 
 -- The words of the first n macros are those of the first m, and others behind them.
 module _ (ms : List Macro) where
-  -- by what is stored behind the first n
-  words-suc : (n : ℕ) → firstWords (extentWordsOf ms) (suc n) ≡ firstWords (extentWordsOf ms) n ++ extentWordsOf ms n
-  words-suc n =
-      let W = extentWordsOf ms in
-      let front = firstWords W n ++ drop (n * width) [] in
-      let long = words-length W width (λ i. refl) n in
-      let bare : (l : List ℕ) (k : ℕ) → l ++ drop k [] ≡ l = λ l k. rw (drop-nil {A = ℕ} k) (append-nil l) in
-      let short : length (firstWords W n) ≤ n * width + width = omega (arith, long) in
-      let rest : drop (n * width + width) front ≡ [] = rw (bare (firstWords W n) (n * width)) (drop-of-length-le (firstWords W n) short) in
-      let stored = words-stored W width (λ i. refl) n [] front _ refl refl in
-      rw (take-at (firstWords W n) (drop (n * width) []) (n * width) long, rest, append-nil (W n), bare (firstWords W (n + 1)) ((n + 1) * width), add-one n) at (sym stored)
-
   pub extended-less : (n m : ℕ) (words : List ℕ) → m ≤ n → Extended ms n words → Extended ms m words
   unfolding Extended
   extended-less zero m words h x = let none : m ≡ 0 = omega arith in rw none x
   extended-less (suc n) m words h x =
       either m (suc n)
-      (λ l. extended-less n m words (omega arith) (extentWordsOf ms n ++ x .0, x .1 ∙ rw (words-suc n) (append-assoc (firstWords (extentWordsOf ms) n) (extentWordsOf ms n) (x .0))))
+      (λ l. extended-less n m words (omega arith) (extentWordsOf ms n ++ x .0, x .1 ∙ rw (words-suc (extentWordsOf ms) n) (append-assoc (firstWords (extentWordsOf ms) n) (extentWordsOf ms n) (x .0))))
       (λ l. let all : m ≡ suc n = omega arith in rw all x)
 
 -- a called macro and those below it have their words, so it can be written

@@ -2,9 +2,10 @@
 use crate::say::text;
 use refusal::Refusal;
 
-// What is refused beside books and patterns: the macro, its count, the two keys, the run's length. The command has space for every book,
-// joins nothing and takes input of any length, so that there are no more (`last-refusals`, `named-refusals` of `command`, `survey-refusals`,
-// `reach-last-refusals`, `reach-named-refusals`, `depth-last-refusals`, `depth-named-refusals` of `survey`).
+// What is refused beside books and patterns: the macro, its count, the two keys, the run's length, the line. The command has space for every
+// book, joins nothing, takes input of any length and tells of lines that are too long, so that there are no more (`last-refusals`,
+// `named-refusals` of `command`, `survey-refusals`, `reach-last-refusals`, `reach-named-refusals`, `depth-last-refusals`,
+// `depth-named-refusals` of `survey`, `line-last-refusals`, `line-named-refusals` of `display`).
 fn explain_macro(r: Refusal) {
     match r {
         Refusal::NoSuchMacro => text(

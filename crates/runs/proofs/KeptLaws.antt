@@ -28,6 +28,10 @@ pub words-none : (W : ℕ → List ℕ) → firstWords W 0 ≡ []
 unfolding firstWords
 words-none W = refl
 
+pub words-suc : (W : ℕ → List ℕ) (n : ℕ) → firstWords W (suc n) ≡ firstWords W n ++ W n
+unfolding firstWords
+words-suc W n = refl
+
 -- the words of macro j stand at its place in the work words
 abbrev pub StandsIn : (ℕ → List ℕ) → ℕ → ℕ → List ℕ → Type 0
 StandsIn W k j work = (behind : List ℕ) × (drop (j * k) work ≡ W j ++ behind)
