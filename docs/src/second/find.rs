@@ -1,11 +1,12 @@
 //! The operation that finds a line (document 02, S-3) with its refusals in their order: the book's own, 7 to 9, 10, 11,
 //! 15, 16 and 17. A run that is short enough is written out, and both methods must say the same of it.
 
-use crate::book::{self, Book, MOST_MACROS};
+use crate::book::{Book, MOST_MACROS};
 use crate::count::count;
 use crate::meaning::Tester;
 use crate::measures::{Measured, MEASURE_WORDS};
 use crate::natural::Natural;
+use crate::operations::settled;
 use crate::question::Question;
 use crate::refusal::*;
 use crate::report::{words_needed, MOST_STATES};
@@ -36,14 +37,7 @@ pub fn book_find(
     buffer: &mut [u8],
     work: &mut [u64],
 ) -> Result<(u64, u64), Refusal> {
-    let book = book::read(bytes)?;
-    let pattern = question.read()?;
-    if number >= book.macros.len() {
-        return Err(NO_SUCH_MACRO);
-    }
-    if work.len() < find_words(number, pattern.atoms()) {
-        return Err(SHORT_WORK);
-    }
+    let (book, pattern) = settled(number, question, bytes, work.len(), find_words)?;
     let measured = Measured::of(&book, number);
     write_words(&book, &pattern, &measured, work);
     let states = States::of(&pattern);

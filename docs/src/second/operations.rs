@@ -1,6 +1,6 @@
 //! The operations with their refusals in the order of document 01, "Refused".
 
-use crate::book;
+use crate::book::{self, Book};
 use crate::count::count;
 use crate::letters::Letters;
 use crate::meaning::{line_matches, Tester};
@@ -8,6 +8,7 @@ use crate::question::Question;
 use crate::reach::reached;
 use crate::refusal::*;
 use crate::report::words_needed;
+use crate::tree::Pattern;
 
 pub const CUECOUNT_WORDS: usize = 4_096;
 pub const CUECOUNT_BYTES: usize = 8_192;
@@ -83,6 +84,26 @@ pub fn reach_numbers(asked: Option<usize>, bytes: &[u8]) -> Result<Vec<usize>, R
     Ok(reached(&book, number).into_iter().map(usize::from).collect())
 }
 
+/// What comes before any work on a book under a pattern: the book's own refusals, 7 to 9, 10, and 11 for fewer words
+/// than are needed for a macro's number and so many atoms.
+pub fn settled<'a>(
+    number: usize,
+    question: &Question,
+    bytes: &'a [u8],
+    words: usize,
+    needed: fn(usize, usize) -> usize,
+) -> Result<(Book<'a>, Pattern), Refusal> {
+    let book = book::read(bytes)?;
+    let pattern = question.read()?;
+    if number >= book.macros.len() {
+        return Err(NO_SUCH_MACRO);
+    }
+    if words < needed(number, pattern.atoms()) {
+        return Err(SHORT_WORK);
+    }
+    Ok((book, pattern))
+}
+
 /// The count over a book: lines and steps; the first work words hold the reports afterwards, also
 /// after refusal 12.
 pub fn book_count(
@@ -91,14 +112,7 @@ pub fn book_count(
     bytes: &[u8],
     work: &mut [u64],
 ) -> Result<(u64, u64), Refusal> {
-    let book = book::read(bytes)?;
-    let pattern = question.read()?;
-    if number >= book.macros.len() {
-        return Err(NO_SUCH_MACRO);
-    }
-    if work.len() < words_needed(number, pattern.atoms()) {
-        return Err(SHORT_WORK);
-    }
+    let (book, pattern) = settled(number, question, bytes, work.len(), words_needed)?;
     let counted = count(&book, &pattern, number);
     let words = counted.reports.iter().flat_map(|report| report.words());
     for (place, word) in work.iter_mut().zip(words) {
