@@ -94,6 +94,9 @@ expect 0 7:text '<lines><sensitive><1><10><--first><book>' "$r" lines -e --first
 expect 0 7:text '<lines><ignored><1><10><--count=3><book>' "$r" lines -iie --count=3 book
 expect 0 7:text '<lines><sensitive><1><4><--><book>' "$r" lines -e -- book --count 4
 expect 0 7:text '<lines><sensitive><2><10><--first><--count>' "$r" lines --first 2 -- --first --count
+expect 0 7:text '<lines><sensitive><2><10><B><--first><-->' "$r" lines B --first 2 -- --first --
+expect 0 7:text '<lines><sensitive><1><10><B><book>' "$r" lines B book --
+expect 0 7:text '<lines><sensitive><1><10><--><-->' "$r" lines -- -- --
 expect 0 7:text '<lines><sensitive><--><10><B><book>' "$r" lines --first -- B book
 expect 0 7:text '<lines><sensitive><3><10><-><-e>' "$r" lines - -e --first 3
 expect 0 7:text '<lines><sensitive><><10><B><book>' "$r" lines B book --first=
@@ -236,6 +239,10 @@ expect 2 '' '*answer could not be written' "${closed[@]}" '"$@" >/dev/full' - "$
 expect 2 '' '*answer could not be written' "${closed[@]}" '"$@" >&-' - "${lines[@]}"
 expect 0 "1:a${lf}2:b" '' "${closed[@]}" '"$@" <&- 2>&-' - "${lines[@]}"
 expect 2 '' '*no file can be made to keep it*' env TMPDIR=/nowhere "${lines[@]}"
+expect 0 "1:a${lf}2:b" '' env SHELLOPTS=noclobber "${lines[@]}"
+mkdir "$room/-odd"
+expect 0 "1:a${lf}2:b" '' env -C "$room" TMPDIR=-odd "${lines[@]}"
+expect 0 0 '' bash -c 'ls -A "$1" | wc -l' - "$room/-odd"
 # What keeps an answer is gone afterwards, and where it does not hold all there is none.
 mkdir "$room/kept"
 expect 0 "1:a${lf}2:b" '' env TMPDIR="$room/kept" "${lines[@]}"

@@ -150,12 +150,12 @@ expect 0 1:B '' "$r" line 0001 B "$small" 01
 expect 0 1:B '' "$r" line 1 B - <"$small"
 expect 0 2:CB '' "$r" line 2 B "$small"
 expect 0 1:B '' "$r" line 1 B "$small" 0
-expect 1 'refused 15' '*Fewer lines of the run match*' "$r" line 2 B "$small" 0
+expect 1 'refused 15' '*Fewer than K lines of the run match*' "$r" line 2 B "$small" 0
 expect 0 "$(listed 1:B 2:CB)" '' "$r" lines B "$small"
 expect 0 "$(listed 1:B 2:CB)" '' "$r" lines B - < <(slowly "$small")
 expect 0 2:CB '' "$r" lines C "$small"
 expect 0 2:CB '' "$r" lines B "$small" --first 2
-expect 1 'refused 15' '*Fewer lines of the run match*' "$r" lines B "$small" --first 3
+expect 1 'refused 15' '*Fewer than K lines of the run match*' "$r" lines B "$small" --first 3
 # Two of the lines of GO, go, Go1, by all forms of the options.
 for words in '-i go FILE' '-i GO FILE 0' '-ie gO FILE' '-i -e Go FILE' '-e gO -i FILE' '-i -i go FILE' '-i -- GO FILE 0'; do
     # shellcheck disable=SC2086 # these are words
@@ -172,7 +172,7 @@ for words in '-i 2 go FILE' '-i -- 2 go FILE 0' '-ie gO 2 FILE' '-i -e Go 2 FILE
     expect 0 2:go '' "$r" line ${words/FILE/"$letters"}
 done
 expect 0 2:go '' "$r" line 1 go "$letters"
-expect 1 'refused 15' '*Fewer lines of the run match*' "$r" line 2 go "$letters"
+expect 1 'refused 15' '*Fewer than K lines of the run match*' "$r" line 2 go "$letters"
 # Ten lines without --count.
 expect 0 "$(seq -f %g:GO 2 11)" '' "$r" lines GO "$chase"
 expect 0 "$(seq -f %g:GO 2 12)" '' "$r" lines GO "$chase" --count 11
@@ -217,7 +217,7 @@ expect 0 "2:x$(many y 40)z" '' "$r" line 1 x.*z "$room/forty"
 expect 0 "$(listed 1: "2:x$(many y 40)z" 3:a)" '' "$r" lines '^' "$room/forty"
 # 65,536 keys are shown, one more is told of: x 65,535 times, x, LF, y 65,535 times, yy, LF, the last two without a line end, too.
 book long 'MBK\2\0\2\0\6\0x\0\377\377x\0\1\0\n\0\1\0y\0\377\377y\0\2\0\n\0\1\0\3\0\0\1\2\0y\0\377\377y\0\2\0'
-told='The line is not shown: it has over 65,536 keys.*'
+told='A line is not shown: it has over 65,536 keys.*'
 expect 0 "1:$(many x 65536)" '' "$r" line 1 . "$room/long"
 expect 0 '2 length 65537' "$told" "$r" line 2 . "$room/long"
 expect 0 '2 length 65537' "$told" "$r" line 1 y "$room/long"
@@ -241,11 +241,11 @@ expect 0 18446744073709551615:b '' "$r" lines b "$room/far" 65
 expect 1 'refused 16' '*number is over 18,446,744,073,709,551,615*' "$r" line 2 b "$room/far" 65
 expect 1 'refused 16' '*number is over 18,446,744,073,709,551,615*' "$r" lines b "$room/far" 65 --first 2
 expect 1 'refused 16' '*number is over 18,446,744,073,709,551,615*' "$r" line 1 b "$room/far"
-expect 1 'refused 15' '*Fewer lines of the run match*' "$r" line 2 b "$room/far"
+expect 1 'refused 15' '*Fewer than K lines of the run match*' "$r" line 2 b "$room/far"
 expect 0 18446744073709551615: '' "$r" line 18446744073709551615 '^$' "$room/far" 63
 # The nights: the last line that can be asked for, in runs that have more.
 expect 0 18446744073709551615:a '' "$r" line 18446744073709551615 a "$room/nights"
-expect 1 'refused 15' '*Fewer lines of the run match*' "$r" line 18446744073709551615 a "$room/nights" 4
+expect 1 'refused 15' '*Fewer than K lines of the run match*' "$r" line 18446744073709551615 a "$room/nights" 4
 expect 0 "$(listed 18446744073709551614:a 18446744073709551615:a)" '' "$r" lines a "$room/nights" --first 18446744073709551614
 # A key 65,535^4 times and more: the length is told up to 2^64 - 2.
 {
@@ -536,8 +536,8 @@ for asked in 2 1024 18446744073709551616 340282366920938463463374607431768211457
     expect 1 'refused 10' '*no macro of that number*' "$r" lines B "$small" "$asked" --first 9
 done
 for k in 0 000 3 18446744073709551615; do
-    expect 1 'refused 15' '*Fewer lines of the run match*the first is 1*' "$r" line "$k" B "$small"
-    expect 1 'refused 15' '*Fewer lines of the run match*the first is 1*' "$r" lines --first "$k" B "$small"
+    expect 1 'refused 15' '*Fewer than K lines*the first one is 1*' "$r" line "$k" B "$small"
+    expect 1 'refused 15' '*Fewer than K lines*the first one is 1*' "$r" lines --first "$k" B "$small"
 done
 expect 1 'refused 7' '*over 128 bytes*' "$r" line 0 '' "$small" 9
 expect 1 'refused 8' '*not of the form*' "$r" lines '(' "$small" --first 0
@@ -577,8 +577,8 @@ for asked in '' x -1 +1 1x ' 1' 0x1 1.0; do
     expect 2 '' '*macro number must be decimal digits*' "$r" lines B "$small" "$asked"
 done
 for k in '' x -1 +1 1x ' 1' 0x1 1.0 18446744073709551616 "$(many 9 5000)"; do
-    expect 2 '' "*line's number*decimal digits*" "$r" line -- "$k" B "$small"
-    expect 2 '' "*line's number*decimal digits*" "$r" lines B "$small" --first "$k"
+    expect 2 '' '*which of the matching lines*decimal digits*' "$r" line -- "$k" B "$small"
+    expect 2 '' '*which of the matching lines*decimal digits*' "$r" lines B "$small" --first "$k"
 done
 for count in '' x -1 +1 1x ' 1' 0 000 1025 01025 99999 18446744073709551617 "$(many 9 5000)"; do
     expect 2 '' '*from 1 to 1,024*rakvinje help lines*' "$r" lines B "$small" --count "$count"

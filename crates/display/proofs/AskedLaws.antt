@@ -56,7 +56,7 @@ module _ (n : ℕ) (l : List ℕ) where
   unfolding toldOf
   told-long h j = rw (le-ltb most n h, lt-ltb 65536 (length l) j) refl
 
-  told-shown : n ≤ most → length l ≤ 65536 → toldOf (found n l) ≡ shown n l
+  told-shown : n ≤ most → length l ≤ 65536 → toldOf (found n l) ≡ shown n (length l) l
   unfolding toldOf
   told-shown h j = rw (le-ltb most n h, le-ltb 65536 (length l) j) refl
 
@@ -76,7 +76,7 @@ module _ (c : Case) (m k : ℕ) where
 
 -- What `find_line` and, where the buffer is too short, `locate_line` answer where this is to be told.
 abbrev Seen : List ℕ → Told → finding.Outcome → finding.Location → Type 0
-Seen before (shown n l) o x = (o .refusal ≡ 0) × (o .number ≡ n) × (o .length ≡ length l) × (o .buffer ≡ over l before)
+Seen before (shown n i l) o x = (o .refusal ≡ 0) × (o .number ≡ n) × (o .length ≡ i) × (i ≡ length l) × (o .buffer ≡ over l before)
 Seen before (long n l) o x = (o .refusal ≡ 17) × (o .buffer ≡ before) × (x .refusal ≡ 0) × (x .number ≡ n) × (x .length ≡ l)
 Seen before (refused r) o x = (o .refusal ≡ r) × (0 < r) × (r ≡ 17 → ⊥) × (o .buffer ≡ before)
 
@@ -91,7 +91,7 @@ module _ (before : List ℕ) (wide : length before ≡ 65536) (work space : List
       either most n (λ h. rw (told-far n l h, laws.of-far work before n l h) (early-seen before work LineNumberOverflow (finding.placeOf (found n l) space) (λ e. omega arith)))
       (λ h. either 65536 (length l)
       (λ j. rw (told-long n l h j, laws.of-long work before n l h (rw wide j), laws.place-line space n l h) (refl, refl, refl, refl, refl))
-      (λ j. rw (told-shown n l h j, laws.of-line work before n l h (rw wide j)) (refl, refl, refl, refl)))
+      (λ j. rw (told-shown n l h j, laws.of-line work before n l h (rw wide j)) (refl, refl, refl, refl, refl)))
 
 module _ (c : Case) (b p : List ℕ) (m k : ℕ) (before : List ℕ) (wide : length before ≡ 65536) (work space : List ℕ) (enough : length work ≡ finding.mostWords) (room : length space ≡ finding.mostWords) where
   pub answer-seen : Seen before (lineAnswer c b p m k) (finding.findResult c (readBook b) (reader.readPattern p) m k work before) (finding.locateResult c (readBook b) (reader.readPattern p) m k space)
@@ -143,20 +143,20 @@ module _ (q : Refusal) {i : ℕ} (g : i ≡ number q) where
 -- What the code answers, by what it has been answered.
 module _ (before after w : List ℕ) (x : finding.Location) where
   shown-by : (t : Told) (n l : ℕ) → Seen before t (finding.finished n l w after) x → Answers t before after (LineAnswer.Shown n l)
-  shown-by (shown i keys) n l (e, f, g, h) = record { told = rw (f, g, h, take-append-seam keys (drop (length keys) before)) refl; buffer = h }
+  shown-by (shown i j keys) n l (e, f, g, k, h) = record { told = rw (f, g, k, h, take-append-seam keys (drop (length keys) before)) refl; buffer = h }
   shown-by (long i j) n l (e, f, g, h, k) = absurd (omega (arith, e))
   shown-by (refused r) n l (e, f, g, h) = absurd (omega (arith, e, f))
 
   -- what shows no keys tells the same, whatever the buffer holds
-  told-alike : (r : LineAnswer) (t : Told) → ((n : ℕ) (l : List ℕ) → t ≡ shown n l → ⊥) → toldBy r [] ≡ t → toldBy r after ≡ t
-  told-alike (LineAnswer.Shown n l) t h v = absurd (h n (take l []) (sym v))
+  told-alike : (r : LineAnswer) (t : Told) → ((n i : ℕ) (l : List ℕ) → t ≡ shown n i l → ⊥) → toldBy r [] ≡ t → toldBy r after ≡ t
+  told-alike (LineAnswer.Shown n l) t h v = absurd (h n l (take l []) (sym v))
   told-alike (LineAnswer.Long n l) t h v = v
   told-alike (LineAnswer.Refused u) t h v = v
 
   unwritten-by : (t : Told) (q : Refusal) (r : LineAnswer) → toldBy r [] ≡ unwritten (number q) x → Seen before t (finding.stopped q w after) x → Answers t before after r
-  unwritten-by (shown i keys) q r told (e, f, g, h) = absurd (omega (arith, e, number-positive q))
-  unwritten-by (long i j) q r told (e, f, g, h, k) = record { told = told-alike r (long i j) (λ n l v. clash (cc)) (told ∙ unwritten-line x e g ∙ rw (h, k) refl); buffer = f }
-  unwritten-by (refused i) q r told (e, f, g, h) = record { told = told-alike r (refused i) (λ n l v. clash (cc)) (told ∙ unwritten-other (number q) x (λ s. g (sym e ∙ s)) ∙ ap refused e); buffer = h }
+  unwritten-by (shown i j keys) q r told (e, f, g, k, h) = absurd (omega (arith, e, number-positive q))
+  unwritten-by (long i j) q r told (e, f, g, h, k) = record { told = told-alike r (long i j) (λ n i l v. clash (cc)) (told ∙ unwritten-line x e g ∙ rw (h, k) refl); buffer = f }
+  unwritten-by (refused i) q r told (e, f, g, h) = record { told = told-alike r (refused i) (λ n i l v. clash (cc)) (told ∙ unwritten-other (number q) x (λ s. g (sym e ∙ s)) ∙ ap refused e); buffer = h }
 
 module _ (c : Case) (b p : List ℕ) (m k : ℕ) (before w after : List ℕ) (a : FoundLine) (wide : length before ≡ 65536)
     (e : finding.outcome a w after ≡ finding.findResult c (readBook b) (reader.readPattern p) m k (replicate finding.mostWords 0) before) where

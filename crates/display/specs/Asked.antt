@@ -1,4 +1,4 @@
--- Document 02, S-3: what the command tells of a line: "a longer line is answered with its number, its length and a sentence".
+-- Document 02, S-3, for the command: what is told of a line. Of one that is longer than the command's buffer, its number and its length (`docs/DECISIONS.md`, 119).
 use Prim.Native.Nat.{ℕ}
 use mathlib.Core.Path.{_≡_}
 use mathlib.Core.Bool.{true, false, cond}
@@ -26,16 +26,16 @@ use Rattle.display.specs.declared.asked.LineInput.{LineInput}
 use Rattle.display.specs.declared.asked.LineAnswer.{LineAnswer}
 use Rattle.display.specs.declared.asked.NamedLineAnswer.{NamedLineAnswer}
 
--- a line's number and its keys; its number and how many keys it has; or the refusal's number
+-- a line's number, how many keys it has, and the keys; its number and how many keys it has; or the refusal's number
 pub data Told : Type 0 where
-  shown : ℕ → List ℕ → Told
+  shown : ℕ → ℕ → List ℕ → Told
   long : ℕ → ℕ → Told
   refused : ℕ → Told
 
 -- the buffer has 65,536 bytes
 unfoldable pub toldOf : Sought → Told
 toldOf missing = refused (number NoSuchLine)
-toldOf (found n l) = cond (ltb most n) (refused (number LineNumberOverflow)) (cond (ltb 65536 (length l)) (long n (finding.told (length l))) (shown n l))
+toldOf (found n l) = cond (ltb most n) (refused (number LineNumberOverflow)) (cond (ltb 65536 (length l)) (long n (finding.told (length l))) (shown n (length l) l))
 
 -- of the k-th matching line of macro m's run; the command has words for every book, so that none are asked for
 unfoldable pub lineResult : Case → Reading (List Macro) → reader.Read → ℕ → ℕ → Told
@@ -46,7 +46,7 @@ lineAnswer c b p m k = lineResult c (readBook b) (reader.readPattern p) m k
 
 -- what an answer tells, with the buffer after it
 abbrev pub toldBy : LineAnswer → List ℕ → Told
-toldBy (LineAnswer.Shown n l) line = shown n (take l line)
+toldBy (LineAnswer.Shown n l) line = shown n l (take l line)
 toldBy (LineAnswer.Long n l) line = long n l
 toldBy (LineAnswer.Refused r) line = refused (number r)
 
@@ -59,7 +59,7 @@ unwritten r x = cond (eqb r (number BufferTooShort)) (placeTold x) (refused r)
 
 -- the keys that are shown
 abbrev pub keysOf : Told → List ℕ
-keysOf (shown n l) = l
+keysOf (shown n i l) = l
 keysOf (long n l) = []
 keysOf (refused r) = []
 

@@ -16,6 +16,6 @@ abbrev pub longText : ℕ → ℕ → List ℕ
 longText n l = numeral n ++ ascii " length " ++ numeral l ++ ending
 
 unfoldable pub lineText : Told → List ℕ
-lineText (shown n keys) = shownText n keys
+lineText (shown n i keys) = shownText n keys
 lineText (long n l) = longText n l
 lineText (refused r) = refusedText r

@@ -1,4 +1,4 @@
--- Document 02, S-3, for the command: keys shown so that a terminal is safe.
+-- Document 02, S-3, for the command: keys shown so that a terminal is safe (`docs/DECISIONS.md`, 120).
 use Prim.Native.Nat.{ℕ, _+_, _/_, _%_}
 use mathlib.Core.Bool.{cond, _||_}
 use mathlib.Core.List.{List, [], _∷_, _++_}

@@ -21,7 +21,7 @@ fn explain_macro(r: Refusal) {
             b"The run has over 4,611,686,018,427,387,904 keys, the most whose depth is given. Ask for a macro that this one calls.\n",
         ),
         Refusal::NoSuchLine => text(
-            b"Fewer lines of the run match than that, or you asked for line 0: the first is 1. `./rakvinje count` says how many there are.\n",
+            b"Fewer than K lines of the run match, or K is 0: the first one is 1. `./rakvinje count` says how many match.\n",
         ),
         Refusal::LineNumberOverflow => text(
             b"The line's number is over 18,446,744,073,709,551,615, the largest that can be given. Ask for a macro that this one calls.\n",

@@ -17,13 +17,13 @@ pub(crate) fn no_key() {
 
 pub(crate) fn no_place() {
     text(
-        b"a line's number and how many are shown must be decimal digits, up to 18446744073709551615\n",
+        b"K, which says which of the matching lines is meant, must be decimal digits, up to 18446744073709551615\n",
     );
 }
 
 pub(crate) fn long_line() {
     text(
-        b"The line is not shown: it has over 65,536 keys. Its length is told up to 18446744073709551614, which stands for that and more.\n",
+        b"A line is not shown: it has over 65,536 keys. Its length is told up to 18446744073709551614, which stands for that and more.\n",
     );
 }
 

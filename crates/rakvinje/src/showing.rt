@@ -158,7 +158,7 @@ fn lines_by(lines: Range) {
 fn lines_from(case: Case, first: u64) {
     match wide_at(4) {
         Wide::Value(count) => lines_by(Range { case, first, count }),
-        Wide::Unfit => say::no_place(),
+        Wide::Unfit => say::usage(),
     }
 }
 
