@@ -1,6 +1,7 @@
 #!/usr/bin/env bash
 # Runs the command ./rakvinje on good and bad input, and compares what it prints and its status. The numbers expected of it are those of
-# the second program in docs/src/second. The last line is 'N passed, M failed'.
+# the second program in docs/src/second; lines of a run are worked out from the books by hand, and the second program says the same of
+# those of the examples. The last line is 'N passed, M failed'.
 # shellcheck disable=SC2016,SC2317 # Some texts are scripts, for others to expand; expect calls the functions.
 set -u
 cd "$(dirname "$0")/.." || exit 2
