@@ -8,14 +8,14 @@ use crate::number::le16_at;
 use crate::version::width_of;
 
 // Document 01, "The book": an item from 1 to 255 is a key, 256 + j calls macro j. A key of 0 is in no sound book.
-#[derive(Drop)]
+#[derive(Clone, Copy)]
 pub enum Item {
     Key(u8),
     Call(u16),
 }
 
 // What stands at a place: the number of an item and its repeat count, or fewer bytes than an item has.
-#[derive(Drop)]
+#[derive(Clone, Copy)]
 pub enum ItemRead {
     Found(u16, u16),
     Short,

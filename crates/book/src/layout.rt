@@ -16,14 +16,14 @@ use refusal::Refusal;
 const MAGIC: [u8; 3] = *b"MBK";
 
 // The macro count that a header gives, or why it is refused.
-#[derive(Drop)]
+#[derive(Clone, Copy)]
 enum Header {
     Macros(u16),
     Refused(Refusal),
 }
 
 // A book's macro count, or why it is refused.
-#[derive(Drop)]
+#[derive(Clone, Copy)]
 pub enum Checked {
     Sound(u16),
     Refused(Refusal),
@@ -31,14 +31,14 @@ pub enum Checked {
 
 // The check of a book and, where it is sound, the offsets of its macros: macro i starts at offsets[i] and ends at
 // offsets[i + 1].
-#[derive(Drop)]
+#[derive(Clone, Copy)]
 pub struct Layout {
     pub answer: Checked,
     pub offsets: [usize; 1025],
 }
 
 // Where reading goes on, or why it stops.
-#[derive(Drop)]
+#[derive(Clone, Copy)]
 enum Walk {
     At(usize),
     Refused(Refusal),

@@ -1,5 +1,7 @@
 // The macro book of documents 01 and 02, in versions 1 and 2: its check, where its macros stand, their items, a macro's body, and
 // whether an operation has its macro and its work words.
+#![tactic(auto)]
+
 mod answers;
 mod item;
 mod layout;

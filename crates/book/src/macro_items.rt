@@ -6,7 +6,7 @@ use crate::item::{ItemRead, read_item};
 use crate::version::{version_of, width_of};
 
 // The numbers of a macro's items and how often each stands there, `count` of them, and zeros behind them.
-#[derive(Drop)]
+#[derive(Clone, Copy)]
 pub struct Items {
     pub codes: [u16; 64],
     pub times: [u16; 64],

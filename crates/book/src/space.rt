@@ -5,7 +5,7 @@ ghost use Rattle.book.specs.Steps.{settled_by, space_step};
 use refusal::Refusal;
 
 // Whether an operation has its macro and its work words.
-#[derive(Drop)]
+#[derive(Clone, Copy)]
 pub enum Space {
     Enough,
     Refused(Refusal),

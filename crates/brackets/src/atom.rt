@@ -11,7 +11,7 @@ use crate::set::{store_dot, store_key};
 use letters::Case;
 
 // The cursor behind what was read, or a fault.
-#[derive(Drop)]
+#[derive(Clone, Copy)]
 pub enum AtomRead {
     At(AtomCursor),
     Fault,

@@ -8,7 +8,7 @@ use crate::look::peek;
 
 // A class: its name, and how many bytes that has; the first and the last bytes of its ranges, and how many there are.
 // 0 fills the arrays.
-#[derive(Drop)]
+#[derive(Clone, Copy)]
 pub(crate) struct Class {
     name: [u8; 6],
     length: usize,
@@ -106,7 +106,7 @@ const CLASSES: [Class; 12] = [
 ];
 
 // A class's place in the table and the cursor behind its `:]`.
-#[derive(Drop)]
+#[derive(Clone, Copy)]
 pub(crate) enum ClassRead {
     Found(u8, AtomCursor),
     Unknown,

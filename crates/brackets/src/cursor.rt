@@ -4,7 +4,7 @@ ghost use Rattle.std.specs.Prelude.{◌≡◌, ◌+◌, ◌^◌, ◌<◌};
 ghost use Rattle.brackets.specs.Answers.{cursor_at};
 
 // A place in a pattern, at an atom or inside one.
-#[derive(Drop)]
+#[derive(Clone, Copy)]
 pub struct AtomCursor {
     pub at: usize,
 }

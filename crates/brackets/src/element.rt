@@ -9,7 +9,7 @@ use crate::cursor::AtomCursor;
 use crate::look::peek;
 
 // A byte, a range as its first and last byte, or a class as its place in the table.
-#[derive(Drop)]
+#[derive(Clone, Copy)]
 pub(crate) enum Element {
     Byte(u8),
     Range(u8, u8),
@@ -17,7 +17,7 @@ pub(crate) enum Element {
 }
 
 // An element and the cursor behind it.
-#[derive(Drop)]
+#[derive(Clone, Copy)]
 pub(crate) enum ElementRead {
     Found(Element, AtomCursor),
     Fault,

@@ -14,7 +14,7 @@ const HEAD: usize = 24;
 const BUFFER: usize = 65536;
 
 // The macro and the line that are asked for, and the words and bytes that are lent.
-#[derive(Drop)]
+#[derive(Clone, Copy)]
 struct Question {
     case: Case,
     m: usize,

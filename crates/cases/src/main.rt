@@ -1,4 +1,6 @@
 // Cases from standard input through the operations of `book`, `counter`, `depth` and `find`: what they answer to each.
+#![tactic(auto)]
+
 mod books;
 mod counts;
 mod depths;

@@ -11,7 +11,7 @@ pub const BOOK_READ: usize = 264199 + 1;
 pub const PATTERN_READ: usize = 128 + 1;
 
 // How many bytes of a pattern were read, and whether case is ignored.
-#[derive(Drop)]
+#[derive(Clone, Copy)]
 pub struct PatternInput {
     pub bytes: usize,
     pub case: Case,

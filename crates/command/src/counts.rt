@@ -11,7 +11,7 @@ use decimals::{Number, number_in};
 use letters::Case;
 
 // The count of the macro that a text names; or the text is no number.
-#[derive(Drop)]
+#[derive(Clone, Copy)]
 pub enum NamedCount {
     Count(BookCount),
     NoNumber,

@@ -1,4 +1,6 @@
 // What the programs do with their input: `cuecount`'s one input, and the books and patterns that a command counts.
+#![tactic(auto)]
+
 mod buffer;
 mod counts;
 mod input;

@@ -18,14 +18,14 @@ use reports::{BEHIND_ROWS, Total, in_report, load, store, total_in};
 pub const MOST_WORDS: usize = 1024 * (32 + BEHIND_ROWS);
 
 // How many lines match, and the steps; or why it is refused.
-#[derive(Drop)]
+#[derive(Clone, Copy)]
 pub enum BookCount {
     Lines(u64, u64),
     Refused(Refusal),
 }
 
 // The macro that is asked for, how many the book has, and whether case is ignored.
-#[derive(Drop)]
+#[derive(Clone, Copy)]
 struct Asked {
     macros: usize,
     m: usize,
@@ -33,7 +33,7 @@ struct Asked {
 }
 
 // A macro of the book, and an accepted pattern.
-#[derive(Drop)]
+#[derive(Clone, Copy)]
 struct Task {
     m: usize,
     p: Accepting,

@@ -12,14 +12,14 @@ use reports::{
 use spans::pairs_in;
 
 // What a macro's items come to.
-#[derive(Drop)]
+#[derive(Clone, Copy)]
 pub(crate) struct MacroCount {
     pub(crate) report: Report,
     pub(crate) steps: u64,
 }
 
 // An item of a macro, and how often it stands there.
-#[derive(Drop)]
+#[derive(Clone, Copy)]
 struct Repeated {
     item: Item,
     times: u16,

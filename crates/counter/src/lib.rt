@@ -1,4 +1,6 @@
 // The count over a book; and, for whoever links the counter, the operations of document 01 from the crates below.
+#![tactic(auto)]
+
 mod counting;
 mod items;
 

@@ -1,5 +1,7 @@
 // `cuecount`: standard input is the pattern, LF, the book; it prints `lines N steps S` or `refused R`. Where standard input cannot be
 // read it prints nothing, and says why on standard error.
+#![tactic(auto)]
+
 use command::READ;
 use files::read_standard;
 use output::{LINE, write_line};

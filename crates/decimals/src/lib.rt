@@ -1,4 +1,6 @@
 // Numbers in decimal digits, read and written, texts in a buffer, and the size of a whole number.
+#![tactic(auto)]
+
 mod number;
 mod text;
 mod whole;

@@ -5,7 +5,7 @@ ghost use Rattle.decimals.specs.Decimals.{wide_in, wide_step};
 use crate::number::is_digit;
 
 // A number; or the text is none, or its number is larger than 64 bits hold.
-#[derive(Drop)]
+#[derive(Clone, Copy)]
 pub enum Wide {
     Value(u64),
     Unfit,

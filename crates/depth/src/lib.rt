@@ -1,4 +1,6 @@
 // The depth of blocks along a macro's run (document 02, S-6).
+#![tactic(auto)]
+
 mod reporting;
 mod unmatched;
 mod words;

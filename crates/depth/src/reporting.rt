@@ -15,7 +15,7 @@ use refusal::Refusal;
 pub const MOST_WORDS: usize = 1024 * WIDTH;
 
 // The depth at the run's end and the lowest one, or why it is refused.
-#[derive(Drop)]
+#[derive(Clone, Copy)]
 pub enum DepthReport {
     Depths(i64, i64),
     Refused(Refusal),

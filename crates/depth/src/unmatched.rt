@@ -3,7 +3,7 @@ ghost use Rattle.std.specs.Prelude.{◌≤◌, ◌≡◌, cond, eqb};
 ghost use Rattle.depth.specs.Promises.{Sized, followed, key_unmatched, times_unmatched, too_long};
 
 // The key that opens a block, and the one that closes it.
-#[derive(Drop)]
+#[derive(Clone, Copy)]
 pub struct Delimiters {
     pub opening: u8,
     pub closing: u8,
@@ -11,7 +11,7 @@ pub struct Delimiters {
 
 // A run's length, the closings that close no block of the run, and the openings of blocks that it leaves open. The depth falls to minus
 // these closings, and ends at these openings less these closings.
-#[derive(Drop)]
+#[derive(Clone, Copy)]
 pub(crate) struct Unmatched {
     pub(crate) length: u64,
     pub(crate) closings: u64,

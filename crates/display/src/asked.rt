@@ -16,7 +16,7 @@ use refusal::{Refusal, code};
 pub const BUFFER: usize = 65536;
 
 // How many bytes of a pattern were read, whether case is ignored, and which of the matching lines is asked for, from 1.
-#[derive(Drop)]
+#[derive(Clone, Copy)]
 pub struct LineInput {
     pub bytes: usize,
     pub case: Case,
@@ -25,7 +25,7 @@ pub struct LineInput {
 
 // A line's number and how many keys it has, which stand at the front of the buffer; the same of a line that is longer than the buffer; or
 // why it is refused.
-#[derive(Drop)]
+#[derive(Clone, Copy)]
 pub enum LineAnswer {
     Shown(u64, u64),
     Long(u64, u64),
@@ -33,7 +33,7 @@ pub enum LineAnswer {
 }
 
 // The same for the macro that a text names; or the text is no number.
-#[derive(Drop)]
+#[derive(Clone, Copy)]
 pub enum NamedLineAnswer {
     Answer(LineAnswer),
     NoNumber,

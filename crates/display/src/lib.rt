@@ -1,4 +1,6 @@
 // Lines of a macro's run, shown so that a terminal is safe (document 02, S-3).
+#![tactic(auto)]
+
 mod asked;
 mod keys;
 mod reply;

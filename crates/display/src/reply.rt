@@ -6,14 +6,14 @@ use crate::text::{SHOWN, line_text};
 use command::{BOOK_READ, PATTERN_READ};
 
 // The length of what is printed, and what it tells.
-#[derive(Drop)]
+#[derive(Clone, Copy)]
 pub struct LineReply {
     pub length: usize,
     pub found: LineAnswer,
 }
 
 // The same where a text names the macro; a text that is no number has no line.
-#[derive(Drop)]
+#[derive(Clone, Copy)]
 pub struct NamedLineReply {
     pub length: usize,
     pub found: NamedLineAnswer,

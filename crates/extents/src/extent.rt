@@ -6,7 +6,7 @@ ghost use Rattle.extents.specs.Operations.{joined_extents, key_extent, no_extent
 use crate::capped::{capped_product, capped_sum};
 
 // Each number is the smaller of what is said here and 2^64 - 1. A CR counts like any other key.
-#[derive(Drop)]
+#[derive(Clone, Copy)]
 pub struct Extent {
     // How many line ends there are.
     pub ends: u64,

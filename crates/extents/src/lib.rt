@@ -1,5 +1,7 @@
 // How far runs go, in line ends and keys, with numbers that stop at 2^64 - 1 (document 02, S-3): of one key, of runs one behind the other, of a
 // repeated run, and as four work words.
+#![tactic(auto)]
+
 mod capped;
 mod extent;
 mod words;

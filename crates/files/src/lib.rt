@@ -1,10 +1,12 @@
 // Reads a file or standard input into a buffer, for every program.
+#![tactic(auto)]
+
 ghost use Rattle.io.specs.Counts.{IsPrefixLen};
 
 use libc::STDIN_FILENO;
 
 // How many bytes were read; or that a read failed, which has been said on standard error.
-#[derive(Drop)]
+#[derive(Clone, Copy)]
 pub struct FileRead {
     pub failed: bool,
     pub bytes: usize,

@@ -13,7 +13,7 @@ use pattern::Accepting;
 use reports::{BEHIND_ROWS, SpanCount, empty_count, extended, in_report, joined, load};
 
 // The k-th matching line of macro m's run under a pattern with this choice of case, where the extents stand from `base` on in the work words.
-#[derive(Drop)]
+#[derive(Clone, Copy)]
 pub(crate) struct Search {
     pub(crate) p: Accepting,
     pub(crate) case: Case,
@@ -24,35 +24,35 @@ pub(crate) struct Search {
 
 // A place in a run: what is kept of the keys before it, with a line end in front of them, so that every line is closed between two; and
 // how far they go.
-#[derive(Drop)]
+#[derive(Clone, Copy)]
 struct Place {
     count: SpanCount,
     extent: Extent,
 }
 
 // An item of a macro, and how often it stands there.
-#[derive(Drop)]
+#[derive(Clone, Copy)]
 struct Repeated {
     item: Item,
     times: usize,
 }
 
 // The place behind some passes of an item.
-#[derive(Drop)]
+#[derive(Clone, Copy)]
 struct Past {
     at: Place,
     passes: usize,
 }
 
 // The item in which the line ends, and the place before the pass in which it does.
-#[derive(Drop)]
+#[derive(Clone, Copy)]
 struct Stop {
     item: Item,
     at: Place,
 }
 
 // How many line ends stand before a line, and how many keys it has, 2^64 - 2 if there are more.
-#[derive(Drop)]
+#[derive(Clone, Copy)]
 pub(crate) struct Located {
     pub(crate) ends: u64,
     pub(crate) length: u64,

@@ -22,14 +22,14 @@ use reports::BEHIND_ROWS;
 pub const MOST_WORDS: usize = 1024 * (32 + BEHIND_ROWS + WIDTH);
 
 // The number of a line and how many keys it has, or why it is refused.
-#[derive(Drop)]
+#[derive(Clone, Copy)]
 pub enum FoundLine {
     Line(u64, u64),
     Refused(Refusal),
 }
 
 // The macro that is asked for, how many the book has, whether case is ignored, and which matching line.
-#[derive(Drop)]
+#[derive(Clone, Copy)]
 struct Asked {
     macros: usize,
     m: usize,
@@ -38,7 +38,7 @@ struct Asked {
 }
 
 // The same with where the extents stand in the work words.
-#[derive(Drop)]
+#[derive(Clone, Copy)]
 enum Placed {
     Line(u64, u64, usize),
     Refused(Refusal),
@@ -130,7 +130,7 @@ fn placed_sound(
 }
 
 // A line that is placed: its number, how many keys are told of, and where the extents stand in the work words.
-#[derive(Drop)]
+#[derive(Clone, Copy)]
 struct LinePlace {
     number: u64,
     length: u64,

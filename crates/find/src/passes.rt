@@ -6,7 +6,7 @@ ghost use Rattle.find.specs.Promises.{Skips, with_part};
 use reports::{SpanCount, Total, joined};
 
 // A run with so many passes of another behind it.
-#[derive(Drop)]
+#[derive(Clone, Copy)]
 pub(crate) struct Skipped {
     pub(crate) before: SpanCount,
     pub(crate) passes: usize,

@@ -9,7 +9,7 @@ use crate::filling::item_extent;
 use book::{Item, ItemRead, item_at, item_of};
 
 // How many line ends are to be skipped, how many keys to be written then, and where the next one goes.
-#[derive(Drop)]
+#[derive(Clone, Copy)]
 pub(crate) struct Pen {
     pub(crate) ends: u64,
     pub(crate) left: usize,
@@ -17,7 +17,7 @@ pub(crate) struct Pen {
 }
 
 // An item of a macro, and how often it stands there.
-#[derive(Drop)]
+#[derive(Clone, Copy)]
 struct Repeated {
     item: Item,
     times: u64,

@@ -1,10 +1,12 @@
 // Letters, and whether their case is ignored (document 02, S-1).
+#![tactic(auto)]
+
 ghost use Rattle.std.specs.Prelude.{◌≡◌, false, get_or};
 ghost use Rattle.std.specs.Bool.{xor};
 ghost use Rattle.letters.specs.Letters.{folded, other_case};
 
 // "asked for with case ignored", or not: one choice for a whole call.
-#[derive(Drop)]
+#[derive(Clone, Copy)]
 pub enum Case {
     Sensitive,
     Ignored,

@@ -10,7 +10,7 @@ use pattern::{Accepting, State, Verdict, read_pattern};
 use refusal::Refusal;
 use stateset::meets;
 
-#[derive(Drop)]
+#[derive(Clone, Copy)]
 pub enum LineTest {
     Matches,
     NoMatch,

@@ -10,14 +10,14 @@ use pattern::{Accepting, State, Verdict, read_pattern};
 use refusal::Refusal;
 use stateset::{chosen, meets};
 
-#[derive(Drop)]
+#[derive(Clone, Copy)]
 pub enum RunCount {
     Lines(u64),
     Refused(Refusal),
 }
 
 // What is known of a run after some of its keys.
-#[derive(Drop)]
+#[derive(Clone, Copy)]
 struct Tally {
     // The states that the keys of the last line lead to.
     set: u64,

@@ -1,4 +1,6 @@
 // The lines of answers, in a buffer, and the one write that is then left.
+#![tactic(auto)]
+
 mod depths;
 mod facts;
 mod line;

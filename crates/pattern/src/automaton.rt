@@ -14,7 +14,7 @@ use refusal::Refusal;
 use stateset::{chosen, union};
 
 // What the moves into found and a line's end need. A word is a set of states.
-#[derive(Drop)]
+#[derive(Clone, Copy)]
 pub struct Accepting {
     // The states that every key but LF leads to found: found, and line-start if a branch without both anchors can match nothing.
     pub always: u64,
@@ -26,7 +26,7 @@ pub struct Accepting {
     pub states: usize,
 }
 
-#[derive(Drop)]
+#[derive(Clone, Copy)]
 pub enum Verdict {
     Accepted(Accepting),
     Refused(Refusal),

@@ -9,7 +9,7 @@ use crate::shape::Shape;
 use brackets::peek;
 
 // The cursor behind a branch, whether it has `^`, its pieces' shape, and whether it has `$`; or a fault.
-#[derive(Drop)]
+#[derive(Clone, Copy)]
 pub(crate) enum BranchRead {
     Read(Cursor, bool, Shape, bool),
     Fault,

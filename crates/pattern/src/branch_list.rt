@@ -8,7 +8,7 @@ use crate::summary::{Summary, with_branch};
 use brackets::peek;
 
 // How many atoms the branches have, and what they come to; or a fault.
-#[derive(Drop)]
+#[derive(Clone, Copy)]
 pub(crate) enum PatternRead {
     Read(usize, Summary),
     Fault,

@@ -9,7 +9,7 @@ use brackets::peek;
 use letters::Case;
 
 // A place in a pattern, how many atoms stand before it, and whether case is ignored.
-#[derive(Drop)]
+#[derive(Clone, Copy)]
 pub(crate) struct Cursor {
     pub at: usize,
     pub atoms: usize,
@@ -17,7 +17,7 @@ pub(crate) struct Cursor {
 }
 
 // The cursor behind an expression and the expression's shape, or a fault.
-#[derive(Drop)]
+#[derive(Clone, Copy)]
 pub(crate) enum Part {
     Read(Cursor, Shape),
     Fault,

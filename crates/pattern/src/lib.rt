@@ -1,4 +1,6 @@
 // The patterns of document 01: their form, their meaning and their reader.
+#![tactic(auto)]
+
 mod atom;
 mod automaton;
 mod branch;

@@ -6,7 +6,7 @@ ghost use Rattle.pattern.specs.Tables.{alt_shape, linked, seq_shape};
 use stateset::union;
 
 // Whether it can match nothing, and the states of the atoms that can come first and last in it.
-#[derive(Drop)]
+#[derive(Clone, Copy)]
 pub(crate) struct Shape {
     pub nothing: bool,
     pub first: u64,

@@ -4,7 +4,7 @@ ghost use Rattle.std.specs.Prelude.{◌≡◌, ◌%◌, ◌+◌, ◌^◌};
 use stateset::only;
 
 // A state, by its number.
-#[derive(Drop)]
+#[derive(Clone, Copy)]
 pub struct State(u16);
 
 impl State {

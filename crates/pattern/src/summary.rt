@@ -5,7 +5,7 @@ ghost use Rattle.pattern.specs.Summaries.{branch_summary};
 use crate::shape::{Shape, union_if};
 use stateset::union;
 
-#[derive(Drop)]
+#[derive(Clone, Copy)]
 pub(crate) struct Summary {
     // Atoms that can come first in a branch, and in a branch without `^`.
     pub first: u64,

@@ -1,4 +1,6 @@
 // Patterns, one to a line of standard input, through `read_pattern`: what each is refused with, or its tables.
+#![tactic(auto)]
+
 mod lines;
 mod show;
 

@@ -38,7 +38,7 @@ pub(crate) fn is_verb(name: &[u8]) -> bool {
 }
 
 // What an argument says of case.
-#[derive(Drop)]
+#[derive(Clone, Copy)]
 pub(crate) enum CaseWord {
     Said(Case),
     Unknown,
@@ -96,7 +96,7 @@ pub(crate) fn number_space() -> [u8; 131072]
 }
 
 // A macro number's text at the front of a buffer; or that it is too long, which has been said.
-#[derive(Drop)]
+#[derive(Clone, Copy)]
 pub(crate) struct NumberText {
     pub(crate) failed: bool,
     pub(crate) digits: usize,

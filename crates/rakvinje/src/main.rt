@@ -1,6 +1,8 @@
 // The command for people: `rakvinje count CASE PATTERN BOOK [MACRO]`, `rakvinje check BOOK`, `rakvinje reach BOOK [MACRO]`,
 // `rakvinje depth OPEN CLOSE BOOK [MACRO]`, `rakvinje lines CASE FIRST COUNT PATTERN BOOK [MACRO]`, where CASE is `sensitive` or `ignored`.
 // Standard output has the answer; standard error says what depths, long lines and refusals mean, or why there is no answer.
+#![tactic(auto)]
+
 mod arguments;
 mod check;
 mod count;

@@ -14,7 +14,7 @@ use display::{
 const LAST: u64 = 0xffff_ffff_ffff_ffff;
 
 // Which lines are asked for, and whether case is ignored.
-#[derive(Drop)]
+#[derive(Clone, Copy)]
 struct Range {
     case: Case,
     first: u64,

@@ -10,14 +10,14 @@ use book::{Checked, Item, item_of, items_of, layout_of};
 use refusal::Refusal;
 
 // How many numbers were written, or why none was.
-#[derive(Drop)]
+#[derive(Clone, Copy)]
 pub enum Reached {
     Written(usize),
     Refused(Refusal),
 }
 
 // The numbers of a macro's items.
-#[derive(Drop)]
+#[derive(Clone, Copy)]
 struct Codes {
     codes: [u16; 64],
     count: usize,

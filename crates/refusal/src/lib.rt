@@ -1,9 +1,11 @@
 // Why an operation refuses its input: one enum for the whole project.
+#![tactic(auto)]
+
 ghost use Rattle.std.specs.Prelude.{◌≡◌};
 ghost use Rattle.refusal.specs.Number.{number};
 
 // Document 01, "Refused": a case for each row of the table, in its order; behind them document 02's.
-#[derive(Drop)]
+#[derive(Clone, Copy)]
 pub enum Refusal {
     // 1, "no book": under 7 bytes, or another mark.
     BadMagic,

@@ -6,7 +6,7 @@ use output::{LINE, survey_line};
 use survey::{Surveyed, survey};
 
 // The length of the line, and what it tells.
-#[derive(Drop)]
+#[derive(Clone, Copy)]
 pub struct SurveyReply {
     pub length: usize,
     pub found: Surveyed,

@@ -8,14 +8,14 @@ use counter::BookCount;
 use output::{LINE, count_line};
 
 // The length of the line, and the count that it tells.
-#[derive(Drop)]
+#[derive(Clone, Copy)]
 pub struct CountReply {
     pub length: usize,
     pub count: BookCount,
 }
 
 // The same where a text names the macro; a text that is no number has no line.
-#[derive(Drop)]
+#[derive(Clone, Copy)]
 pub struct NamedReply {
     pub length: usize,
     pub count: NamedCount,

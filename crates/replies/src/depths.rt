@@ -7,14 +7,14 @@ use output::{LINE, depth_line};
 use survey::{NamedDepth, depth_last, depth_named};
 
 // The length of the line, and what it tells.
-#[derive(Drop)]
+#[derive(Clone, Copy)]
 pub struct DepthReply {
     pub length: usize,
     pub found: DepthReport,
 }
 
 // The same where a text names the macro; a text that is no number has no line.
-#[derive(Drop)]
+#[derive(Clone, Copy)]
 pub struct NamedDepthReply {
     pub length: usize,
     pub found: NamedDepth,

@@ -1,4 +1,6 @@
 // What a program prints for what was read: from the buffers that hold its input to the buffer that holds its lines.
+#![tactic(auto)]
+
 mod books;
 mod counts;
 mod depths;

@@ -7,14 +7,14 @@ use reach::Reached;
 use survey::{LIST, NamedReach, reach_last, reach_named};
 
 // The length of the lines, and what they tell.
-#[derive(Drop)]
+#[derive(Clone, Copy)]
 pub struct ReachReply {
     pub length: usize,
     pub found: Reached,
 }
 
 // The same where a text names the macro; a text that is no number has no line.
-#[derive(Drop)]
+#[derive(Clone, Copy)]
 pub struct NamedReachReply {
     pub length: usize,
     pub found: NamedReach,

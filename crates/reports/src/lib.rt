@@ -1,5 +1,7 @@
 // Reports of runs: a span and the number of its closed lines, of the empty run, with one key more, joined, repeated, flat, as work
 // words; and the count that it comes to.
+#![tactic(auto)]
+
 mod edges;
 mod repetition;
 mod report;

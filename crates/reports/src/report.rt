@@ -13,7 +13,7 @@ use spans::Span;
 pub const BEHIND_ROWS: usize = 6;
 
 // What a run does to the states of a pattern.
-#[derive(Drop)]
+#[derive(Clone, Copy)]
 pub struct Report {
     // How many states there are.
     pub s: u64,
@@ -35,7 +35,7 @@ pub struct Report {
 }
 
 // What joining two reports answers: the refusal's number, 0 if there is none, and the report, zeros if it is refused.
-#[derive(Drop)]
+#[derive(Clone, Copy)]
 pub struct Joined {
     pub refused: u8,
     pub report: Report,

@@ -8,7 +8,7 @@ use spans::{JoinedSpan, Span, empty_span, end_lines, extended_span, join_spans};
 use stateset::chosen;
 
 // A run's span, and how many closed lines it has.
-#[derive(Drop)]
+#[derive(Clone, Copy)]
 pub struct SpanCount {
     pub span: Span,
     // How many lines match between the first line end and the last.

@@ -6,7 +6,7 @@ ghost use Rattle.reports.specs.Totals.{both_totals};
 const MOST: u64 = 0xffff_ffff_ffff_ffff;
 
 // How many lines, or more than 64 bits count.
-#[derive(Drop)]
+#[derive(Clone, Copy)]
 pub enum Total {
     Lines(u64),
     TooMany,

@@ -1,4 +1,6 @@
 // What runs do to the states of a pattern: spans of the empty run, with one key more, joined; and what a span's two ends count.
+#![tactic(auto)]
+
 mod edges;
 mod ends;
 mod joining;

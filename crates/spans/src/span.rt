@@ -7,7 +7,7 @@ use crate::rows::state_count;
 use stateset::only;
 
 // How a run begins and ends (document 02, S-4): a CR directly before an LF is part of the line end, also where two runs meet.
-#[derive(Drop)]
+#[derive(Clone, Copy)]
 pub struct Edges {
     // The states from which the keys since the last line end, less a final CR, are accepted, once there is a line end from line-start alone;
     // none without a final CR.
@@ -19,7 +19,7 @@ pub struct Edges {
 }
 
 // What a run does to the states of a pattern: a report without the number of its closed lines (document 01, "Reports").
-#[derive(Drop)]
+#[derive(Clone, Copy)]
 pub struct Span {
     // How many states there are; more than 32 are read as 32.
     pub s: u64,
@@ -36,7 +36,7 @@ pub struct Span {
 }
 
 // The span of one run after the other, and whether the line between them, with a line end on both sides, matches.
-#[derive(Drop)]
+#[derive(Clone, Copy)]
 pub struct JoinedSpan {
     pub span: Span,
     pub closes: bool,

@@ -1,4 +1,6 @@
 // Sets of numbers below 64 in one word: p is in the set exactly if bit p is 1.
+#![tactic(auto)]
+
 ghost use Rattle.std.specs.Prelude.{◌≡◌, cond, ◌%◌, ◌^◌};
 ghost use Rattle.std.specs.Int.Bits.{bit_and, bit_or};
 ghost use Rattle.stateset.specs.Set.{bit, common, image_of, word};

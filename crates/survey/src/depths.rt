@@ -7,7 +7,7 @@ use decimals::{Number, number_in};
 use depth::{Delimiters, DepthReport, MOST_WORDS, depth};
 
 // The key that a text names; or it names none.
-#[derive(Drop)]
+#[derive(Clone, Copy)]
 pub enum KeyText {
     Key(u8),
     NoKey,
@@ -38,7 +38,7 @@ pub fn key_in(text: &[u8]) -> KeyText
 }
 
 // The depths of the macro that a text names; or the text is no number.
-#[derive(Drop)]
+#[derive(Clone, Copy)]
 pub enum NamedDepth {
     Depth(DepthReport),
     NoNumber,

@@ -9,7 +9,7 @@ use command::{BOOK_READ, read_part};
 use refusal::Refusal;
 
 // What a sound book holds.
-#[derive(Drop)]
+#[derive(Clone, Copy)]
 pub struct Facts {
     pub version: u16,
     pub macros: u16,
@@ -19,7 +19,7 @@ pub struct Facts {
 }
 
 // What a book holds, or why it is refused.
-#[derive(Drop)]
+#[derive(Clone, Copy)]
 pub enum Surveyed {
     Sound(Facts),
     Refused(Refusal),

@@ -1,4 +1,6 @@
 // What the command says about a book: whether it is sound and what it holds, which macros a macro reaches, and whether blocks are closed.
+#![tactic(auto)]
+
 mod depths;
 mod facts;
 mod reached;

@@ -10,7 +10,7 @@ use reach::{Reached, reach_list};
 pub const LIST: usize = 1024;
 
 // How many macros the one that a text names reaches; or the text is no number.
-#[derive(Drop)]
+#[derive(Clone, Copy)]
 pub enum NamedReach {
     Reach(Reached),
     NoNumber,

@@ -24,7 +24,7 @@ member c = let l = c.before.loop in lowest-lt 64 32 l.y (omega arith) (omega ari
 loop-holds : tie.Need-loop-init invariant-loop decreases-loop
 loop-holds c = let a = c.before.args in (lt_of_le_of_lt (and_le_r a.set _) (omega arith), image-mask a.rows.now 32 a.set (omega arith))
 
-cast-p : tie.Need-overflow-cast-p invariant-loop decreases-loop
+cast-p : tie.Need-overflow_cast-p invariant-loop decreases-loop
 cast-p c = omega (arith, member c)
 
 mul-acc : tie.Need-overflow-mul-acc invariant-loop decreases-loop
@@ -33,7 +33,7 @@ mul-acc c = omega (arith, member c)
 shared-slice-read-acc : tie.Need-shared-slice-read-acc invariant-loop decreases-loop
 shared-slice-read-acc c = omega (arith, member c.before)
 
-sub-y : tie.Need-overflow-sub-y invariant-loop decreases-loop
+sub-y : tie.Need-overflow_sub-y invariant-loop decreases-loop
 sub-y c = omega arith
 
 loop-less : tie.Need-loop-smaller invariant-loop decreases-loop

@@ -4,7 +4,7 @@ use Rattle.stateset.proofs.Sets.{pow-high}
 use Rattle.stateset.proofs.only.Statement.{statement}
 use Rattle.stateset.proofs.only.Tie as tie
 
-shl-result : tie.Need-overflow-shl-result
+shl-result : tie.Need-overflow_shl-result
 shl-result c = search rules
 
 returns : tie.Need-returns

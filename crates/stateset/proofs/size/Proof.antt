@@ -5,7 +5,7 @@ use Rattle.stateset.proofs.Counts.{ones-members}
 use Rattle.stateset.proofs.size.Statement.{statement}
 use Rattle.stateset.proofs.size.Tie as tie
 
-cast-result : tie.Need-overflow-cast-result
+cast-result : tie.Need-overflow_cast-result
 cast-result c = omega (arith, ones-le 64 c.args.a (omega arith))
 
 returns : tie.Need-returns

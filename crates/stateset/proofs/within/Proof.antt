@@ -4,10 +4,10 @@ use Rattle.stateset.proofs.Sets.{shifted-some, masked, word-whole}
 use Rattle.stateset.proofs.within.Statement.{statement}
 use Rattle.stateset.proofs.within.Tie as tie
 
-shl-result : tie.Need-overflow-shl-result
+shl-result : tie.Need-overflow_shl-result
 shl-result c = search rules
 
-sub-result : tie.Need-overflow-sub-result
+sub-result : tie.Need-overflow_sub-result
 sub-result c = search (shifted-some)
 
 returns : tie.Need-returns
