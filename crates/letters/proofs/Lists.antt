@@ -23,15 +23,19 @@ module _ {A : Type 0} (R : A → A → Type 0) where
   each-split (j ∷ u) x (k ∷ v) (r, e) =
       let s = each-split u x v e in
       record { left = k ∷ s.left; right = s.right; whole = ap (λ (l : List A). k ∷ l) s.whole; front = (r, s.front); back = s.back }
+  each-split (j ∷ u) x [] e = elim e [ ]
 
   -- nothing stands against nothing
   pub each_none : (u v : List A) → u ≡ [] → Each R u v → v ≡ []
   each_none [] [] h e = refl
   each_none (j ∷ u) (k ∷ v) h e = clash (cc)
+  each_none [] (k ∷ v) h e = elim e [ ]
+  each_none (j ∷ u) [] h e = elim e [ ]
 
   -- one entry stands against one
   pub each-one : (j : A) (v : List A) → Each R (j ∷ []) v → (k : A) × (v ≡ k ∷ []) × R j k
   each-one j (k ∷ v) (r, e) = (k, ap (λ (l : List A). k ∷ l) (each_none [] v refl e), r)
+  each-one j [] x' = elim x' [ ]
 
   pub each-refl : ((k : A) → R k k) → (w : List A) → Each R w w
   each-refl f [] = tt
@@ -40,6 +44,8 @@ module _ {A : Type 0} (R : A → A → Type 0) where
   pub each-sym : ((j k : A) → R j k → R k j) → (u v : List A) → Each R u v → Each R v u
   each-sym f [] [] e = tt
   each-sym f (j ∷ u) (k ∷ v) (r, e) = (f j k r, each-sym f u v e)
+  each-sym f [] (k ∷ v) e = elim e [ ]
+  each-sym f (j ∷ u) [] e = elim e [ ]
 
 pub letter-sym : (j k : ℕ) → SameLetter j k → SameLetter k j
 letter-sym j k (inl e) = inl (sym e)
@@ -49,6 +55,8 @@ letter-sym j k (inr e) = inr (rw e (sym (other j).back))
 pub letters-member : (n : ℕ) → n < 65 → (u v : List ℕ) → SameLetters u v → member n v ≡ member n u
 letters-member n h [] [] e = refl
 letters-member n h (j ∷ u) (k ∷ v) (s, e) = rw (letter-test (eqb n) (λ i. (other i).small n h) j k s, letters-member n h u v e) refl
+letters-member n h [] (k ∷ v) e = elim e [ ]
+letters-member n h (j ∷ u) [] e = elim e [ ]
 
 -- the same letters the other way round
 pub letters-sym : (u v : List ℕ) → SameLetters u v → SameLetters v u
