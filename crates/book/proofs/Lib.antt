@@ -1,7 +1,7 @@
 -- Laws of the book's definitions. Other crates cite LayoutLaws, StepLaws, MacroItems, Requiring, Expansion, WellFormed, Reach,
 -- Coding, Sizes, Prefix and Refusals.
 pub mod Readings
-pub mod Items
+pub mod ItemLaws
 pub mod Walks
 pub mod Header
 pub mod Offsets

@@ -23,7 +23,7 @@ use Rattle.book.specs.Offset.{offset}
 use Rattle.book.specs.Promises.{numbers_at}
 use Rattle.book.specs.Reading.{item_of, le16, times_in, version_in, macros_in}
 use Rattle.book.specs.Answer.{layout}
-use Rattle.book.proofs.Items.{width-least, width-most, found_at, short-at}
+use Rattle.book.proofs.ItemLaws.{width-least, width-most, found_at, short-at}
 use Rattle.book.proofs.Bodies.{part-offsets, part-is}
 use Rattle.book.proofs.LayoutLaws.{read-in, read-with}
 use Rattle.book.proofs.Offsets.{front_item, front_items, book-few, book-front}

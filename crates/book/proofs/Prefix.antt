@@ -16,7 +16,7 @@ use Rattle.book.specs.declared.item.Item.{Item}
 use Rattle.book.specs.declared.item.Item.TheVariants.{Key, Call}
 use Rattle.book.specs.Reading.{Reading, Reader, got, refused, next, done, le16, item_of, times_in, check_times, check_item, read_item, read_items, read_macro, read_macros, has_magic, read_header, version_in, at_end, read_all, read_in, read_book}
 use Rattle.book.specs.Format.{repeated, versions, width}
-use Rattle.book.proofs.Items.{width-least, width-most}
+use Rattle.book.proofs.ItemLaws.{width-least, width-most}
 use Rattle.book.proofs.Header.{header-got}
 use Rattle.book.proofs.MacroItems.{drop-take}
 

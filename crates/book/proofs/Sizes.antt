@@ -8,7 +8,7 @@ use lib.ListN.{length, drop, length-drop}
 use Rattle.book.specs.Format.{Macro, SoundIn, versions, width}
 use Rattle.book.specs.Reading.{got, read_macro, read_macros, read_in, read_book, version_in}
 use Rattle.book.proofs.Coding.{encodes-read}
-use Rattle.book.proofs.Items.{width_one, width-most}
+use Rattle.book.proofs.ItemLaws.{width_one, width-most}
 use Rattle.book.proofs.LayoutLaws.{read-with}
 use Rattle.book.proofs.Readings.{more-got}
 use Rattle.book.proofs.Offsets.{macro-got, whole}

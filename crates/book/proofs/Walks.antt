@@ -19,7 +19,7 @@ use Rattle.book.specs.declared.layout.Walk.TheVariants.{At, Refused}
 use Rattle.book.specs.Reading.{Reading, got, refused, next, done, item_of, le16, times_in, check_times, check_item, read_item, read_items, read_macro}
 use Rattle.book.specs.Format.{Repeated, repeated, Macro, width}
 use Rattle.book.specs.Promises.{numbers_at, walk_of}
-use Rattle.book.proofs.Items.{found_at, short-at, width-least}
+use Rattle.book.proofs.ItemLaws.{found_at, short-at, width-least}
 use Rattle.book.proofs.Readings.{test-got, untest-got, same-got}
 use Rattle.runs.proofs.Tests.{clash}
 

@@ -14,35 +14,35 @@ use Rattle.book.proofs.answers.body.Goals as goal
 
 pub returns-then-count-m : goal.returns-then-count-m
 returns-then-count-m c =
-    let k = c.before in
-    let l = k.before.before in
-    let a = l.before.before.args in
+    let both =
+    let a = c.args in
     let b = a.book.now in
-    let sound = layout-sound b (layout-figures b l.layout_of.ensures) k.answer2.given.1 in
-    let count = layout-count b (layout-figures b l.layout_of.ensures) k.answer2.given.1 in
+    let sound = layout-sound b (layout-figures b c.layout_of-found.ensures) c.in-Sound.is in
+    let count = layout-count b (layout-figures b c.layout_of-found.ensures) c.in-Sound.is in
     let out = require-out a.m b sound (omega arith) in
-    body-none b a.book.ptr a.m (require_macro a.m b) _ _ out c.code2.ensures
+    body-none b a.book.ref_ptr a.m (require_macro a.m b) _ _ out c.code-then-count-m.ensures in
+    record { part = both.0; offset = both.1.0; number = both.1.1 }
 
 pub returns-in-Refused : goal.returns-in-Refused
 returns-in-Refused c =
-    let k = c.before in
-    let l = k.before.before in
-    let a = l.before.before.args in
+    let both =
+    let a = c.args in
     let b = a.book.now in
-    let out = require-refused a.m b (layout-refused b (layout-figures b l.layout_of.ensures) k.answer.given.1) in
-    body-none b a.book.ptr a.m (require_macro a.m b) _ _ out c.code.ensures
+    let out = require-refused a.m b (layout-refused b (layout-figures b c.layout_of-found.ensures) c.in-Refused.is) in
+    body-none b a.book.ref_ptr a.m (require_macro a.m b) _ _ out c.code.ensures in
+    record { part = both.0; offset = both.1.0; number = both.1.1 }
 
 pub returns-else-count-m : goal.returns-else-count-m
 returns-else-count-m c =
-    let k = c.before in
-    let l = k.before.before in
-    let a = l.before.before.args in
+    let both =
+    let a = c.args in
     let b = a.book.now in
-    let sound = layout-sound b (layout-figures b l.layout_of.ensures) k.answer2.given.1 in
-    let inside : a.m < length (macros_in b) = omega (arith, layout-count b (layout-figures b l.layout_of.ensures) k.answer2.given.1) in
-    let table = layout-table b l.layout_of.result l.layout_of.ensures in
+    let sound = layout-sound b (layout-figures b c.layout_of-found.ensures) c.in-Sound.is in
+    let inside : a.m < length (macros_in b) = omega (arith, layout-count b (layout-figures b c.layout_of-found.ensures) c.in-Sound.is) in
+    let table = layout-table b c.layout_of-found.result c.layout_of-found.ensures in
     let part = ap (λ (o : List ℕ). part_from b o a.m) table ∙ part-is b a.m inside in
-    let place = ap (λ (o : List ℕ). part_at a.book.ptr b o a.m) table ∙ part-at b a.m inside a.book.ptr in
-    body-some b a.book.ptr a.m (require_macro a.m b) _ _ (require-in a.m b sound inside) _ _
-    (c.part_of.ensures.0 ∙ part)
-    (c.part_of.ensures.1 ∙ place)
+    let place = ap (λ (o : List ℕ). part_at a.book.ref_ptr b o a.m) table ∙ part-at b a.m inside a.book.ref_ptr in
+    body-some b a.book.ref_ptr a.m (require_macro a.m b) _ _ (require-in a.m b sound inside) _ _
+    (c.part_of.ensures.part ∙ part)
+    (c.part_of.ensures.place ∙ place) in
+    record { part = both.0; offset = both.1.0; number = both.1.1 }

@@ -8,10 +8,8 @@ returns-in_default c = search (item-cut)
 
 pub overflow_add-next : goal.overflow_add-next
 overflow_add-next c =
-    let k = c.before in
-    let r = k.before.before in
-    let a = r.before.before.args in
-    omega (arith, c.width_of_lem.ensures, item-fits a.s.now a.at a.n a.version _ r.read-item.ensures _ _ k.read.given.1)
+    let a = c.args in
+    omega (arith, c.width_of.ensures, item-fits a.s.now a.at a.n a.version _ c.read_item-read.ensures _ _ c.in-Found.is)
 
 pub returns-then-k-eq0 : goal.returns-then-k-eq0
 returns-then-k-eq0 c = search (key-zero)

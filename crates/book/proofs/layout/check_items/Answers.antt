@@ -13,10 +13,8 @@ returns-in-Refused c = search items_refused
 
 pub loop-left-preserved : goal.loop-left-preserved
 loop-left-preserved c =
-    let k = c.before in
-    let l = k.before.before in
-    let a = l.before.before.args in
-    items-on a.s.now a.version a.n l.loop.at l.loop.left _ _ k.check-item.ensures l.loop.invariant.1 (omega arith) _ l.loop.invariant.0 c.next-1.given.1
+    let a = c.args in
+    items-on a.s.now a.version a.n c.loop-left.at c.loop-left.left _ _ c.check_item.ensures c.loop-left.invariant.1 (omega arith) _ c.loop-left.invariant.0 c.in-At.is
 
 pub returns : goal.returns
 returns c = search items-done

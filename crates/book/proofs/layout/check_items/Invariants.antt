@@ -7,7 +7,7 @@ use Rattle.book.specs.Promises.{walk_of}
 use Rattle.book.proofs.layout.check_items.Given as goal
 
 abbrev pub invariant-loop-left : goal.invariant-loop-left
-invariant-loop-left l = 
+invariant-loop-left l =
     (l.at ≤ length l.s)
     × (walk_of (length l.s) (read_items l.version l.n l.left (drop l.at l.s)) ≡ walk_of (length l.s) (read_items l.version l.n l.count (drop l.start l.s)))
 

@@ -3,9 +3,8 @@ use Rattle.book.proofs.Laid.{header-fits, whole-macros, whole-refused}
 use Rattle.book.proofs.layout.layout_of.Goals as goal
 
 pub layout_macros-requires : goal.layout_macros-requires
-layout_macros-requires c κs =
-    let k = c.before in
-    header-fits k.before.before.args.book.now _ k.read-header.ensures _ c.count-1.given.1
+layout_macros-requires c =
+    header-fits c.args.book.now _ c.read_header.ensures _ c.in-Macros.is
 
 pub returns-in-Macros : goal.returns-in-Macros
 returns-in-Macros c = search whole-macros

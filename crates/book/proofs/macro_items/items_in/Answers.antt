@@ -9,8 +9,7 @@ loop-count-init c = search (items-start)
 
 pub overflow_mul-width : goal.overflow_mul-width
 overflow_mul-width c =
-    let w = c.before in
-    let most = place-most w.before.before.args.version _ w.width_of_lem.ensures c.loop-count.count (omega arith) in
+    let most = place-most c.args.version _ c.width_of-width.ensures c.loop-count.count (omega arith) in
     omega (arith, most)
 
 pub returns-in_default : goal.returns-in_default

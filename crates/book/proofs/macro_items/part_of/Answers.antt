@@ -5,32 +5,16 @@ use borrow.Author.Rules.{rules}
 use Rattle.book.proofs.macro_items.part_of.Goals as goal
 
 pub returns-then-i-ge1024 : goal.returns-then-i-ge1024
-returns-then-i-ge1024 c =
-    let s = c.before in
-    let b = s.args.book.now in
-    let o = s.args.offsets.now in
-    no_part b o s.args.i s.args.book.ptr (part-high b o s.args.i (omega arith))
+returns-then-i-ge1024 c = let both = let b = c.args.book.now in let o = c.args.offsets.now in no_part b o c.args.i c.args.book.ref_ptr (part-high b o c.args.i (omega arith)) in record { part = both.0; place = both.1 }
 
 pub returns-then-end-lt2 : goal.returns-then-end-lt2
-returns-then-end-lt2 c =
-    let s = c.before in
-    let b = s.args.book.now in
-    let o = s.args.offsets.now in
-    no_part b o s.args.i s.args.book.ptr (part_none b o s.args.i (omega arith) (omega arith))
+returns-then-end-lt2 c = let both = let b = c.args.book.now in let o = c.args.offsets.now in no_part b o c.args.i c.args.book.ref_ptr (part_none b o c.args.i (omega arith) (omega arith)) in record { part = both.0; place = both.1 }
 
 pub returns-then-end-count : goal.returns-then-end-count
-returns-then-end-count c =
-    let s = c.before in
-    let b = s.args.book.now in
-    let o = s.args.offsets.now in
-    no_part b o s.args.i s.args.book.ptr (part_none b o s.args.i (omega arith) (omega arith))
+returns-then-end-count c = let both = let b = c.args.book.now in let o = c.args.offsets.now in no_part b o c.args.i c.args.book.ref_ptr (part_none b o c.args.i (omega arith) (omega arith)) in record { part = both.0; place = both.1 }
 
 pub returns-then-book-end : goal.returns-then-book-end
-returns-then-book-end c =
-    let s = c.before in
-    let b = s.args.book.now in
-    let o = s.args.offsets.now in
-    no_part b o s.args.i s.args.book.ptr (part_out b o s.args.i (omega arith) (omega arith) (omega arith))
+returns-then-book-end c = let both = let b = c.args.book.now in let o = c.args.offsets.now in no_part b o c.args.i c.args.book.ref_ptr (part_out b o c.args.i (omega arith) (omega arith) (omega arith)) in record { part = both.0; place = both.1 }
 
 -- LOST slice-bounds-result-start
 -- part-result-start : tie.Need-slice-bounds-result-start
@@ -41,8 +25,4 @@ returns-then-book-end c =
 -- part-result-end c = search rules
 
 pub returns : goal.returns
-returns c =
-    let s = c.before in
-    let b = s.args.book.now in
-    let o = s.args.offsets.now in
-    some-part b o s.args.i s.args.book.ptr (part_placed b o s.args.i (omega arith) (omega arith) (omega arith))
+returns c = let both = let b = c.args.book.now in let o = c.args.offsets.now in some-part b o c.args.i c.args.book.ref_ptr (part_placed b o c.args.i (omega arith) (omega arith) (omega arith)) in record { part = both.0; place = both.1 }

@@ -1,5 +1,5 @@
 -- `le16_at`: two bytes, the low one first.
-use Rattle.book.proofs.Items.{le16-of-bytes}
+use Rattle.book.proofs.ItemLaws.{le16-of-bytes}
 use Rattle.book.proofs.number.le16_at.Goals as goal
 
 pub returns : goal.returns

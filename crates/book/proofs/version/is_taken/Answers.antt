@@ -1,5 +1,5 @@
 -- `is_taken`: the two versions.
-use Rattle.book.proofs.Items.{taken-told}
+use Rattle.book.proofs.ItemLaws.{taken-told}
 use Rattle.book.proofs.version.is_taken.Goals as goal
 
 pub returns : goal.returns
