@@ -6,19 +6,10 @@ pub branches-read-requires : goal.branches-read-requires
 branches-read-requires c = search (laws.start-ready)
 
 pub returns-in_default : goal.returns-in_default
-returns-in_default c =
-    let both =
-    (search (laws.fault-figures), (search (laws.fault-keys), search (laws.fault-enter))) in
-    record { figures = both.0; keyed = both.1.0; entered = both.1.1 }
+returns-in_default c = record { figures = search (laws.fault-figures); keyed = search (laws.fault-keys); entered = search (laws.fault-enter) }
 
 pub returns-then-atoms-gt29 : goal.returns-then-atoms-gt29
-returns-then-atoms-gt29 c =
-    let both =
-    (search (laws.many-figures), (search (laws.many-keys), search (laws.many-enter))) in
-    record { figures = both.0; keyed = both.1.0; entered = both.1.1 }
+returns-then-atoms-gt29 c = record { figures = search (laws.many-figures); keyed = search (laws.many-keys); entered = search (laws.many-enter) }
 
 pub returns : goal.returns
-returns c =
-    let both =
-    (search (laws.fine-figures), (search (laws.fine-keys), search (laws.fine-enter))) in
-    record { figures = both.0; keyed = both.1.0; entered = both.1.1 }
+returns c = record { figures = search (laws.fine-figures); keyed = search (laws.fine-keys); entered = search (laws.fine-enter) }

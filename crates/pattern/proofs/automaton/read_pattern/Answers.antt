@@ -3,22 +3,13 @@ use Rattle.pattern.proofs.Scans as laws
 use Rattle.pattern.proofs.automaton.read_pattern.Goals as goal
 
 pub returns-then-n : goal.returns-then-n
-returns-then-n c =
-    let both =
-    (search (laws.wrong-figures), (search (laws.wrong-keys), search (laws.wrong-enter))) in
-    record { figures = both.0; keyed = both.1.0; entered = both.1.1 }
+returns-then-n c = record { figures = search (laws.wrong-figures); keyed = search (laws.wrong-keys); entered = search (laws.wrong-enter) }
 
 pub read_clean-requires : goal.read_clean-requires
 read_clean-requires c = search (laws.pattern-ready)
 
 pub returns-then-clean : goal.returns-then-clean
-returns-then-clean c =
-    let both =
-    (search (laws.clean-figures), (search (laws.clean-keys), search (laws.clean-enter))) in
-    record { figures = both.0; keyed = both.1.0; entered = both.1.1 }
+returns-then-clean c = record { figures = search (laws.clean-figures); keyed = search (laws.clean-keys); entered = search (laws.clean-enter) }
 
 pub returns : goal.returns
-returns c =
-    let both =
-    (search (laws.unclean-figures), (search (laws.unclean-keys), search (laws.unclean-enter))) in
-    record { figures = both.0; keyed = both.1.0; entered = both.1.1 }
+returns c = record { figures = search (laws.unclean-figures); keyed = search (laws.unclean-keys); entered = search (laws.unclean-enter) }
