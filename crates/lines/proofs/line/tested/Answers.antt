@@ -20,7 +20,7 @@ pub loop-at-smaller : goal.loop-at-smaller
 loop-at-smaller c = omega arith
 
 pub loop-at-preserved : goal.loop-at-preserved
-loop-at-preserved c = let byte = c.shared_slice_known-in-loop-at-1.given c.loop-at.at in search (line_on, byte.fits)
+loop-at-preserved c = let byte = c.type_inv.line c.loop-at.at in search (line_on, byte.fits)
 
 pub returns-then-meets : goal.returns-then-meets
 returns-then-meets c = search (line-matches)

@@ -23,7 +23,7 @@ pub loop-at-smaller : goal.loop-at-smaller
 loop-at-smaller c = omega arith
 
 pub loop-at-preserved : goal.loop-at-preserved
-loop-at-preserved c = let byte = c.shared_slice_known-in-loop-at-1.given c.loop-at.at in search (run_on, byte.fits)
+loop-at-preserved c = let byte = c.type_inv.run c.loop-at.at in search (run_on, byte.fits)
 
 pub overflow_add-result : goal.overflow_add-result
 overflow_add-result c = omega (arith, last-small c.loop-at.t.pending c.meets.result c.chosen.ensures)
