@@ -1,12 +1,9 @@
 -- `finding::placed_macro`: the count leaves the reports, the extents come behind them; no line, or where it is.
-use mir.Val.{Fits}
-use mir.Syntax.{w64}
+use mathlib.Core.Path.{ap}
+use mathlib.Core.Bool.{not}
 use Rattle.find.proofs.FindLaws.{behind-in, search-in, macro-none, macro-some}
 use borrow.Author.Rules.{rules}
 use Rattle.find.proofs.finding.placed_macro.Goals as goal
-
-number_fits : (s : goal.Start) → Fits w64 s.args.search.k
-number_fits s = search rules
 
 pub fill_behind-requires : goal.fill_behind-requires
 fill_behind-requires c =
@@ -14,7 +11,7 @@ fill_behind-requires c =
 
 pub returns-then-not-has_line : goal.returns-then-not-has_line
 returns-then-not-has_line c =
-    macro-none _ c.requires (search rules) c.fill_behind.ensures _ _ c.count_book-count.ensures (number_fits c.before.before.before.before.before.before.before.before.before.before.before.before.before) c.has_line.ensures c.if-not-has_line.true
+    macro-none _ c.requires (search rules) c.fill_behind.ensures _ _ c.count_book-count.ensures (search rules) c.has_line.ensures (ap not c.if-not-has_line.true)
 
 pub locate-requires : goal.locate-requires
 locate-requires c =
@@ -22,4 +19,4 @@ locate-requires c =
 
 pub returns : goal.returns
 returns c =
-    macro-some _ c.requires (search rules) c.fill_behind.ensures _ _ c.count_book-count.ensures (number_fits c.before.before.before.before.before.before.before.before.before.before.before.before.before.before.before.before) c.has_line.ensures c.if-not-has_line.false c.locate.ensures c.numbered.ensures
+    macro-some _ c.requires (search rules) c.fill_behind.ensures _ _ c.count_book-count.ensures (search rules) c.has_line.ensures (ap not c.if-not-has_line.false) c.locate.ensures c.numbered.ensures

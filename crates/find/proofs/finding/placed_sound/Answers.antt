@@ -15,12 +15,9 @@ overflow_add-base c = search (next_fits)
 pub overflow_mul-base : goal.overflow_mul-base
 overflow_mul-base c = search (base-fits)
 
-small : (c : goal.After-struct_known-1) → c.in-Accepted.p.states ≤ 32
-small c = search (states-small)
-
 pub placed_macro-requires : goal.placed_macro-requires
 placed_macro-requires c =
-    macro-fits c.requires _ (small c.before.before.before.before.before.before) _ _ _ _ c.space_for.ensures c.in-Enough.is
+    macro-fits c.requires _ (search (states-small)) _ _ _ _ c.space_for.ensures c.in-Enough.is
 
 pub returns-in-Refused : goal.returns-in-Refused
 returns-in-Refused c = search (pattern-refused)

@@ -5,23 +5,12 @@ use Rattle.find.proofs.KeysLaws.{line-short, line-fits, line-written}
 use borrow.Author.Rules.{rules}
 use Rattle.find.proofs.finding.written_line.Goals as goal
 
-short : (s : goal.Start) → length s.args.buffer.now < 2 ^ 63
-short s = search rules
-
 pub returns-then-buffer-line : goal.returns-then-buffer-line
 returns-then-buffer-line c = search (line-short)
-
--- LOST slice-bounds-write-macro-start
--- part-write-macro-start : tie.Need-slice-bounds-write-macro-start
--- part-write-macro-start c = search rules
-
--- LOST slice-bounds-write-macro-end
--- part-write-macro-end : tie.Need-slice-bounds-write-macro-end
--- part-write-macro-end c = search rules
 
 pub write_macro-requires : goal.write_macro-requires
 write_macro-requires c = search (line-fits)
 
 pub returns : goal.returns
 returns c =
-    line-written _ _ _ (short c.before.before.before.before.before.before.before.before.before.before.before) c.if-buffer-line.false c.write_macro.ensures.written
+    line-written _ _ _ (search rules) c.if-buffer-line.false c.write_macro.ensures.written
