@@ -40,6 +40,8 @@ first-same (j ∷ u) (k ∷ v) (s, e) = rw (end_same j k s) (go (first-same u v 
     go : SameLetters (first_part u) (first_part v) → (t : Bool) → SameLetters (cond t [] (j ∷ first_part u)) (cond t [] (k ∷ first_part v))
     go h true = tt
     go h false = (s, h)
+first-same [] (k ∷ v) e = elim e [ ]
+first-same (j ∷ u) [] e = elim e [ ]
 
 later_same : (u v : List ℕ) → SameLetters u v → SameLines (later_parts u) (later_parts v)
 unfolding later_parts
@@ -49,6 +51,8 @@ later_same (j ∷ u) (k ∷ v) (s, e) = rw (end_same j k s) (go (later_same u v 
     go : SameLines (later_parts u) (later_parts v) → (t : Bool) → SameLines (cond t (first_part u ∷ later_parts u) (later_parts u)) (cond t (first_part v ∷ later_parts v) (later_parts v))
     go h true = (first-same u v e, h)
     go h false = h
+later_same [] (k ∷ v) e = elim e [ ]
+later_same (j ∷ u) [] e = elim e [ ]
 
 trim_same : (u v : List ℕ) → SameLetters u v → SameLetters (trimmed u) (trimmed v)
 unfolding trimmed
@@ -59,11 +63,21 @@ trim_same (j ∷ []) (k ∷ []) (s, e) = rw (return-same j k s) (go (eqb carriag
     go true = tt
     go false = (s, tt)
 trim_same (j ∷ i ∷ u) (k ∷ h ∷ v) (s, e) = (s, trim_same (i ∷ u) (h ∷ v) e)
+trim_same [] (k ∷ _) e = elim e [ ]
+trim_same (j ∷ []) [] e = elim e [ ]
+trim_same (j ∷ []) (k ∷ (h ∷ v)) e = elim e.1 [ ]
+trim_same (j ∷ (i ∷ u)) [] e = elim e [ ]
+trim_same (j ∷ (i ∷ u)) (k ∷ []) e = elim e.1 [ ]
 
 from-same : (l m : List ℕ) → SameLetters l m → (ls ms : List (List ℕ)) → SameLines ls ms → SameLines (lines_from l ls) (lines_from m ms)
 from-same [] [] s [] [] e = tt
 from-same (j ∷ l) (k ∷ m) s [] [] e = (s, tt)
 from-same l m s (i ∷ ls) (h ∷ ms) (f, e) = (trim_same l m s, from-same i h f ls ms e)
+from-same [] [] s [] (h ∷ ms) e = elim e [ ]
+from-same [] (k ∷ m) s [] ms e = elim s [ ]
+from-same (j ∷ l) [] s [] ms e = elim s [ ]
+from-same (j ∷ l) (k ∷ m) s [] (h ∷ ms) e = elim e [ ]
+from-same l m s (i ∷ ls) [] e = elim e [ ]
 
 lines_same : (u v : List ℕ) → SameLetters u v → SameLines (lines u) (lines v)
 unfolding lines
@@ -73,6 +87,8 @@ count_same : (X : List ℕ → Bool) → ((l m : List ℕ) → SameLetters l m �
 unfolding count_in
 count_same X f [] [] e = refl
 count_same X f (l ∷ ls) (m ∷ ms) (s, e) = rw (f l m s, count_same X f ls ms e) refl
+count_same X f [] (m ∷ ms) e = elim e [ ]
+count_same X f (l ∷ ls) [] e = elim e [ ]
 
 -- how many lines match
 pub letters-matching : (t : Pattern) (u v : List ℕ) → SameLetters u v → matching (query Case.Ignored t) u ≡ matching (query Case.Ignored t) v

@@ -172,7 +172,7 @@ ends-parts (c ∷ w) = go (eqb line_end c) refl (first_part w) (later_parts w) r
 
     go : (b : Bool) → eqb line_end c ≡ b → (f : List ℕ) (ls : List (List ℕ)) → first_part w ≡ f → later_parts w ≡ ls → ends_in_return w ≡ ends_in_return (last_part f ls)
         → ends_in_return (c ∷ w) ≡ ends_in_return (last_part (first_onto b c f) (later_onto b f ls))
-    go true e f ls g h i = let same : line_end ≡ c = eqb-true line_end c e in rw (← same) (behind w ∙ i)
+    go true e f ls g h i = let same : line_end ≡ c = eqb-true line_end c e in ap (λ (k : ℕ). ends_in_return (k ∷ w)) (sym same) ∙ (behind w ∙ i)
     go false e f [] g h i = ap (λ (l : List ℕ). ends_in_return (c ∷ l)) (sym (first-whole w h) ∙ g)
     go false e f (m ∷ ms) g h i = ends-cons c w (later-open w h) ∙ i
 

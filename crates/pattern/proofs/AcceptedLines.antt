@@ -43,6 +43,7 @@ Sees t (suc (suc (suc k))) w = Lives t k w
 some-either : (P Q : ℕ → Branch → Type 0) (b : ℕ) (t : Pattern) → Some (λ d r. P d r ⊎ Q d r) b t → Some P b t ⊎ Some Q b t
 some-either P Q b (r ∷ rs) (inl p) = ⊎_elim (λ i. inl (inl i)) (λ i. inr (inl i)) p
 some-either P Q b (r ∷ rs) (inr p) = ⊎_elim (λ i. inl (inr i)) (λ i. inr (inr i)) (some-either P Q (b + atoms_in r.pieces) rs p)
+some-either P Q b [] x' = elim x' [ ]
 
 -- State mid-line.
 
@@ -68,11 +69,13 @@ module _ (S : Sets) where
   -- the branches of a pattern that matches
   matches-some : (b : ℕ) (t : Pattern) (w : List ℕ) → Matches S t w → Some (λ d r. MatchesBranch S r w) b t
   matches-some b (r ∷ rs) w (Matches.here m) = inl m
-  matches-some b (r ∷ rs) w (Matches.later m) = inr (matches-some _ rs w m)
+  matches-some b (r ∷ rs) w (Matches.later m) = inr (matches-some (b + atoms_in r.pieces) rs w m)
+  matches-some b [] w x' = elim x' [ ]
 
   some-matches : (b : ℕ) (t : Pattern) (w : List ℕ) → Some (λ d r. MatchesBranch S r w) b t → Matches S t w
   some-matches b (r ∷ rs) w (inl m) = Matches.here m
-  some-matches b (r ∷ rs) w (inr m) = Matches.later (some-matches _ rs w m)
+  some-matches b (r ∷ rs) w (inr m) = Matches.later (some-matches (b + atoms_in r.pieces) rs w m)
+  some-matches b [] w x' = elim x' [ ]
 
   after-tells : (k : ℕ) (v : List ℕ) → Tells k (λ b r. After S b r k v)
   after-tells k v b r a = cont-tells S b r.pieces k v a.behind a.goes
@@ -236,6 +239,7 @@ module _ (t : Query) where
   some-place w b (r ∷ rs) (inr p) =
       let q = some-place w (b + atoms_in r.pieces) rs p in
       record { before = q.before; from = q.from; whole = q.whole; there = inr q.there }
+  some-place w b [] x' = elim x' [ ]
 
   matches-begins : (c : ℕ) (w : List ℕ) → Matches t.sets t.tree (c ∷ w) → Mid t w ⊎ ((empty_free t.tree ≡ true) ⊎ Step (first_in_branch t.tree) (holds_key t) (Follows t) (c ∷ w))
   matches-begins c w m =

@@ -61,6 +61,7 @@ module _ (S : Sets) where
 
   pub cont-tells : (b : ℕ) (o : Option Expr) (k : ℕ) (w v : List ℕ) → ContIn b o k w v → Within b (atoms_in o) k
   cont-tells b (some e) k w v c = cont-within S b e k w v c
+  cont-tells b none k w v c = elim c [ ]
 
   -- the pieces take nothing and may end, or take a step
   abbrev GoesIn : Bool → (ℕ → Bool) → ℕ → Option Expr → List ℕ → List ℕ → Type 0
@@ -73,6 +74,7 @@ module _ (S : Sets) where
 
   goes_in : (b : ℕ) (o : Option Expr) (k : ℕ) (w v : List ℕ) → ContIn b o k w v → GoesIn (in_pieces (λ e. last b e k) o) (λ j. in_pieces (λ e. follow b e k j) o) b o w v
   goes_in b (some e) k w v c = goes_on S b e k w v c
+  goes_in b none k w v c = elim c [ ]
 
   pub nothing-in : (o : Option Expr) (w : List ℕ) → nothing_in o ≡ true → LeavesIn o w w
   nothing-in none w h = refl
@@ -84,9 +86,11 @@ module _ (S : Sets) where
 
   first-in : (b : ℕ) (o : Option Expr) (k c : ℕ) (w v : List ℕ) → in_pieces (λ e. first b e k) o ≡ true → in_pieces (λ e. holds S b e k c) o ≡ true → ContIn b o k w v → LeavesIn o (c ∷ w) v
   first-in b (some e) k c w v f h t = first-leaves S b e k c w v f h t
+  first-in b none k c w v f h t = elim t [ ]
 
   follow-in : (b : ℕ) (o : Option Expr) (k j c : ℕ) (w v : List ℕ) → in_pieces (λ e. follow b e k j) o ≡ true → in_pieces (λ e. holds S b e j c) o ≡ true → ContIn b o j w v → ContIn b o k (c ∷ w) v
   follow-in b (some e) k j c w v f h t = follow-cont S b e k j c w v f h t
+  follow-in b none k j c w v f h t = elim t [ ]
 
   -- the branch matches a part of the line that begins here
   pub record At (r : Branch) (w : List ℕ) : Type 0 where

@@ -69,6 +69,7 @@ module _ (S T : Sets) (R : ℕ → ℕ → Type 0) (P : Atom → Bool) (keeps : 
   unfolding every_of
   matches-kept (b ∷ t) u v h r (Matches.here m) = Matches.here (branch_kept b u v (and-fst (every_in P b.pieces) (every_of P t) h) r m)
   matches-kept (b ∷ t) u v h r (Matches.later m) = Matches.later (matches-kept t u v (and-snd (every_in P b.pieces) (every_of P t) h) r m)
+  matches-kept [] u v h r x3 = elim x3 [ ]
 
 -- every atom is one
 every-atom : (e : Expr) → every_atom (λ a. true) e ≡ true

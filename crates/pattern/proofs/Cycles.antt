@@ -411,7 +411,7 @@ module _ (s : List ℕ) (c : Cursor) (r : Ready s c) (keys enter : List ℕ) (b 
           go : (k : ℕ) (v : View s (past_byte c) Mode.group keys enter d p keys' enter' k) → ReadsIn (suc k) Mode.piece s c keys enter y keys' after
           go k v =
               rw (opened, paren, drop-drop 1 c.at s, v.reading)
-              (done-repeat (record { next = v.behind-it.next; here = v.behind-it.here; on = omega (arith, v.behind-it.on); ready = v.behind-it.ready }) v.made m em y after ey ea)
+              (done-repeat {c = c} (record { next = v.behind-it.next; here = v.behind-it.here; on = omega (arith, v.behind-it.on); ready = v.behind-it.ready }) v.made m em y after ey ea)
 
   -- a piece that is an atom
   module _ (plain-one : b ≡ 40 → ⊥) (x : Part) (keys' : List ℕ) (h : ReadsAtom s c keys x keys') where

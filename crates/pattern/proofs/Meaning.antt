@@ -217,6 +217,7 @@ module _ (S : Sets) where
   unfolding some_matches
   some-complete (b ∷ t) line (here m) = or_left (matches_branch S b line) (some_matches S t line) (branch-complete b line m)
   some-complete (b ∷ t) line (later m) = or_right (matches_branch S b line) (some_matches S t line) (some-complete t line m)
+  some-complete [] line x' = elim x' [ ]
 
 -- so the test is the meaning
 pub matches-iff : (t : Query) (line : List ℕ) → (matches t line ≡ true) ↔ Matches t.sets t.tree line

@@ -25,10 +25,12 @@ pub true-some : (P : ℕ → Branch → Bool) (b : ℕ) (t : Pattern) → Some (
 unfolding some_branch
 true-some P b (r ∷ rs) (inl i) = or_left (P b r) (some_branch P (b + atoms_in r.pieces) rs) i
 true-some P b (r ∷ rs) (inr i) = or_right (P b r) (some_branch P (b + atoms_in r.pieces) rs) (true-some P (b + atoms_in r.pieces) rs i)
+true-some P b [] x' = elim x' [ ]
 
 pub some-map : (P Q : ℕ → Branch → Type 0) → ((b : ℕ) (r : Branch) → P b r → Q b r) → (b : ℕ) (t : Pattern) → Some P b t → Some Q b t
 some-map P Q f b (r ∷ rs) (inl p) = inl (f b r p)
 some-map P Q f b (r ∷ rs) (inr p) = inr (some-map P Q f (b + atoms_in r.pieces) rs p)
+some-map P Q f b [] x' = elim x' [ ]
 
 -- P tells a branch by the number of one of its atoms
 abbrev pub Tells : ℕ → (ℕ → Branch → Type 0) → Type 0
@@ -38,6 +40,7 @@ pub some-within : (k : ℕ) (P : ℕ → Branch → Type 0) → Tells k P → (b
 unfolding atom_count
 some-within k P f b (r ∷ rs) (inl p) = let w = f b r p in record { low = w.low; high = omega arith }
 some-within k P f b (r ∷ rs) (inr p) = let w = some-within k P f (b + atoms_in r.pieces) rs p in record { low = omega arith; high = omega arith }
+some-within k P f b [] x' = elim x' [ ]
 
 -- what tells the same number is of one branch
 pub some-meet : (k : ℕ) (P Q : ℕ → Branch → Type 0) → Tells k P → Tells k Q → (b : ℕ) (t : Pattern) → Some P b t → Some Q b t → Some (λ d r. P d r × Q d r) b t
@@ -45,6 +48,7 @@ some-meet k P Q f g b (r ∷ rs) (inl p) (inl q) = inl (p, q)
 some-meet k P Q f g b (r ∷ rs) (inl p) (inr q) = absurd (apart b (atoms_in r.pieces) (atom_count rs) k (f b r p) (some-within k Q g (b + atoms_in r.pieces) rs q))
 some-meet k P Q f g b (r ∷ rs) (inr p) (inl q) = absurd (apart b (atoms_in r.pieces) (atom_count rs) k (g b r q) (some-within k P f (b + atoms_in r.pieces) rs p))
 some-meet k P Q f g b (r ∷ rs) (inr p) (inr q) = inr (some-meet k P Q f g (b + atoms_in r.pieces) rs p q)
+some-meet k P Q f g b [] x'' _ = elim x'' [ ]
 
 -- a step of some branch is one of the pattern, and the other way round
 module _ (m : ℕ → Branch → ℕ → Bool) (H : ℕ → Branch → ℕ → ℕ → Bool) (G : ℕ → Branch → ℕ → List ℕ → Type 0) where
@@ -67,6 +71,7 @@ module _ (m : ℕ → Branch → ℕ → Bool) (H : ℕ → Branch → ℕ → �
       (λ k. or_right (m b r k) (some_branch (λ d r. m d r k) (b + atoms_in r.pieces) rs))
       (λ k c. or_right (H b r k c) (some_branch (λ d r. H d r k c) (b + atoms_in r.pieces) rs))
       (λ k v g. inr g)
+  some-step b [] w x' = elim x' [ ]
 
   module _ (tells-m : (k : ℕ) → Tells k (λ d r. m d r k ≡ true)) (tells-H : (k c : ℕ) → Tells k (λ d r. H d r k c ≡ true)) (tells-G : (k : ℕ) (v : List ℕ) → Tells k (λ d r. G d r k v)) where
     pub step-some : (b : ℕ) (t : Pattern) (w : List ℕ) → PatternSteps b t w → SomeSteps b t w

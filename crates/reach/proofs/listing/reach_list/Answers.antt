@@ -9,11 +9,11 @@ pub returns-then-list-m : goal.returns-then-list-m
 returns-then-list-m c = search list-short
 
 pub list_reached-requires : goal.list_reached-requires
-list_reached-requires c = 
-    let both =
-        let a = c.args in
-        (list-place a.book.now a.m _ c.layout_of-found.ensures c.in-Sound.is c.if-count-m.false, c.if-list-m.false) in
-    record { macro_of = both.0; m_in_bounds = both.1 }
+list_reached-requires c =
+    record {
+      macro_of = list-place c.args.book.now c.args.m _ c.layout_of-found.ensures c.in-Sound.is c.if-count-m.false;
+      m_in_bounds = c.if-list-m.false;
+    }
 
 pub returns-in-Refused : goal.returns-in-Refused
 returns-in-Refused c = search list-refused

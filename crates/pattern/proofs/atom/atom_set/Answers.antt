@@ -1,0 +1,9 @@
+-- `atom::atom_set`: a stored atom's state is one member, and another's none.
+use Rattle.pattern.proofs.Atoms.{atom-state, atom-high}
+use Rattle.pattern.proofs.atom.atom_set.Goals as goal
+
+pub returns-then-k-lt29 : goal.returns-then-k-lt29
+returns-then-k-lt29 c = search (atom-state)
+
+pub returns : goal.returns
+returns c = search (atom-high)
