@@ -16,6 +16,32 @@ pub struct FileRead {
     pub bytes: usize,
 }
 
+// How many bytes were read, and what ended it before the input's end or the buffer's.
+#[derive(Clone, Copy)]
+pub struct Filled {
+    pub bytes: usize,
+    pub error: Option<Error>,
+}
+
+// Reads until the buffer is full, the input ends or a read fails.
+pub fn fill<R: Read>(input: &mut R, buf: &mut [u8]) -> Filled
+    ensures { IsPrefixLen result.bytes buf.new }
+{
+    let mut at = 0;
+    let mut error = None;
+    while at < buf.len() {
+        match input.read(&mut buf[at..]) {
+            Ok(0) => break,
+            Ok(n) => at += n,
+            Err(e) => {
+                error = Some(e);
+                break;
+            }
+        }
+    }
+    Filled { bytes: at, error }
+}
+
 // What failed is said under the input's name.
 fn failed(rt: &HostRuntime, name: &[u8], error: Error) -> FileRead
     ensures { result.bytes ≡ 0 }
@@ -31,17 +57,13 @@ fn failed(rt: &HostRuntime, name: &[u8], error: Error) -> FileRead
 fn read_all<R: Read>(rt: &HostRuntime, input: &mut R, name: &[u8], buf: &mut [u8]) -> FileRead
     ensures { IsPrefixLen result.bytes buf.new }
 {
-    let mut at = 0;
-    while at < buf.len() {
-        match input.read(&mut buf[at..]) {
-            Ok(0) => break,
-            Ok(n) => at += n,
-            Err(error) => return failed(rt, name, error),
-        }
-    }
-    FileRead {
-        failed: false,
-        bytes: at,
+    let filled = fill(input, buf);
+    match filled.error {
+        Some(error) => failed(rt, name, error),
+        None => FileRead {
+            failed: false,
+            bytes: filled.bytes,
+        },
     }
 }
 

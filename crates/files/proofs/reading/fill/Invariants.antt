@@ -1,6 +1,6 @@
--- `read_all`: the bytes read stay within the buffer, and each turn reads one at least.
+-- `fill`: the bytes read stay within the buffer, and each turn reads one at least.
 use Rattle.std.proofs.Common.{length, ◌-◌, ◌≡◌, ◌≤◌}
-use Rattle.files.proofs.reading.read_all.Given as goal
+use Rattle.files.proofs.reading.fill.Given as goal
 
 abbrev pub invariant-loop-at : goal.invariant-loop-at
 invariant-loop-at g l = (l.at ≤ length l.buf) × (length l.buf ≡ length l.initial.buf)
