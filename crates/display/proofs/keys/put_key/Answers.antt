@@ -1,6 +1,5 @@
 -- `keys::put_key`: by the key.
 use Rattle.display.proofs.ShownLaws.{slash-put, slash-place, shown-code, shown-code-place, shown-plain, shown-plain-place}
-use borrow.Author.Rules.{rules}
 use Rattle.display.proofs.keys.put_key.Goals as goal
 
 pub returns-then-key-eq92 : goal.returns-then-key-eq92

@@ -1,5 +1,4 @@
 -- `keys::put_keys`: the first i keys are shown.
-use Prim.Native.Nat.{◌-◌}
 use native.Mathlib.Omega.{arith}
 use Rattle.display.proofs.ShownLaws.{showing-none, showing-more, showing-put, showing-behind}
 use Rattle.display.proofs.keys.put_keys.Goals as goal

@@ -1,6 +1,5 @@
 -- `text::long_line`.
 use Rattle.display.proofs.TextLaws.{long-put}
-use borrow.Author.Rules.{rules}
 use Rattle.display.proofs.text.long_line.Goals as goal
 
 -- LOST slice-aggregate-put-text

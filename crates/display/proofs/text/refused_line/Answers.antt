@@ -1,6 +1,5 @@
 -- `text::refused_line`.
 use Rattle.display.proofs.TextLaws.{refused-put}
-use borrow.Author.Rules.{rules}
 use Rattle.display.proofs.text.refused_line.Goals as goal
 
 -- LOST slice-aggregate-put-text

@@ -1,6 +1,5 @@
 -- `depths::put_whole`: a name, a sign where there is one, and digits are one text.
 use Rattle.output.proofs.WholeLaws.{name-room, minus-put, minus-place, minus-near, minus-short, plain-put, plain-place, plain-near, plain-short}
-use borrow.Author.Rules.{rules}
 use Rattle.output.proofs.depths.put_whole.Goals as goal
 
 pub put_field-requires : goal.put_field-requires

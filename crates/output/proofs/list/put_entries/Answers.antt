@@ -1,6 +1,5 @@
 -- `list::put_entries`: the first i entries are put.
 use borrow.Author.Rules.{rules}
-use Prim.Native.Nat.{◌-◌}
 use Rattle.output.proofs.LineLaws.{listed-none, listed-room, listed_more, listed-asked, listed-all}
 use Rattle.output.proofs.list.put_entries.Goals as goal
 
