@@ -100,7 +100,8 @@ progress() {
 # The lines of rt's output that say what went wrong: without the crates that were proved, and those that only rest on one that was not.
 faults() {
     grep -E '^rt: |error|^note: [^ ]+:[0-9]+:[0-9]+: |: not proved$|is not in the layout$' |
-        grep -Ev '^rt: ([A-Za-z0-9_]+(: its tests are)? (proved|is kept|NOT PROVED: its library)|FAILED: |note: )' | cut -c 1-300 | tail -n 10
+        grep -Ev '^rt: ([A-Za-z0-9_]+(: its tests)? (are proved|proved|passed|is kept|ran|NOT PROVED: its library)|FAILED: |note: )' |
+        cut -c 1-300 | tail -n 10
 }
 
 # prove FOLDER: proves and builds what stands there, from nothing. The standard input may be the book, and is not for rt.
