@@ -6,7 +6,7 @@ use crate::show;
 use counter::{body, check};
 
 // `K`, whether a book is sound: the book's length and the book.
-pub(crate) fn checks(bytes: &[u8]) -> usize
+pub(crate) fn checks(rt: &HostRuntime, bytes: &[u8]) -> usize
     ensures { result ≤ length bytes.now }
 {
     if bytes.len() < 4 {
@@ -16,12 +16,12 @@ pub(crate) fn checks(bytes: &[u8]) -> usize
     if end > bytes.len() {
         return 0;
     }
-    show::checked(check(&bytes[4..end]));
+    show::checked(rt, check(&bytes[4..end]));
     end
 }
 
 // `B`, a body: the macro, the book's length and the book.
-pub(crate) fn bodies(bytes: &[u8]) -> usize
+pub(crate) fn bodies(rt: &HostRuntime, bytes: &[u8]) -> usize
     ensures { result ≤ length bytes.now }
 {
     if bytes.len() < 7 {
@@ -35,6 +35,6 @@ pub(crate) fn bodies(bytes: &[u8]) -> usize
     // No refusal's number, so that a 0 was written.
     let mut refused = 99;
     let part = body(&bytes[7..end], m, &mut refused);
-    show::body(part, refused);
+    show::body(rt, part, refused);
     end
 }

@@ -13,24 +13,24 @@ const HEAD: usize = 13;
 const JOINING: usize = 625;
 
 // Counts with these work words. Their hash is printed after a refusal too: it shows what the count left there.
-fn count_in(book: &[u8], pattern: &[u8], case: Case, m: usize, work: &mut [u64])
+fn count_in(rt: &HostRuntime, book: &[u8], pattern: &[u8], case: Case, m: usize, work: &mut [u64])
     requires { length work.old ≤ most_words }
 {
     prepare(work);
     let answer = count_book(book, pattern, case, m, work);
-    show::count(answer, hash(work));
+    show::count(rt, answer, hash(work));
 }
 
 // Counts with the first w of the work words: the others are there because an array's length is fixed.
-fn count(book: &[u8], pattern: &[u8], case: Case, m: usize, w: usize)
+fn count(rt: &HostRuntime, book: &[u8], pattern: &[u8], case: Case, m: usize, w: usize)
     requires { w ≤ most_words }
 {
     let mut work = [0; MOST_WORDS];
-    count_in(book, pattern, case, m, &mut work[..w]);
+    count_in(rt, book, pattern, case, m, &mut work[..w]);
 }
 
 // `C`: the macro, the work words, the pattern's length, the book's, the pattern and the book; `c` with case ignored.
-pub(crate) fn counting(bytes: &[u8], case: Case) -> usize
+pub(crate) fn counting(rt: &HostRuntime, bytes: &[u8], case: Case) -> usize
     ensures { result ≤ length bytes.now }
 {
     if bytes.len() < HEAD {
@@ -46,17 +46,17 @@ pub(crate) fn counting(bytes: &[u8], case: Case) -> usize
     if end > bytes.len() {
         return 0;
     }
-    count(&bytes[book..end], &bytes[HEAD..book], case, m, w);
+    count(rt, &bytes[book..end], &bytes[HEAD..book], case, m, w);
     end
 }
 
 // `J`: two reports.
-pub(crate) fn joining(bytes: &[u8]) -> usize
+pub(crate) fn joining(rt: &HostRuntime, bytes: &[u8]) -> usize
     ensures { result ≤ length bytes.now }
 {
     if bytes.len() < JOINING {
         return 0;
     }
-    show::joined(join(report(bytes, 1), report(bytes, 313)));
+    show::joined(rt, join(report(bytes, 1), report(bytes, 313)));
     JOINING
 }

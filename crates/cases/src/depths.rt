@@ -13,45 +13,45 @@ const HEAD: usize = 16;
 const WORDS: usize = 4096;
 
 // A name and a whole number.
-fn whole(name: &[u8], z: i64) {
-    text(name);
+fn whole(rt: &HostRuntime, name: &str, z: i64) {
+    text(rt, name);
     if z < 0 {
-        text(b"-");
+        text(rt, "-");
     }
-    named(b"", size(z));
+    named(rt, "", size(z));
 }
 
 // What is answered, with the hash of the work words after it.
-fn print_depths(answer: DepthReport, work: u64) {
+fn print_depths(rt: &HostRuntime, answer: DepthReport, work: u64) {
     match answer {
         DepthReport::Depths(end, lowest) => {
-            whole(b"end ", end);
-            whole(b" lowest ", lowest);
+            whole(rt, "end ", end);
+            whole(rt, " lowest ", lowest);
         }
-        DepthReport::Refused(r) => refused(r),
+        DepthReport::Refused(r) => refused(rt, r),
     }
-    named(b" work ", work);
-    text(b"\n");
+    named(rt, " work ", work);
+    text(rt, "\n");
 }
 
-fn depth_in(book: &[u8], keys: Delimiters, m: usize, work: &mut [u64])
+fn depth_in(rt: &HostRuntime, book: &[u8], keys: Delimiters, m: usize, work: &mut [u64])
     requires { length work.old ≤ 4096 }
 {
     prepare(work);
     let answer = depth(book, keys.opening, keys.closing, m, work);
-    print_depths(answer, hash(work));
+    print_depths(rt, answer, hash(work));
 }
 
 // Lends the first w words: the others are there because an array's length is fixed.
-fn depth_with(book: &[u8], keys: Delimiters, m: usize, w: usize)
+fn depth_with(rt: &HostRuntime, book: &[u8], keys: Delimiters, m: usize, w: usize)
     requires { w ≤ 4096 }
 {
     let mut work = [0; WORDS];
-    depth_in(book, keys, m, &mut work[..w]);
+    depth_in(rt, book, keys, m, &mut work[..w]);
 }
 
 // `D`: the macro, the work words, the two keys, the book's length and the book.
-pub(crate) fn depths(bytes: &[u8]) -> usize
+pub(crate) fn depths(rt: &HostRuntime, bytes: &[u8]) -> usize
     ensures { result ≤ length bytes.now }
 {
     if bytes.len() < HEAD {
@@ -71,6 +71,6 @@ pub(crate) fn depths(bytes: &[u8]) -> usize
     if end > bytes.len() {
         return 0;
     }
-    depth_with(&bytes[HEAD..end], keys, m, w);
+    depth_with(rt, &bytes[HEAD..end], keys, m, w);
     end
 }

@@ -38,31 +38,38 @@ fn fresh(buffer: &mut [u8]) {
 }
 
 // What is answered, with the hashes of the buffer and of the work words after it.
-fn print_line(answer: FoundLine, buffer: u64, work: u64) {
+fn print_line(rt: &HostRuntime, answer: FoundLine, buffer: u64, work: u64) {
     match answer {
         FoundLine::Line(number, keys) => {
-            named(b"line ", number);
-            named(b" length ", keys);
+            named(rt, "line ", number);
+            named(rt, " length ", keys);
         }
-        FoundLine::Refused(r) => refused(r),
+        FoundLine::Refused(r) => refused(rt, r),
     }
-    named(b" buffer ", buffer);
-    named(b" work ", work);
-    text(b"\n");
+    named(rt, " buffer ", buffer);
+    named(rt, " work ", work);
+    text(rt, "\n");
 }
 
-fn find_in(book: &[u8], pattern: &[u8], q: Question, work: &mut [u64], buffer: &mut [u8])
+fn find_in(
+    rt: &HostRuntime,
+    book: &[u8],
+    pattern: &[u8],
+    q: Question,
+    work: &mut [u64],
+    buffer: &mut [u8],
+)
     requires { length work.old ≤ most_words }
 {
     prepare(work);
     fresh(buffer);
     let case = q.case;
     let answer = find_line(book, pattern, case, q.m, q.k, work, buffer);
-    print_line(answer, hash_bytes(buffer), hash(work));
+    print_line(rt, answer, hash_bytes(buffer), hash(work));
 }
 
 // Lends the first words and bytes: the others are there because an array's length is fixed.
-fn find_with(book: &[u8], pattern: &[u8], q: Question)
+fn find_with(rt: &HostRuntime, book: &[u8], pattern: &[u8], q: Question)
     requires words_le_most_words { q.words ≤ most_words }
     requires bytes_bound { q.bytes ≤ 65536 }
 {
@@ -70,12 +77,19 @@ fn find_with(book: &[u8], pattern: &[u8], q: Question)
     let bytes = q.bytes;
     let mut work = [0; MOST_WORDS];
     let mut buffer = [0; BUFFER];
-    find_in(book, pattern, q, &mut work[..words], &mut buffer[..bytes]);
+    find_in(
+        rt,
+        book,
+        pattern,
+        q,
+        &mut work[..words],
+        &mut buffer[..bytes],
+    );
 }
 
 // `F`: the macro, the work words, the buffer's bytes, k in eight bytes, the pattern's length, the book's, the pattern and the book; `f` with
 // case ignored.
-pub(crate) fn finds(bytes: &[u8], case: Case) -> usize
+pub(crate) fn finds(rt: &HostRuntime, bytes: &[u8], case: Case) -> usize
     ensures { result ≤ length bytes.now }
 {
     if bytes.len() < HEAD {
@@ -99,6 +113,6 @@ pub(crate) fn finds(bytes: &[u8], case: Case) -> usize
     if end > bytes.len() {
         return 0;
     }
-    find_with(&bytes[book..end], &bytes[HEAD..book], q);
+    find_with(rt, &bytes[book..end], &bytes[HEAD..book], q);
     end
 }

@@ -11,9 +11,11 @@ mod reach_lists;
 mod show;
 mod stream;
 
-fn main() {
+use files::fill;
+
+fn main(rt: HostRuntime) {
     // A stream is at most this long.
     let mut space = [0; 458752];
-    let n = io::read_full(libc::STDIN_FILENO, &mut space);
-    stream::all(&space[..n]);
+    let n = fill(&mut rt.stdin(), &mut space).bytes;
+    stream::all(&rt, &space[..n]);
 }

@@ -9,7 +9,7 @@ use counter::{Case, count_run, test_line};
 const HEAD: usize = 7;
 
 // `L`, the one-line test; `l` with case ignored.
-pub(crate) fn lines(bytes: &[u8], case: Case) -> usize
+pub(crate) fn lines(rt: &HostRuntime, bytes: &[u8], case: Case) -> usize
     ensures { result ≤ length bytes.now }
 {
     if bytes.len() < HEAD {
@@ -20,12 +20,12 @@ pub(crate) fn lines(bytes: &[u8], case: Case) -> usize
     if end > bytes.len() {
         return 0;
     }
-    show::line(test_line(&bytes[HEAD..line], case, &bytes[line..end]));
+    show::line(rt, test_line(&bytes[HEAD..line], case, &bytes[line..end]));
     end
 }
 
 // `R`, the count over a plain run; `r` with case ignored.
-pub(crate) fn runs(bytes: &[u8], case: Case) -> usize
+pub(crate) fn runs(rt: &HostRuntime, bytes: &[u8], case: Case) -> usize
     ensures { result ≤ length bytes.now }
 {
     if bytes.len() < HEAD {
@@ -36,6 +36,6 @@ pub(crate) fn runs(bytes: &[u8], case: Case) -> usize
     if end > bytes.len() {
         return 0;
     }
-    show::run(count_run(&bytes[HEAD..run], case, &bytes[run..end]));
+    show::run(rt, count_run(&bytes[HEAD..run], case, &bytes[run..end]));
     end
 }

@@ -1,88 +1,88 @@
 // What is printed of an answer.
 use crate::numbers::{hash, hash_bytes};
 use counter::{BookCount, Checked, Joined, LineTest, Report, RunCount};
-use libc::STDOUT_FILENO;
 use refusal::{Refusal, code};
 
-pub(crate) fn text(s: &[u8]) {
-    io::write_all(STDOUT_FILENO, s);
+// A write that fails is not said: the output is compared with what it must be.
+pub(crate) fn text(rt: &HostRuntime, s: &str) {
+    let _ = rt.print(s);
 }
 
-pub(crate) fn named(name: &[u8], n: u64) {
-    text(name);
-    io::print_decimal(STDOUT_FILENO, n);
+pub(crate) fn named(rt: &HostRuntime, name: &str, n: u64) {
+    text(rt, name);
+    let _ = rt.print(n);
 }
 
-pub(crate) fn refused(r: Refusal) {
-    named(b"refused ", code(r) as u64);
+pub(crate) fn refused(rt: &HostRuntime, r: Refusal) {
+    named(rt, "refused ", code(r) as u64);
 }
 
-pub(crate) fn line(t: LineTest) {
+pub(crate) fn line(rt: &HostRuntime, t: LineTest) {
     match t {
-        LineTest::Matches => text(b"match"),
-        LineTest::NoMatch => text(b"no match"),
-        LineTest::Refused(r) => refused(r),
+        LineTest::Matches => text(rt, "match"),
+        LineTest::NoMatch => text(rt, "no match"),
+        LineTest::Refused(r) => refused(rt, r),
     }
-    text(b"\n");
+    text(rt, "\n");
 }
 
-pub(crate) fn run(c: RunCount) {
+pub(crate) fn run(rt: &HostRuntime, c: RunCount) {
     match c {
-        RunCount::Lines(n) => named(b"lines ", n),
-        RunCount::Refused(r) => refused(r),
+        RunCount::Lines(n) => named(rt, "lines ", n),
+        RunCount::Refused(r) => refused(rt, r),
     }
-    text(b"\n");
+    text(rt, "\n");
 }
 
 // What a count answers, with the hash of the work words after it.
-pub(crate) fn count(c: BookCount, work: u64) {
+pub(crate) fn count(rt: &HostRuntime, c: BookCount, work: u64) {
     match c {
         BookCount::Lines(n, steps) => {
-            named(b"lines ", n);
-            named(b" steps ", steps);
+            named(rt, "lines ", n);
+            named(rt, " steps ", steps);
         }
-        BookCount::Refused(r) => refused(r),
+        BookCount::Refused(r) => refused(rt, r),
     }
-    named(b" work ", work);
-    text(b"\n");
+    named(rt, " work ", work);
+    text(rt, "\n");
 }
 
-fn report(r: Report) {
+fn report(rt: &HostRuntime, r: Report) {
     let rows = r.rows;
-    named(b"report ", r.s);
-    named(b" ", r.flag);
-    named(b" ", r.heads);
-    named(b" ", r.closed);
-    named(b" ", r.tail);
-    named(b" ", r.trimmed);
-    named(b" ", r.edges);
-    named(b" ", hash(&rows));
+    named(rt, "report ", r.s);
+    named(rt, " ", r.flag);
+    named(rt, " ", r.heads);
+    named(rt, " ", r.closed);
+    named(rt, " ", r.tail);
+    named(rt, " ", r.trimmed);
+    named(rt, " ", r.edges);
+    named(rt, " ", hash(&rows));
 }
 
-pub(crate) fn joined(j: Joined) {
+pub(crate) fn joined(rt: &HostRuntime, j: Joined) {
     if j.refused == 0 {
-        report(j.report);
+        report(rt, j.report);
     } else {
-        named(b"refused ", j.refused as u64);
+        named(rt, "refused ", j.refused as u64);
     }
-    text(b"\n");
+    text(rt, "\n");
 }
 
-pub(crate) fn checked(c: Checked) {
+pub(crate) fn checked(rt: &HostRuntime, c: Checked) {
     match c {
-        Checked::Sound(macros) => named(b"sound ", macros as u64),
-        Checked::Refused(r) => refused(r),
+        Checked::Sound(macros) => named(rt, "sound ", macros as u64),
+        Checked::Refused(r) => refused(rt, r),
     }
-    text(b"\n");
+    text(rt, "\n");
 }
 
 // A body and the number of its refusal, 0 if there is none.
-pub(crate) fn body(part: &[u8], number: u8) {
+pub(crate) fn body(rt: &HostRuntime, part: &[u8], number: u8) {
     if number == 0 {
-        named(b"body ", part.len() as u64);
-        named(b" ", hash_bytes(part));
+        named(rt, "body ", part.len() as u64);
+        named(rt, " ", hash_bytes(part));
     } else {
-        named(b"refused ", number as u64);
+        named(rt, "refused ", number as u64);
     }
-    text(b"\n");
+    text(rt, "\n");
 }

@@ -13,37 +13,37 @@ use counter::Case;
 
 // Answers the case that begins some bytes. The result, as that of each kind's function, is how many of them the case has: none
 // if it is damaged.
-fn first(bytes: &[u8]) -> usize
+fn first(rt: &HostRuntime, bytes: &[u8]) -> usize
     ensures { result ≤ length bytes.now }
 {
     if bytes.len() == 0 {
         return 0;
     }
     match bytes[0] {
-        b'L' => lines(bytes, Case::Sensitive),
-        b'l' => lines(bytes, Case::Ignored),
-        b'R' => runs(bytes, Case::Sensitive),
-        b'r' => runs(bytes, Case::Ignored),
-        b'C' => counting(bytes, Case::Sensitive),
-        b'c' => counting(bytes, Case::Ignored),
-        b'K' => checks(bytes),
-        b'B' => bodies(bytes),
-        b'H' => reaches(bytes),
-        b'D' => depths(bytes),
-        b'F' => finds(bytes, Case::Sensitive),
-        b'f' => finds(bytes, Case::Ignored),
-        b'J' => joining(bytes),
+        b'L' => lines(rt, bytes, Case::Sensitive),
+        b'l' => lines(rt, bytes, Case::Ignored),
+        b'R' => runs(rt, bytes, Case::Sensitive),
+        b'r' => runs(rt, bytes, Case::Ignored),
+        b'C' => counting(rt, bytes, Case::Sensitive),
+        b'c' => counting(rt, bytes, Case::Ignored),
+        b'K' => checks(rt, bytes),
+        b'B' => bodies(rt, bytes),
+        b'H' => reaches(rt, bytes),
+        b'D' => depths(rt, bytes),
+        b'F' => finds(rt, bytes, Case::Sensitive),
+        b'f' => finds(rt, bytes, Case::Ignored),
+        b'J' => joining(rt, bytes),
         _ => 0,
     }
 }
 
 // Answers every case up to a damaged one, behind which it is not known where the next begins.
-pub(crate) fn all(bytes: &[u8]) {
+pub(crate) fn all(rt: &HostRuntime, bytes: &[u8]) {
     let mut at = 0;
     while at < bytes.len() {
-        let size = first(&bytes[at..]);
+        let size = first(rt, &bytes[at..]);
         if size == 0 {
-            show::text(b"bad case\n");
+            show::text(rt, "bad case\n");
             return;
         }
         at += size;

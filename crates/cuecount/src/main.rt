@@ -7,13 +7,13 @@ use files::read_standard;
 use output::{LINE, write_line};
 use replies::program_reply;
 
-fn main() {
+fn main(rt: HostRuntime) {
     let mut space = [0; READ];
-    let read = read_standard(&mut space);
+    let read = read_standard(&rt, &mut space);
     if read.failed {
         return;
     }
     let mut out = [0; LINE];
     let n = program_reply(&space, read.bytes, &mut out);
-    write_line(&out, n);
+    write_line(&rt, &out, n);
 }

@@ -62,6 +62,6 @@ pub(crate) fn line_text(found: LineAnswer, line: &[u8; BUFFER], out: &mut [u8; S
     }
 }
 
-pub fn write_shown(out: &[u8; SHOWN], n: usize) {
-    write_front(out, n);
+pub fn write_shown(rt: &HostRuntime, out: &[u8; SHOWN], n: usize) {
+    write_front(rt, out, n);
 }

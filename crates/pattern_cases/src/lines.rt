@@ -19,12 +19,12 @@ fn line_end(text: &[u8], from: usize) -> usize
 }
 
 // A case for each line.
-pub(crate) fn cases(text: &[u8]) {
+pub(crate) fn cases(rt: &HostRuntime, text: &[u8]) {
     let mut at = 0;
     let mut n = 1;
     while at < text.len() {
         let end = line_end(text, at);
-        case(n, &text[at..end]);
+        case(rt, n, &text[at..end]);
         at = end + 1;
         n += 1;
     }

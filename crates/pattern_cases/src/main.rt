@@ -4,8 +4,10 @@
 mod lines;
 mod show;
 
-fn main() {
-    let mut space = io::large_buffer();
-    let n = io::read_full(libc::STDIN_FILENO, &mut space);
-    lines::cases(&space[..n]);
+use files::fill;
+
+fn main(rt: HostRuntime) {
+    let mut space = [0; 65536];
+    let n = fill(&mut rt.stdin(), &mut space).bytes;
+    lines::cases(&rt, &space[..n]);
 }

@@ -2,21 +2,21 @@
 ghost use Rattle.std.specs.Prelude.{◌<◌, ◌≤◌};
 
 use letters::Case;
-use libc::STDOUT_FILENO;
 use pattern::{Accepting, State, Verdict, read_pattern};
 use refusal::code;
 
-fn text(s: &[u8]) {
-    io::write_all(STDOUT_FILENO, s);
+// A write that fails is not said: the output is compared with what it must be.
+fn text(rt: &HostRuntime, s: &str) {
+    let _ = rt.print(s);
 }
 
-fn number(n: u64) {
-    io::print_decimal(STDOUT_FILENO, n);
+fn number(rt: &HostRuntime, n: u64) {
+    let _ = rt.print(n);
 }
 
-fn named(name: &[u8], n: u64) {
-    text(name);
-    number(n);
+fn named(rt: &HostRuntime, name: &str, n: u64) {
+    text(rt, name);
+    number(rt, n);
 }
 
 // How many of the states are those of atoms.
@@ -29,26 +29,26 @@ fn atoms(states: usize) -> usize {
 }
 
 // Of the accepting states line-start stands lowest, and atoms from 8 on; of those that every key leads to found, line-start lowest.
-fn accepting(a: Accepting) {
-    named(b": atoms ", atoms(a.states) as u64);
-    named(b" ends ", a.ends);
-    named(b" anchored ", a.accepting / 8 * 8);
-    named(b" empty ", a.accepting % 2);
-    named(b" jump ", a.always % 2);
-    text(b"\n");
+fn accepting(rt: &HostRuntime, a: Accepting) {
+    named(rt, ": atoms ", atoms(a.states) as u64);
+    named(rt, " ends ", a.ends);
+    named(rt, " anchored ", a.accepting / 8 * 8);
+    named(rt, " empty ", a.accepting % 2);
+    named(rt, " jump ", a.always % 2);
+    text(rt, "\n");
 }
 
 // The words of its states.
-fn entered(enter: &[u64; 32], states: usize) {
-    text(b"enter");
+fn entered(rt: &HostRuntime, enter: &[u64; 32], states: usize) {
+    text(rt, "enter");
     let mut q = 0;
     while q < 32 {
         if q < states {
-            named(b" ", enter[q]);
+            named(rt, " ", enter[q]);
         }
         q += 1;
     }
-    text(b"\n");
+    text(rt, "\n");
 }
 
 // The place behind the keys from k on that have the same word.
@@ -68,36 +68,36 @@ fn run_end(keys: &[u64; 256], k: usize) -> usize
 }
 
 // The words of the keys, in runs of equal ones.
-fn keyed(keys: &[u64; 256]) {
-    text(b"keys");
+fn keyed(rt: &HostRuntime, keys: &[u64; 256]) {
+    text(rt, "keys");
     let mut k = 0;
     while k < 256 {
         let end = run_end(keys, k);
         let word = keys[k];
         if word != 0 {
-            named(b" ", k as u64);
-            named(b"-", (end - 1) as u64);
-            named(b":", word);
+            named(rt, " ", k as u64);
+            named(rt, "-", (end - 1) as u64);
+            named(rt, ":", word);
         }
         k = end;
     }
-    text(b"\n");
+    text(rt, "\n");
 }
 
-pub(crate) fn case(n: u64, s: &[u8]) {
+pub(crate) fn case(rt: &HostRuntime, n: u64, s: &[u8]) {
     let mut keys = [0; 256];
     let mut enter = [0; 32];
-    number(n);
+    number(rt, n);
     match read_pattern(s, Case::Sensitive, &mut keys, &mut enter) {
         Verdict::Accepted(a) => {
             let states = a.states;
-            accepting(a);
-            entered(&enter, states);
-            keyed(&keys);
+            accepting(rt, a);
+            entered(rt, &enter, states);
+            keyed(rt, &keys);
         }
         Verdict::Refused(r) => {
-            named(b": refused ", code(r) as u64);
-            text(b"\n");
+            named(rt, ": refused ", code(r) as u64);
+            text(rt, "\n");
         }
     }
 }

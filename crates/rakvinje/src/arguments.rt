@@ -6,35 +6,48 @@ use crate::say;
 use command::{BOOK_READ, PATTERN_READ};
 use counter::Case;
 use decimals::{Wide, wide_in};
-use files::{FileRead, read_path};
-use libc::ENAMETOOLONG;
+use files::{FileRead, read_path, say_failure};
+use std::env::FillError;
+use std::io::Error;
+use std::rt::Env;
 use survey::{KeyText, key_in};
 
-// Whether two texts are equal.
-fn same(a: &[u8], b: &[u8]) -> bool {
-    if a.len() != b.len() {
-        return false;
-    }
-    let mut i = 0;
-    while i < a.len() {
-        if a[i] != b[i] {
-            return false;
+// Room for a word and for a path: the system opens none of 4,096 bytes or more.
+const WORD: usize = 4096;
+
+// ENAMETOOLONG, the system's error for a path that is too long.
+const TOO_LONG: i32 = 36;
+
+// One argument more than any verb takes: as many stand for all that are more.
+const MOST: usize = 9;
+
+// Whether there is an argument of this number.
+fn is_given(rt: &HostRuntime, i: usize) -> bool {
+    !matches!(rt.arg(i, &mut [0u8; 1]), Err(FillError::NotPresent))
+}
+
+// How many arguments there are, the program's name among them.
+pub(crate) fn arg_count(rt: &HostRuntime) -> usize {
+    for i in 0..MOST {
+        if !is_given(rt, i) {
+            return i;
         }
-        i += 1;
     }
-    true
+    MOST
 }
 
 // Whether an argument is this word.
-fn is_word(i: usize, word: &[u8]) -> bool {
-    let mut space = io::buffer();
-    let n = os::arg(i, &mut space);
-    same(&space[..n], word)
+fn is_word(rt: &HostRuntime, i: usize, word: &[u8]) -> bool {
+    let mut space = [0; WORD];
+    match rt.arg(i, &mut space) {
+        Ok(n) => &space[..n] == word,
+        Err(_) => false,
+    }
 }
 
 // Whether the first argument is this verb.
-pub(crate) fn is_verb(name: &[u8]) -> bool {
-    is_word(1, name)
+pub(crate) fn is_verb(rt: &HostRuntime, name: &[u8]) -> bool {
+    is_word(rt, 1, name)
 }
 
 // What an argument says of case.
@@ -45,47 +58,47 @@ pub(crate) enum CaseWord {
 }
 
 // Whether case is ignored, by an argument.
-pub(crate) fn case_at(i: usize) -> CaseWord {
-    if is_word(i, b"sensitive") {
+pub(crate) fn case_at(rt: &HostRuntime, i: usize) -> CaseWord {
+    if is_word(rt, i, b"sensitive") {
         return CaseWord::Said(Case::Sensitive);
     }
-    if is_word(i, b"ignored") {
+    if is_word(rt, i, b"ignored") {
         return CaseWord::Said(Case::Ignored);
     }
     CaseWord::Unknown
 }
 
 // The key that an argument names. A key's name is shorter than the buffer; what does not fit there names none.
-pub(crate) fn key_at(i: usize) -> KeyText {
-    let mut space = io::buffer();
-    let n = os::arg(i, &mut space);
-    if os::errno() != 0 {
-        return KeyText::NoKey;
+pub(crate) fn key_at(rt: &HostRuntime, i: usize) -> KeyText {
+    let mut space = [0; WORD];
+    match rt.arg(i, &mut space) {
+        Ok(n) => key_in(&space[..n]),
+        Err(_) => KeyText::NoKey,
     }
-    key_in(&space[..n])
 }
 
 // Puts the pattern that an argument is into the buffer, and answers how many bytes: of a longer one, the buffer's first.
-pub(crate) fn pattern_at(i: usize, space: &mut [u8; PATTERN_READ]) -> usize {
-    let n = os::arg(i, space);
-    if os::errno() == ENAMETOOLONG {
-        return PATTERN_READ;
+pub(crate) fn pattern_at(rt: &HostRuntime, i: usize, space: &mut [u8; PATTERN_READ]) -> usize {
+    match rt.arg(i, space) {
+        Ok(n) => n,
+        Err(FillError::TooLong) => PATTERN_READ,
+        Err(FillError::NotPresent) => 0,
     }
-    n
 }
 
 // Reads the book that an argument names.
-pub(crate) fn book_at(i: usize, space: &mut [u8; BOOK_READ]) -> FileRead {
-    let mut path = io::buffer();
-    let n = os::arg(i, &mut path);
-    if os::errno() != 0 {
-        os::fail(b"the book's path");
-        return FileRead {
-            failed: true,
-            bytes: 0,
-        };
+pub(crate) fn book_at(rt: &HostRuntime, i: usize, space: &mut [u8; BOOK_READ]) -> FileRead {
+    let mut path = [0; WORD];
+    match rt.arg(i, &mut path) {
+        Ok(n) => read_path(rt, &path[..n], space),
+        Err(_) => {
+            say_failure(rt, b"the book's path", Error::from_raw_os_error(TOO_LONG));
+            FileRead {
+                failed: true,
+                bytes: 0,
+            }
+        }
     }
-    read_path(&path[..n], space)
 }
 
 // Room for every argument: the system passes none of 131,072 bytes or more.
@@ -103,23 +116,29 @@ pub(crate) struct NumberText {
 }
 
 // Puts the macro number that an argument is into the buffer.
-pub(crate) fn number_at(i: usize, space: &mut [u8]) -> NumberText
+pub(crate) fn number_at(rt: &HostRuntime, i: usize, space: &mut [u8]) -> NumberText
     ensures { IsPrefixLen result.digits space.new }
 {
-    let n = os::arg(i, space);
-    let failed = os::errno() != 0;
-    if failed {
-        say::text(b"the macro number is too long\n");
+    match rt.arg(i, space) {
+        Ok(digits) => NumberText {
+            failed: false,
+            digits,
+        },
+        Err(_) => {
+            say::text(rt, "the macro number is too long\n");
+            NumberText {
+                failed: true,
+                digits: 0,
+            }
+        }
     }
-    NumberText { failed, digits: n }
 }
 
 // The number that an argument is; what does not fit the space is none.
-pub(crate) fn wide_at(i: usize) -> Wide {
+pub(crate) fn wide_at(rt: &HostRuntime, i: usize) -> Wide {
     let mut space = number_space();
-    let n = os::arg(i, &mut space);
-    if os::errno() != 0 {
-        return Wide::Unfit;
+    match rt.arg(i, &mut space) {
+        Ok(n) => wide_in(&space[..n]),
+        Err(_) => Wide::Unfit,
     }
-    wide_in(&space[..n])
 }

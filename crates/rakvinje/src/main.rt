@@ -12,29 +12,29 @@ mod reaching;
 mod say;
 mod showing;
 
-use arguments::is_verb;
+use arguments::{arg_count, is_verb};
 
-fn main() {
-    let n = os::arg_count();
-    if is_verb(b"count") & ((n == 5) | (n == 6)) {
-        count::count();
+fn main(rt: HostRuntime) {
+    let n = arg_count(&rt);
+    if is_verb(&rt, b"count") & ((n == 5) | (n == 6)) {
+        count::count(&rt);
         return;
     }
-    if is_verb(b"check") & (n == 3) {
-        check::check_book();
+    if is_verb(&rt, b"check") & (n == 3) {
+        check::check_book(&rt);
         return;
     }
-    if is_verb(b"depth") & ((n == 5) | (n == 6)) {
-        depths::depth();
+    if is_verb(&rt, b"depth") & ((n == 5) | (n == 6)) {
+        depths::depth(&rt);
         return;
     }
-    if is_verb(b"lines") & ((n == 7) | (n == 8)) {
-        showing::lines();
+    if is_verb(&rt, b"lines") & ((n == 7) | (n == 8)) {
+        showing::lines(&rt);
         return;
     }
-    if is_verb(b"reach") & ((n == 3) | (n == 4)) {
-        reaching::reach();
+    if is_verb(&rt, b"reach") & ((n == 3) | (n == 4)) {
+        reaching::reach(&rt);
         return;
     }
-    say::usage();
+    say::usage(&rt);
 }

@@ -1,5 +1,7 @@
 // `lines CASE FIRST COUNT PATTERN BOOK [MACRO]`.
-use crate::arguments::{CaseWord, book_at, case_at, number_at, number_space, pattern_at, wide_at};
+use crate::arguments::{
+    CaseWord, arg_count, book_at, case_at, number_at, number_space, pattern_at, wide_at,
+};
 use crate::meaning::explain;
 use crate::say;
 use command::{BOOK_READ, PATTERN_READ};
@@ -22,21 +24,27 @@ struct Range {
 }
 
 // Prints an answer, and says what it means; answers whether there may be a next line. Behind the first line the end of them is no refusal.
-fn told(found: LineAnswer, out: &[u8; SHOWN], length: usize, first: bool) -> bool {
+fn told(
+    rt: &HostRuntime,
+    found: LineAnswer,
+    out: &[u8; SHOWN],
+    length: usize,
+    first: bool,
+) -> bool {
     match found {
         LineAnswer::Shown(_, _) => {
-            write_shown(out, length);
+            write_shown(rt, out, length);
             true
         }
         LineAnswer::Long(_, _) => {
-            write_shown(out, length);
-            say::long_line();
+            write_shown(rt, out, length);
+            say::long_line(rt);
             true
         }
         LineAnswer::Refused(r) => {
             if first {
-                write_shown(out, length);
-                explain(r);
+                write_shown(rt, out, length);
+                explain(rt, r);
             }
             false
         }
@@ -45,6 +53,7 @@ fn told(found: LineAnswer, out: &[u8; SHOWN], length: usize, first: bool) -> boo
 
 // One line of the last macro.
 fn last_line(
+    rt: &HostRuntime,
     book: &[u8; BOOK_READ],
     n: usize,
     pattern: &[u8; PATTERN_READ],
@@ -55,11 +64,12 @@ fn last_line(
     let mut out = [0; SHOWN];
     let reply = line_last_reply(book, n, pattern, asked, &mut line, &mut out);
     let found = reply.found;
-    told(found, &out, reply.length, first)
+    told(rt, found, &out, reply.length, first)
 }
 
 // One line of the macro that the seventh argument names.
 fn named_line(
+    rt: &HostRuntime,
     book: &[u8; BOOK_READ],
     n: usize,
     pattern: &[u8; PATTERN_READ],
@@ -67,7 +77,7 @@ fn named_line(
     first: bool,
 ) -> bool {
     let mut space = number_space();
-    let number = number_at(7, &mut space);
+    let number = number_at(rt, 7, &mut space);
     let digits = number.digits;
     if number.failed {
         return false;
@@ -85,9 +95,9 @@ fn named_line(
     );
     let found = reply.found;
     match found {
-        NamedLineAnswer::Answer(answer) => told(answer, &out, reply.length, first),
+        NamedLineAnswer::Answer(answer) => told(rt, answer, &out, reply.length, first),
         NamedLineAnswer::NoNumber => {
-            say::no_number();
+            say::no_number(rt);
             false
         }
     }
@@ -95,20 +105,22 @@ fn named_line(
 
 // One line of the macro that is asked for.
 fn one_line(
+    rt: &HostRuntime,
     book: &[u8; BOOK_READ],
     n: usize,
     pattern: &[u8; PATTERN_READ],
     asked: LineInput,
     first: bool,
 ) -> bool {
-    if os::arg_count() == 8 {
-        return named_line(book, n, pattern, asked, first);
+    if arg_count(rt) == 8 {
+        return named_line(rt, book, n, pattern, asked, first);
     }
-    last_line(book, n, pattern, asked, first)
+    last_line(rt, book, n, pattern, asked, first)
 }
 
 // The lines, one after another, up to the last one.
 fn lines_in(
+    rt: &HostRuntime,
     book: &[u8; BOOK_READ],
     n: usize,
     pattern: &[u8; PATTERN_READ],
@@ -126,42 +138,42 @@ fn lines_in(
             case,
             k: lines.first + i,
         };
-        if !one_line(book, n, pattern, asked, i == 0) {
+        if !one_line(rt, book, n, pattern, asked, i == 0) {
             return;
         }
         i += 1;
     }
 }
 
-fn lines_by(lines: Range) {
+fn lines_by(rt: &HostRuntime, lines: Range) {
     let mut pattern = [0; PATTERN_READ];
-    let bytes = pattern_at(5, &mut pattern);
+    let bytes = pattern_at(rt, 5, &mut pattern);
     let mut book = [0; BOOK_READ];
-    let read = book_at(6, &mut book);
+    let read = book_at(rt, 6, &mut book);
     if read.failed {
         return;
     }
-    lines_in(&book, read.bytes, &pattern, bytes, lines);
+    lines_in(rt, &book, read.bytes, &pattern, bytes, lines);
 }
 
 // So many lines from this one on.
-fn lines_from(case: Case, first: u64) {
-    match wide_at(4) {
-        Wide::Value(count) => lines_by(Range { case, first, count }),
-        Wide::Unfit => say::usage(),
+fn lines_from(rt: &HostRuntime, case: Case, first: u64) {
+    match wide_at(rt, 4) {
+        Wide::Value(count) => lines_by(rt, Range { case, first, count }),
+        Wide::Unfit => say::usage(rt),
     }
 }
 
-fn lines_with(case: Case) {
-    match wide_at(3) {
-        Wide::Value(first) => lines_from(case, first),
-        Wide::Unfit => say::no_place(),
+fn lines_with(rt: &HostRuntime, case: Case) {
+    match wide_at(rt, 3) {
+        Wide::Value(first) => lines_from(rt, case, first),
+        Wide::Unfit => say::no_place(rt),
     }
 }
 
-pub(crate) fn lines() {
-    match case_at(2) {
-        CaseWord::Said(case) => lines_with(case),
-        CaseWord::Unknown => say::usage(),
+pub(crate) fn lines(rt: &HostRuntime) {
+    match case_at(rt, 2) {
+        CaseWord::Said(case) => lines_with(rt, case),
+        CaseWord::Unknown => say::usage(rt),
     }
 }

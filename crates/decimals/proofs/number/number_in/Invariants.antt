@@ -1,0 +1,11 @@
+-- `number_in`: the digits before `at` write n.
+use Prim.Native.Nat.{◌-◌}
+use lib.ListN.{length}
+use Rattle.decimals.proofs.NumberLaws.{Written}
+use Rattle.decimals.proofs.number.number_in.Given as goal
+
+abbrev pub invariant-loop-at : goal.invariant-loop-at
+invariant-loop-at l = Written l.text l.at l.n
+
+abbrev pub decreases-loop-at : goal.decreases-loop-at
+decreases-loop-at l = length l.text - l.at

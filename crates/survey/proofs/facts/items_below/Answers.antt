@@ -1,0 +1,17 @@
+-- `facts::items_below`: the items of the first i macros are counted.
+use Prim.Native.Nat.{◌-◌}
+use borrow.Author.Rules.{rules}
+use Rattle.survey.proofs.FactLaws.{summed-none, summed-more, summed-fits, summed-all}
+use Rattle.survey.proofs.facts.items_below.Goals as goal
+
+pub loop-i-init : goal.loop-i-init
+loop-i-init c = search (summed-none)
+
+pub overflow_add-sum : goal.overflow_add-sum
+overflow_add-sum c = search (summed-fits)
+
+pub loop-i-preserved : goal.loop-i-preserved
+loop-i-preserved c = search (summed-more)
+
+pub returns : goal.returns
+returns c = summed-all _ _ c.loop-i.invariant (search rules)
