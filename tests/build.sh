@@ -212,6 +212,11 @@ builds 0
 expect 0 'lines 13 steps 1' "$building" env PATH="$plain_path" RATTLE_HOME="$FAKE" "${call[@]}"
 builds 1
 
+# No folder to build it in.
+number_is 14
+expect 2 '' '*no folder can be made to build it in' env TMPDIR="$room/nowhere" "${call[@]}"
+builds 0
+
 # A program that was built in place is taken, if its sources are still the same.
 number_is 14
 key=$(sources_key "$home")

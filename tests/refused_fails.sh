@@ -105,7 +105,8 @@ says 1 "$(elsewhere letters/one_way proofs/Laws 'other_case +other_case')" '0 pa
 
 # What else a check can say of the function, without a fact of it being refused.
 for words in '`returns`: record `goal.After-s`' '`returns`: give the call less to do: list the lemma that is meant' '`close` was not admitted' \
-    '`returns`: expected type `goal.returns-then-b`, but this has type `goal.returns`' 'no clause covers 2 cases'; do
+    '`returns`: expected type `goal.returns-then-b`, but this has type `goal.returns`' 'no clause covers 2 cases' \
+    '`returns`: expected type `Rattle.letters.proofs.other_case.Goals.returns`, but this has type `ℕ`'; do
     refuses letters/one_way "./proofs/other_case/Answers.antt:13:14: error: $words"
     says 1 "$(no_fact letters/one_way "./proofs/other_case/Answers.antt:13:14: error: $words")" '0 passed, 1 failed'
 done
