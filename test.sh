@@ -140,6 +140,7 @@ works rustc --version || { echo "FAILED: rustc, which compiles the second progra
 
 single "all is there that docs/ASSURANCE.md names" bash tests/floor.sh
 single "no crate opens a definition of another" opened_nowhere
+beside opened bash tests/opened_fails.sh
 beside floor bash tests/floor_fails.sh
 beside refused bash tests/refused_fails.sh
 beside build bash tests/build.sh
@@ -149,6 +150,7 @@ beside examples rustc -O --edition 2021 -o "$room/write" docs/src/examples.rs
 key=$(sources_key "$home")
 counted 1 rt_ci
 counted "$(stated 'wrong programs')" bash tests/refused.sh "$room/rt"
+counted_beside 1 opened
 counted_beside "$(stated 'faults that `tests/floor.sh` must see')" floor
 counted_beside "$(stated 'tries of `tests/refused.sh`')" refused
 counted_beside "$(stated 'runs of its building')" build
