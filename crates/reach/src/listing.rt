@@ -57,6 +57,7 @@ fn enter(
 
 // What the items of macro i are, without how often each stands there: the walk keeps them for each macro that it is in, so they are to
 // be few bytes.
+#[inline(never)]
 fn codes_of(book: &[u8], offsets: &[usize; 1025], i: usize) -> Codes
     ensures { result ≡ codes_from book.now offsets.now i }
 {
