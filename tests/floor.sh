@@ -79,8 +79,10 @@ while read -r crate name contract; do
         for definition in "${words[@]}"; do
             [[ $contract == *"$definition"* ]] || fault "the contract of $name of $crate does not cite $definition"
         done
-        clauses=$(grep -oE '(^| )ensures ([a-z0-9_]+ )?[{]' <<<"$contract" | wc -l)
-        [ "${#words[@]}" -ge "$clauses" ] || fault "of the $clauses clauses of the contract of $name of $crate not each has a definition"
+        clauses=" $contract"
+        clauses=${clauses// ensures /$'\x01'}
+        clauses=${clauses//[!$'\x01']/}
+        [ "${#words[@]}" -ge "${#clauses}" ] || fault "of the ${#clauses} clauses of the contract of $name of $crate not each has a definition"
     elif [ -n "$contract" ] || ! [[ $row =~ $none ]]; then
         fault "$name of $crate is not in the table of contracts"
     fi
