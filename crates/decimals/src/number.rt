@@ -20,9 +20,9 @@ pub(crate) fn is_digit(c: u8) -> bool
 
 // The number so far with one more digit. Larger ones stay at BEYOND, so that a text of any length has a number.
 fn with_digit(n: usize, c: u8) -> usize
-    requires n_bound { n ≤ 1024 }
-    requires le_c { 48 ≤ c }
-    requires c_bound { c ≤ 57 }
+    requires small { n ≤ 1024 }
+    requires low { 48 ≤ c }
+    requires high { c ≤ 57 }
     ensures { result ≡ min (10 * n + (c - 48)) 1024 }
 {
     let more = 10 * n + (c - b'0') as usize;

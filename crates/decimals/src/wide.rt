@@ -16,8 +16,8 @@ const MOST: u64 = 0xffff_ffff_ffff_ffff;
 
 // The number so far with one more digit, if it fits.
 fn wide_digit(n: u64, c: u8) -> Wide
-    requires le_c { 48 ≤ c }
-    requires c_bound { c ≤ 57 }
+    requires low { 48 ≤ c }
+    requires high { c ≤ 57 }
     ensures { result ≡ wide_step n (c - 48) }
 {
     let digit = (c - b'0') as u64;

@@ -75,8 +75,8 @@ fn fill(book: &[u8], offsets: &[usize; 1025], m: usize, keys: Delimiters, work: 
 
 // a - b as a whole number.
 fn less(a: u64, b: u64) -> i64
-    requires a_le_longest { a ≤ longest }
-    requires b_le_longest { b ≤ longest }
+    requires first { a ≤ longest }
+    requires second { b ≤ longest }
     ensures { result ≡ sub_ℕ a b }
 {
     if a < b {

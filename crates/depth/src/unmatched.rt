@@ -52,8 +52,8 @@ pub(crate) fn of_key(keys: Delimiters, k: u8) -> Unmatched
 
 // One run behind another: openings of the first meet closings of the second.
 pub(crate) fn joined(a: Unmatched, b: Unmatched) -> Unmatched
-    requires sized { Sized a }
-    requires sized_2 { Sized b }
+    requires first { Sized a }
+    requires second { Sized b }
     ensures { result ≡ followed a b }
 {
     if LONGEST < a.length {
@@ -80,7 +80,7 @@ pub(crate) fn joined(a: Unmatched, b: Unmatched) -> Unmatched
 // A run n times. With each pass the keys that stay without a partner become more by what one pass has of the one sort over the other.
 pub(crate) fn repeated(u: Unmatched, n: u16) -> Unmatched
     requires sized { Sized u }
-    requires le_n { 1 ≤ n }
+    requires some { 1 ≤ n }
     ensures { result ≡ times_unmatched n u }
 {
     let passes = n as u64;

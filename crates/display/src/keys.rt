@@ -39,8 +39,8 @@ fn put_key(out: &mut [u8], at: usize, key: u8) -> usize
 
 // The first n keys, from a place on; answers the place behind them.
 pub(crate) fn put_keys(out: &mut [u8], at: usize, keys: &[u8], n: usize) -> usize
-    requires n_in_bounds { at + 4 * n ≤ length out.old }
-    requires n_in_bounds_2 { n ≤ length keys.now }
+    requires room { at + 4 * n ≤ length out.old }
+    requires there { n ≤ length keys.now }
     ensures buffer { out.new ≡ put_at out.old at (shown_keys (take n keys.now)) }
     ensures place { result ≡ place_after out.old at (shown_keys (take n keys.now)) }
 {

@@ -5,9 +5,8 @@ use native.Mathlib.Nat.{mul-le-mul_left, div-lt_iff_lt-mul, le-div_iff_mul-le}
 use mir.Val.{Fits}
 use mir.Syntax.{w64}
 use mathlib.Core.Path.{◌≡◌, refl, sym, ap, ◌∙◌}
-use mathlib.Core.Bool.{Bool, true, false, cond}
 use lib.Dec.{leb, eqb}
-use borrow.Author.Tests.{leb-true, leb-false, le-leb, ne_eqb}
+use borrow.Author.Tests.{leb-true, le-leb, ne_eqb}
 use Rattle.runs.proofs.Tests.{by-test, either}
 use Rattle.extents.specs.Capped.{most, capped}
 

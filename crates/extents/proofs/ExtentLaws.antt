@@ -1,15 +1,15 @@
 -- Laws of extents: of the empty run, of one key, of runs one behind the other, of a repeated run.
-use Prim.Native.Nat.{ℕ, zero, suc, ◌+◌, ◌*◌, ◌<◌, ◌≤◌}
+use Prim.Native.Nat.{ℕ, zero, suc, ◌+◌, ◌*◌, ◌≤◌}
 use native.Mathlib.Omega.{arith}
 use mathlib.Core.Path.{◌≡◌, refl, sym, ap, ◌∙◌}
 use mathlib.Core.Bool.{Bool, true, false, cond}
 use mathlib.Core.List.{List, [], ◌∷◌, ◌++◌, append-nil}
 use lib.Dec.{eqb}
 use lib.ListN.{length, length-append}
-use borrow.Author.Tests.{eqb-true, eqb-false, eq-eqb, ne_eqb}
+use borrow.Author.Tests.{eqb-true, eqb-false, ne_eqb}
 use Rattle.runs.specs.Keys.{line_end}
 use Rattle.runs.specs.Kept.{times}
-use Rattle.runs.proofs.Tests.{by-test, clash, eqb_swap}
+use Rattle.runs.proofs.Tests.{by-test, eqb_swap}
 use Rattle.runs.proofs.KeptLaws.{times_none, times-suc, times-length}
 use Rattle.lines.specs.Parts.{first_part, later_parts, last_part}
 use Rattle.lines.proofs.PartLaws.{first-whole, first-into, first-kept, later-into, later-kept, later-none, later-cons, first-cons, last_one, last_more, last-open, last-closed}

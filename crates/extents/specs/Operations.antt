@@ -1,6 +1,6 @@
 -- The operations of the code, on any numbers. That they give the extent of one key, of runs one behind the other and of a repeated run are the
 -- laws `key-extent`, `join-extents` and `repeat-extents`.
-use Rattle.std.specs.Prelude.{ℕ, ◌+◌, ◌*◌, Bool, cond, eqb}
+use Rattle.std.specs.Prelude.{ℕ, ◌+◌, ◌*◌, cond, eqb}
 use Rattle.runs.specs.Keys.{line_end}
 use Rattle.extents.specs.declared.extent.Extent.{Extent}
 use Rattle.extents.specs.Capped.{capped}

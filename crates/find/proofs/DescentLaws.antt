@@ -1,5 +1,5 @@
 -- Laws of the walk down the calls.
-use Prim.Native.Nat.{ℕ, zero, suc, ◌+◌, ◌-◌, ◌*◌, ◌<◌, ◌≤◌}
+use Prim.Native.Nat.{ℕ, suc, ◌+◌, ◌-◌, ◌*◌, ◌<◌, ◌≤◌}
 use native.Mathlib.Omega.{arith}
 use native.Mathlib.Nat.{mul-le-mul}
 use mir.Val.{Fits}
@@ -7,7 +7,7 @@ use mir.Syntax.{w64}
 use mathlib.Core.Path.{◌≡◌, refl, sym, ap, subst, ◌∙◌}
 use mathlib.Core.Bool.{Bool, true, false, cond, ◌&&◌}
 use mathlib.Core.List.{List, [], ◌∷◌, ◌++◌, append_assoc, append-nil, Memᴰ}
-use lib.Dec.{leb, ltb, eqb}
+use lib.Dec.{ltb, eqb}
 use lib.ListN.{length, get_or, take, drop, take-append-drop}
 use lib.Seq.{take_all}
 use borrow.Author.Tests.{eqb-true, ltb-true, ltb-false, lt-ltb, le-ltb}
@@ -19,7 +19,7 @@ use Rattle.runs.proofs.KeptLaws.{times-one, times-run, times-add}
 use Rattle.book.specs.declared.item.Item.{Item}
 use Rattle.book.specs.declared.item.Item.TheVariants.{Key, Call}
 use Rattle.book.specs.declared.macro_items.Items.{Items}
-use Rattle.book.specs.Format.{Repeated, repeated, Macro, well_formed}
+use Rattle.book.specs.Format.{repeated, Macro, well_formed}
 use Rattle.book.specs.Reading.{item_of, macros_in}
 use Rattle.book.specs.MacroItems.{item_at, items_from, decoded}
 use Rattle.book.proofs.LayoutLaws.{well-in}
@@ -27,13 +27,11 @@ use Rattle.book.proofs.MacroItems.{count-few, count_fits, times-fit, items-are, 
 use Rattle.book.specs.Expansion.{keys_of, expand, unrolled, expansion}
 use Rattle.book.proofs.Expansion.{well-key, well-call, expansion-law, expansion-run, expand-none, expand-more, expand-both, unrolled-none}
 use Rattle.pattern.specs.Meaning.{Query}
-use Rattle.pattern.specs.Moves.{states}
-use Rattle.pattern.specs.Automata.{Automaton}
 use Rattle.pattern.specs.declared.automaton.Accepting.{Accepting}
 use Rattle.pattern.proofs.Readings.{states-of}
 use Rattle.reports.specs.declared.span_count.SpanCount.{SpanCount}
 use Rattle.reports.specs.declared.report.Report.{Report}
-use Rattle.reports.specs.Reports.{span_count, empty_count, extended_count, in_report, report}
+use Rattle.reports.specs.Reports.{span_count, empty_count, extended_count, in_report}
 use Rattle.reports.specs.Words.{behind_rows, loaded_at}
 use Rattle.reports.proofs.ReportLaws.{empty-count, extend-count, in-report}
 use Rattle.counter.proofs.FillLaws.{reports-at}
@@ -47,7 +45,7 @@ use Rattle.find.specs.declared.descent.Past.{Past}
 use Rattle.find.specs.declared.descent.Stop.{Stop}
 use Rattle.find.specs.declared.passes.Skipped.{Skipped}
 use Rattle.find.specs.Answer.{longest, told}
-use Rattle.find.specs.Promises.{item_extent, closed_by, Skips, SkippedTo, Ready, SearchFits, PlaceAt, Starts, Known, PassOf, PassedTo, PastItem, AllKnown, StoppedAt, StopIn, ItemsFit, SearchIn, EndsAt, Descends}
+use Rattle.find.specs.Promises.{item_extent, closed_by, Skips, Ready, SearchFits, PlaceAt, Starts, Known, PassOf, PassedTo, PastItem, AllKnown, StopIn, ItemsFit, SearchIn, EndsAt, Descends}
 use Rattle.find.proofs.FillLaws.{item-extent, rest_of, rest-is}
 use Rattle.find.proofs.LineLaws.{closed-start, closed-key}
 

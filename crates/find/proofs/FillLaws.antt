@@ -19,7 +19,7 @@ use Rattle.book.specs.Reading.{item_of, macros_in}
 use Rattle.book.specs.MacroItems.{items_from, decoded}
 use Rattle.book.proofs.MacroItems.{count-few, items-all, items_more, item-among}
 use Rattle.book.proofs.LayoutLaws.{well-in, macros-few}
-use Rattle.book.proofs.Expansion.{well-key, well-call, unrolled-none, expand-none, expand-more, expansion-law}
+use Rattle.book.proofs.Expansion.{well-call, unrolled-none, expand-none, expand-more, expansion-law}
 use Rattle.extents.specs.declared.extent.Extent.{Extent}
 use Rattle.extents.specs.Extents.{extent_of}
 use Rattle.extents.specs.Operations.{no_extent, key_extent, joined_extents, repeated_extent}

@@ -1,24 +1,22 @@
 -- Laws of what is answered for the k-th matching line.
-use Prim.Native.Nat.{ℕ, zero, suc, ◌+◌, ◌-◌, ◌*◌, ◌<◌, ◌≤◌}
+use Prim.Native.Nat.{ℕ, suc, ◌+◌, ◌*◌, ◌<◌, ◌≤◌}
 use native.Mathlib.Omega.{arith}
 use native.Mathlib.Numerals.{add-one}
-use native.Mathlib.Nat.{mul-le-mul_left}
 use mir.Val.{Fits}
 use mir.Syntax.{w64}
 use mathlib.Core.Path.{◌≡◌, refl, sym, ap, ◌∙◌}
-use mathlib.Core.Logic.{⊎_elim}
-use mathlib.Core.Bool.{Bool, true, false, not, cond, ◌&&◌, and-true}
-use mathlib.Core.List.{List, [], ◌++◌}
-use lib.Dec.{eqb, leb, ltb}
-use lib.ListN.{length, take, drop, length-append, length-take, length-drop}
+use mathlib.Core.Bool.{Bool, true, false, not, ◌&&◌, and-true}
+use mathlib.Core.List.{List, ◌++◌}
+use lib.Dec.{leb}
+use lib.ListN.{length, take, drop, length-append, length-take}
 use lib.Seq.{take_at, drop_at}
-use borrow.Author.Tests.{leb-true, leb-false, le-leb, lt-leb, ltb-true, ltb-false, lt-ltb, le-ltb, eq-eqb, ne_eqb, not-true, not-false}
+use borrow.Author.Tests.{leb-true, leb-false, le-leb, lt-ltb, le-ltb, eq-eqb, ne_eqb, not-true, not-false}
 use Rattle.refusal.specs.declared.Refusal.{Refusal}
 use Rattle.refusal.specs.declared.Refusal.TheVariants.{CountOverflow, NoSuchLine, LineNumberOverflow}
 use Rattle.refusal.specs.Number.{number}
 use Rattle.refusal.proofs.Number.{number-positive}
 use Rattle.runs.specs.Kept.{first_words, words_over}
-use Rattle.runs.proofs.Tests.{by-test, either, clash, and_both, and_parts}
+use Rattle.runs.proofs.Tests.{either, clash, and_parts}
 use Rattle.runs.proofs.KeptLaws.{words-length}
 use Rattle.book.specs.Format.{Macro}
 use Rattle.book.specs.Expansion.{expansion}
@@ -50,7 +48,7 @@ use Rattle.extents.proofs.CappedLaws.{capped_small, capped-large}
 use Rattle.find.specs.declared.descent.Search.{Search}
 use Rattle.find.specs.declared.descent.Located.{Located}
 use Rattle.find.specs.declared.finding.Placed.{Placed}
-use Rattle.find.specs.Lines.{Sought, missing, found, kth_line}
+use Rattle.find.specs.Lines.{missing, found, kth_line}
 use Rattle.find.specs.Answer.{base_of, extent_words_of, written, told}
 use Rattle.find.specs.Promises.{Extended, BehindFits, Ready, SearchIn, Locates, has_line, numbered_at, placed_for, placing, MacroFits, PlacesLine}
 use Rattle.find.proofs.LineLaws.{kth-is, kth-missing, kth-zero}

@@ -1,9 +1,9 @@
 -- Laws of the keys of a line: they stand behind the line ends before it.
-use Prim.Native.Nat.{ℕ, zero, suc, ◌+◌, ◌-◌, ◌^◌, ◌<◌, ◌≤◌}
+use Prim.Native.Nat.{ℕ, suc, ◌+◌, ◌-◌, ◌^◌, ◌<◌, ◌≤◌}
 use native.Mathlib.Omega.{arith}
 use mathlib.Core.Path.{◌≡◌, refl, sym, ap, ◌∙◌}
 use mathlib.Core.Logic.{◌⊎◌, inl, inr, ⊎_elim}
-use mathlib.Core.Bool.{Bool, true, false, cond, ◌||◌}
+use mathlib.Core.Bool.{Bool, true, false}
 use mathlib.Core.List.{List, [], ◌∷◌, ◌++◌}
 use lib.Dec.{eqb, ltb}
 use lib.ListN.{length, take, drop, length-append}
@@ -12,8 +12,7 @@ use borrow.Author.Tests.{eqb-true, ne_eqb, lt-ltb, le-ltb}
 use Rattle.refusal.specs.declared.Refusal.TheVariants.{BufferTooShort}
 use Rattle.runs.specs.Keys.{member, line_end}
 use Rattle.runs.specs.Kept.{over}
-use Rattle.runs.proofs.Tests.{by-test, either, clash, neither}
-use Rattle.book.specs.Expansion.{expansion}
+use Rattle.runs.proofs.Tests.{either, clash, neither}
 use Rattle.book.specs.Reading.{macros_in}
 use Rattle.lines.specs.Lines.{trimmed, lines}
 use Rattle.lines.proofs.LineLaws.{lines-closed, lines-open, lines_none}
@@ -23,10 +22,8 @@ use Rattle.extents.specs.Extents.{end_count}
 use Rattle.extents.proofs.ExtentLaws.{ends-none, ends-cons}
 use Rattle.find.specs.declared.finding.FoundLine.{FoundLine}
 use Rattle.find.specs.declared.finding.LinePlace.{LinePlace}
-use Rattle.find.specs.declared.writing.Pen.{Pen}
-use Rattle.find.specs.Lines.{found}
-use Rattle.find.specs.Answer.{longest, told, stopped, finished, find_of, outcome}
-use Rattle.find.specs.Promises.{Extended, MacroAt, behind_ends, writes, buffer_after, WriteFits, LineOf, LineFits, WritesLine}
+use Rattle.find.specs.Answer.{longest, told, find_of}
+use Rattle.find.specs.Promises.{behind_ends, writes, buffer_after, WriteFits, LineOf, LineFits, WritesLine}
 use Rattle.find.proofs.FillLaws.{rest_of, rest-is}
 use Rattle.find.proofs.WriteLaws.{behind-zero, behind-both, behind-few, extended-less}
 

@@ -1,24 +1,22 @@
 -- Laws of the lines of a run, and of the k-th matching one.
-use Prim.Native.Nat.{ℕ, zero, suc, ◌+◌, ◌-◌, ◌<◌, ◌≤◌}
+use Prim.Native.Nat.{ℕ, suc, ◌+◌, ◌-◌, ◌<◌, ◌≤◌}
 use native.Mathlib.Omega.{arith}
 use mathlib.Core.Path.{◌≡◌, refl, sym, ap, ◌∙◌}
-use mathlib.Core.Bool.{Bool, true, false, not, cond, ◌&&◌, ◌||◌}
-use mathlib.Core.List.{List, [], ◌∷◌, ◌++◌, append-nil, append_assoc}
+use mathlib.Core.Bool.{Bool, true, false, cond}
+use mathlib.Core.List.{List, [], ◌∷◌, ◌++◌, append-nil}
 use lib.Dec.{eqb}
-use lib.ListN.{length, length-append}
-use borrow.Author.Tests.{eqb-true, eqb-false, eq-eqb, ne_eqb}
+use lib.ListN.{length}
+use borrow.Author.Tests.{eq-eqb, ne_eqb}
 use Rattle.runs.specs.Keys.{line_end}
-use Rattle.runs.proofs.Tests.{by-test, clash}
 use Rattle.pattern.specs.Meaning.{Query, matches}
 use Rattle.lines.specs.Parts.{first_part, later_parts, last_part, parts_before}
-use Rattle.lines.specs.Lines.{is_open, trimmed, ends_in_return, lines_from, lines, count_in, closed_matches, matching}
+use Rattle.lines.specs.Lines.{is_open, trimmed, lines_from, lines, count_in, closed_matches, matching}
 use Rattle.lines.proofs.LineLaws.{lines-by, count_none, count-cons, matching-is}
-use Rattle.lines.proofs.PartLaws.{first_then, later_then, first-append, later-append, first-cons, later-cons, last_one, last_more, parts_none, parts_more, count_before, count_one, count_then, line_across, before-open, before-closed, end-part, end-first, key-part, before-none}
-use Rattle.spans.specs.Spans.{closed_lines}
+use Rattle.lines.proofs.PartLaws.{first_then, later_then, first-append, later-append, first-cons, later-cons, last_one, last_more, parts_none, parts_more, count_before, count_then, before-open, before-closed, end-part, end-first, key-part, before-none}
 use Rattle.spans.proofs.SpanLaws.{closed-by}
 use Rattle.extents.specs.Extents.{end_count, open_part}
 use Rattle.extents.proofs.ExtentLaws.{later-length, open_is}
-use Rattle.find.specs.Lines.{Sought, missing, found, kth_in, kth_line}
+use Rattle.find.specs.Lines.{missing, found, kth_in, kth_line}
 use Rattle.find.specs.Promises.{closed_by}
 
 -- The k-th of some lines that have X.

@@ -6,9 +6,9 @@ use mir.Val.{Fits}
 use mir.Syntax.{w64}
 use mathlib.Core.Path.{◌≡◌, refl, sym, ap, ◌∙◌}
 use mathlib.Core.Bool.{Bool, true, false, not, cond}
-use mathlib.Core.List.{List, [], ◌∷◌, ◌++◌}
-use lib.Dec.{leb, ltb}
-use lib.ListN.{length, take, drop}
+use mathlib.Core.List.{List, [], ◌∷◌}
+use lib.Dec.{leb}
+use lib.ListN.{length, drop}
 use borrow.Author.Tests.{leb-true, leb-false, not-true, not-false}
 use Rattle.runs.specs.Keys.{line_end}
 use Rattle.runs.proofs.Tests.{either}
@@ -19,8 +19,7 @@ use Rattle.book.proofs.LayoutLaws.{macros-few}
 use Rattle.book.proofs.Expansion.{expansion-run}
 use Rattle.pattern.specs.Meaning.{Query}
 use Rattle.pattern.proofs.Readings.{states-of}
-use Rattle.lines.specs.Parts.{first_part, later_parts, last_part}
-use Rattle.lines.specs.Lines.{trimmed, ends_in_return, matching}
+use Rattle.lines.specs.Lines.{trimmed, ends_in_return}
 use Rattle.lines.proofs.Trims.{trim-length}
 use Rattle.lines.proofs.PartLaws.{later-cons, ends_last}
 use Rattle.spans.specs.declared.span.Span.{Span}
@@ -41,9 +40,9 @@ use Rattle.extents.proofs.CappedLaws.{capped_small, capped-large}
 use Rattle.extents.proofs.ExtentLaws.{extent-fields, open_is}
 use Rattle.find.specs.declared.descent.Search.{Search}
 use Rattle.find.specs.declared.descent.Place.{Place}
-use Rattle.find.specs.Lines.{found, kth_line}
-use Rattle.find.specs.Answer.{longest, told}
-use Rattle.find.specs.Promises.{closed_by, Ready, SearchIn, PlaceAt, Starts, EndsAt, Descends, LineAt, Locates}
+use Rattle.find.specs.Lines.{kth_line}
+use Rattle.find.specs.Answer.{told}
+use Rattle.find.specs.Promises.{closed_by, Ready, SearchIn, Starts, Descends, Locates}
 use Rattle.find.proofs.FillLaws.{extent-at, rest_of, rest-is}
 use Rattle.find.proofs.PassLaws.{closed-test}
 use Rattle.find.proofs.LineLaws.{kth-closed, kth-last}

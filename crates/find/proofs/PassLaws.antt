@@ -1,16 +1,16 @@
 -- Laws of passes that lie before the line that is sought.
-use Prim.Native.Nat.{ℕ, zero, suc, ◌+◌, ◌-◌, ◌*◌, ◌/◌, ◌<◌, ◌≤◌}
+use Prim.Native.Nat.{ℕ, suc, ◌+◌, ◌-◌, ◌*◌, ◌/◌, ◌<◌, ◌≤◌}
 use native.Mathlib.Omega.{arith}
 use mir.Val.{Fits}
 use mir.Syntax.{w64}
 use mathlib.Core.Path.{◌≡◌, refl, sym, ap, ◌∙◌}
 use mathlib.Core.Bool.{Bool, true, false, cond}
-use mathlib.Core.List.{List, [], ◌∷◌, ◌++◌, append_assoc, append-nil}
+use mathlib.Core.List.{List, ◌∷◌, ◌++◌, append_assoc, append-nil}
 use lib.Dec.{leb, ltb}
 use borrow.Author.Tests.{leb-true, leb-false, le-leb, ltb-true, ltb-false, lt-ltb, le-ltb}
 use Rattle.runs.specs.Keys.{is_run, line_end}
 use Rattle.runs.specs.Kept.{times}
-use Rattle.runs.proofs.Tests.{by-test, either}
+use Rattle.runs.proofs.Tests.{either}
 use Rattle.runs.proofs.KeyLaws.{run-cons, run-append}
 use Rattle.runs.proofs.KeptLaws.{times_none, times-add, times-run}
 use Rattle.pattern.specs.Meaning.{Query}
@@ -18,7 +18,7 @@ use Rattle.pattern.specs.Form.{atom_count}
 use Rattle.spans.specs.Spans.{closed_lines}
 use Rattle.reports.specs.declared.span_count.SpanCount.{SpanCount}
 use Rattle.reports.specs.declared.total.Total.{Total}
-use Rattle.reports.specs.Totals.{most, total_of, value_of}
+use Rattle.reports.specs.Totals.{most, value_of}
 use Rattle.reports.specs.Reports.{span_count, joined_counts}
 use Rattle.reports.proofs.TotalLaws.{few-lines, many-lines}
 use Rattle.reports.proofs.ReportLaws.{join-counts, count-closed}

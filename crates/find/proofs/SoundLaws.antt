@@ -1,24 +1,21 @@
 -- From a book and a pattern to what is answered: what is refused before, and the line of a macro of a sound book.
-use Prim.Native.Nat.{ℕ, suc, ◌+◌, ◌-◌, ◌*◌, ◌<◌, ◌≤◌}
+use Prim.Native.Nat.{ℕ, suc, ◌+◌, ◌*◌, ◌<◌, ◌≤◌}
 use native.Mathlib.Omega.{arith}
 use native.Mathlib.Nat.{mul-le-mul}
 use native.Mathlib.Numerals.{add-one}
 use mir.Val.{Fits}
 use mir.Syntax.{w64}
-use mathlib.Core.Path.{◌≡◌, refl, sym, ap, ◌∙◌}
+use mathlib.Core.Path.{◌≡◌, refl, ap, ◌∙◌}
 use mathlib.Core.List.{List}
 use lib.ListN.{length}
 use Rattle.refusal.specs.declared.Refusal.{Refusal}
 use Rattle.book.specs.Format.{Macro}
 use Rattle.book.specs.Expansion.{expansion}
 use Rattle.book.specs.Reading.{Reading, read_book, macros_in}
-use Rattle.book.specs.Answer.{layout_figures, book_layout}
-use Rattle.book.specs.declared.layout.Checked.{Checked}
-use Rattle.book.specs.declared.layout.Layout.{Layout}
 use Rattle.book.specs.declared.space.Space.{Space}
 use Rattle.book.specs.Steps.{refused, settled, space_step, InBook, settled_by}
 use Rattle.book.proofs.LayoutLaws.{macros-few}
-use Rattle.book.proofs.StepLaws.{book-refuses, space-inside, space-room}
+use Rattle.book.proofs.StepLaws.{space-inside, space-room}
 use Rattle.letters.specs.declared.Case.{Case}
 use Rattle.pattern.specs.Meaning.{Query, query}
 use Rattle.pattern.specs.Form.{Pattern}
@@ -29,13 +26,13 @@ use Rattle.pattern.specs.declared.automaton.Verdict.{Verdict}
 use Rattle.pattern.proofs.Readings.{states-of}
 use Rattle.reports.specs.Words.{behind_rows}
 use Rattle.counter.specs.Front.{front, InPattern}
-use Rattle.counter.proofs.FrontLaws.{pattern-refuses, pattern-in, front-book, front-pattern, front-refuses, front-settles}
+use Rattle.counter.proofs.FrontLaws.{pattern-refuses, pattern-in, front-pattern, front-refuses, front-settles}
 use Rattle.extents.specs.Words.{width}
 use Rattle.find.specs.declared.descent.Search.{Search}
 use Rattle.find.specs.declared.finding.Placed.{Placed}
 use Rattle.find.specs.Lines.{kth_line}
 use Rattle.find.specs.Answer.{needed, base_of, written}
-use Rattle.find.specs.Promises.{placed_for, Placing, placing, placing_of, MacroFits, PlacesLine}
+use Rattle.find.specs.Promises.{placed_for, placing, placing_of, MacroFits, PlacesLine}
 
 -- A refusal leaves the work words; what is settled has a line or none.
 module _ (c : Case) (book : Reading (List Macro)) (pattern : reader.Read) (m k : ℕ) (work : List ℕ) where

@@ -45,8 +45,8 @@ fn with_part(done: Skipped, part: SpanCount, size: usize, most: usize, k: u64) -
 // As many passes as can be taken by `size`, which `part` is, up to `most`, before k lines are closed. Larger parts are taken first, so that
 // 65,535 passes take 31 joinings.
 pub(crate) fn skip(a: SpanCount, part: SpanCount, size: usize, most: usize, k: u64) -> Skipped
-    requires le_size { 1 ≤ size }
-    requires most_bound { most < 65536 }
+    requires some { 1 ≤ size }
+    requires few { most < 65536 }
     ensures { Skips a part size most k result }
 {
     if most / 2 < size {

@@ -14,7 +14,7 @@ use Rattle.lines.specs.Parts.{first_part, later_parts, parts_before, last_part}
 use Rattle.spans.specs.declared.span.Span.{Span}
 use Rattle.spans.specs.declared.span.Edges.{Edges}
 use Rattle.spans.specs.declared.span.JoinedSpan.{JoinedSpan}
-use Rattle.spans.specs.Spans.{rows_of, no_rows, open_span, ended_span, edges, span_with, span, closed_with}
+use Rattle.spans.specs.Spans.{rows_of, no_rows, open_span, ended_span, edges, span_with, closed_with}
 use Rattle.spans.specs.Joining.{onward, heads_across, closes_across, joined_edges, joined_with}
 use Rattle.spans.proofs.RowLaws.{states-all}
 use Rattle.spans.proofs.SpanLaws.{span-by, closed-by, joined_by}

@@ -2,7 +2,6 @@
 use Rattle.std.specs.Prelude.{Bool, cond}
 use Rattle.refusal.specs.declared.Refusal.TheVariants.{ReportMismatch}
 use Rattle.refusal.specs.Number.{number}
-use Rattle.pattern.specs.Reader.{refused}
 use Rattle.reports.specs.declared.report.Joined.{Joined}
 use Rattle.reports.specs.declared.report.Report.{Report}
 use Rattle.reports.specs.Reports.{alike, joined_reports, no_report}

@@ -2,7 +2,6 @@
 use native.Mathlib.Omega.{arith}
 use lib.ListN.{length-take}
 use Rattle.command.proofs.InputLaws.{answer-long, answer-book}
-use borrow.Author.Rules.{rules}
 use Rattle.command.proofs.input.answer_in.Goals as goal
 
 pub returns-then-input-gt-LONGEST : goal.returns-then-input-gt-LONGEST

@@ -1,5 +1,4 @@
 -- `pattern_end`: no byte before `at` is an LF.
-use Prim.Native.Nat.{◌-◌}
 use native.Mathlib.Omega.{arith}
 use Rattle.command.proofs.InputLaws.{searched-none, searched-end, searched-more, searched-all}
 use Rattle.command.proofs.input.pattern_end.Goals as goal

@@ -1,5 +1,4 @@
 -- `counting::fill`: the first i macros' reports stand in the work words, and the words behind them are untouched.
-use Prim.Native.Nat.{◌-◌}
 use native.Mathlib.Omega.{arith}
 use Rattle.counter.proofs.FillLaws.{fill_start, width_fits, items-fit, next_fits, place-fits, steps-fit, fill_on, fill_done}
 use borrow.Author.Rules.{rules}

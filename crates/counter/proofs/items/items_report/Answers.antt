@@ -1,8 +1,6 @@
 -- `items::items_report`: what is kept is that of the items so far, and the steps are theirs.
-use Prim.Native.Nat.{◌-◌}
 use native.Mathlib.Omega.{arith}
 use Rattle.counter.proofs.ItemLaws.{items-start, items-room, items-on, items-done}
-use borrow.Author.Rules.{rules}
 use Rattle.counter.proofs.items.items_report.Goals as goal
 
 pub loop-k-init : goal.loop-k-init

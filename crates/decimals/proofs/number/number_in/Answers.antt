@@ -16,7 +16,7 @@ pub returns-then-not-is_digit : goal.returns-then-not-is_digit
 returns-then-not-is_digit c = search (written-bad)
 
 pub with_digit-n-requires : goal.with_digit-n-requires
-with_digit-n-requires c = record { n_bound = search; le_c = search (digit-least); c_bound = search (digit-most) }
+with_digit-n-requires c = record { small = search; low = search (digit-least); high = search (digit-most) }
 
 pub overflow_add-at : goal.overflow_add-at
 overflow_add-at c = omega arith

@@ -17,7 +17,7 @@ pub returns-then-not-is_digit : goal.returns-then-not-is_digit
 returns-then-not-is_digit c = search (wide-bad)
 
 pub wide_digit-more-requires : goal.wide_digit-more-requires
-wide_digit-more-requires c = record { le_c = search (digit-least); c_bound = search (digit-most) }
+wide_digit-more-requires c = record { low = search (digit-least); high = search (digit-most) }
 
 pub returns-in_default : goal.returns-in_default
 returns-in_default c = search (wide-over)

@@ -7,10 +7,10 @@ pub returns-then-run-gt-LONGEST : goal.returns-then-run-gt-LONGEST
 returns-then-run-gt-LONGEST c = search (macro-long)
 
 pub less-end-requires : goal.less-end-requires
-less-end-requires c = record { a_le_longest = search (openings-fit); b_le_longest = search (closings-fit) }
+less-end-requires c = record { first = search (openings-fit); second = search (closings-fit) }
 
 pub less-lowest-requires : goal.less-lowest-requires
-less-lowest-requires c = record { a_le_longest = omega arith; b_le_longest = search (closings-fit) }
+less-lowest-requires c = record { first = omega arith; second = search (closings-fit) }
 
 pub returns : goal.returns
 returns c = search (macro-depths)

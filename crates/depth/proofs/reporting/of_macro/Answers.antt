@@ -22,10 +22,10 @@ pub bounds-items-k-in-loop-k : goal.bounds-items-k-in-loop-k
 bounds-items-k-in-loop-k c = search (item-few)
 
 pub repeated-passes-requires : goal.repeated-passes-requires
-repeated-passes-requires c = record { sized = search (this-sized); le_n = search (item-stands) }
+repeated-passes-requires c = record { sized = search (this-sized); some = search (item-stands) }
 
 pub joined-all-requires : goal.joined-all-requires
-joined-all-requires c = record { sized = search (all-sized); sized_2 = search (passes-sized) }
+joined-all-requires c = record { first = search (all-sized); second = search (passes-sized) }
 
 pub overflow_add-k : goal.overflow_add-k
 overflow_add-k c = omega arith

@@ -8,7 +8,7 @@ use Rattle.display.proofs.text.shown_line.Goals as goal
 -- slice-aggregate-put-text c = search rules
 
 pub put_keys-at-requires : goal.put_keys-at-requires
-put_keys-at-requires c = record { n_in_bounds = search (keys-room); n_in_bounds_2 = search rules }
+put_keys-at-requires c = record { room = search (keys-room); there = search rules }
 
 -- LOST slice-aggregate-put-text-2
 -- slice-aggregate-put-text-2 : tie.Need-slice-aggregate-put-text-2

@@ -1,6 +1,5 @@
 -- `capped::capped_product`: tested by a division before it is made.
 use Rattle.extents.proofs.CappedLaws.{product-none, product-over, product-fits, product-within}
-use borrow.Author.Rules.{rules}
 use Rattle.extents.proofs.capped.capped_product.Goals as goal
 
 pub returns-then-n-eq0 : goal.returns-then-n-eq0

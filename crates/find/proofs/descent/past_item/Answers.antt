@@ -1,6 +1,5 @@
 -- `descent::past_item`: the passes that are skipped, and how far they go.
 use Rattle.find.proofs.DescentLaws.{past-item}
-use borrow.Author.Rules.{rules}
 use Rattle.find.proofs.descent.past_item.Goals as goal
 
 pub returns : goal.returns

@@ -1,5 +1,4 @@
 -- `descent::stop_in`: the line has not ended in the items so far.
-use Prim.Native.Nat.{◌-◌}
 use native.Mathlib.Omega.{arith}
 use Rattle.find.proofs.DescentLaws.{items-first, items-over, items-next, items-stop, item-fits, item-few}
 use Rattle.find.proofs.descent.stop_in.Goals as goal

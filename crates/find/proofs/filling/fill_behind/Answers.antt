@@ -1,7 +1,6 @@
 -- `filling::fill_behind`: a part of the work words is lent and comes back.
 use native.Mathlib.Omega.{arith}
 use Rattle.find.proofs.FillLaws.{behind-room, behind-fits, behind-filled}
-use borrow.Author.Rules.{rules}
 use Rattle.find.proofs.filling.fill_behind.Goals as goal
 
 pub offset_bounds-work-base : goal.offset_bounds-work-base

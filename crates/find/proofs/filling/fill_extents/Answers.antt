@@ -1,5 +1,4 @@
 -- `filling::fill_extents`: the words of the first i macros stand in front, and the words behind them are untouched.
-use Prim.Native.Nat.{◌-◌}
 use native.Mathlib.Omega.{arith}
 use Rattle.find.proofs.FillLaws.{fill_start, macro-at, place-fits, next_fits, fill_on, fill_done}
 use Rattle.find.proofs.filling.fill_extents.Goals as goal

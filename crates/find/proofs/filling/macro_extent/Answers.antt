@@ -1,5 +1,4 @@
 -- `filling::macro_extent`: what is kept is that of the items so far.
-use Prim.Native.Nat.{◌-◌}
 use native.Mathlib.Omega.{arith}
 use Rattle.find.proofs.FillLaws.{items-start, item-few, item-place, item-next, items-on, items-done}
 use Rattle.find.proofs.filling.macro_extent.Goals as goal

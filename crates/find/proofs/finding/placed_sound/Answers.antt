@@ -1,5 +1,4 @@
 -- `finding::placed_sound`: what is refused before leaves the work words; then the line.
-use Prim.Native.Nat.{◌≤◌}
 use Rattle.find.proofs.SoundLaws.{pattern-refused, width_fits, words-fit, next_fits, base-fits, states-small, space-refused, macro-fits, macro-placed}
 use Rattle.find.proofs.finding.placed_sound.Goals as goal
 

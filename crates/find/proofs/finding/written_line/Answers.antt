@@ -1,6 +1,4 @@
 -- `finding::written_line`: 17, or the keys at the front of the buffer.
-use Prim.Native.Nat.{◌<◌, ◌^◌}
-use lib.ListN.{length}
 use Rattle.find.proofs.KeysLaws.{line-short, line-fits, line-written}
 use borrow.Author.Rules.{rules}
 use Rattle.find.proofs.finding.written_line.Goals as goal

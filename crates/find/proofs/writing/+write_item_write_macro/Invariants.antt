@@ -1,8 +1,6 @@
 -- `write_item` and `write_macro`, which call each other. The measure goes by the macro's number: calls go to lower ones. Invariants: behind
 -- the passes that are done stands what so many passes write; behind the first k items stands what they write.
-use Prim.Native.Nat.{ℕ, ◌+◌, ◌-◌, ◌*◌, ◌<◌}
-use mathlib.Core.Logic.{⊎_elim}
-use borrow.Author.Rules.{rules}
+use Prim.Native.Nat.{◌+◌, ◌-◌, ◌*◌}
 use Rattle.find.proofs.WriteLaws as laws
 use Rattle.find.proofs.writing.+write_item_write_macro.Given as goal
 

@@ -1,5 +1,4 @@
 -- `writing::passes_before`: its four ways out.
-use borrow.Author.Rules.{rules}
 use Rattle.find.proofs.WriteLaws as laws
 use Rattle.find.proofs.writing.passes_before.Goals as goal
 

@@ -1,5 +1,4 @@
 -- `line::tested`: the states are those that the keys so far lead to from line-start, and all of these are keys of a line.
-use Prim.Native.Nat.{◌-◌}
 use native.Mathlib.Omega.{arith}
 use Rattle.lines.proofs.Testing.{line-start, line_on, line_refused, line-matches, line-differs}
 use Rattle.lines.proofs.line.tested.Goals as goal

@@ -1,5 +1,4 @@
 -- `run::counted`: what is counted and what is left make the whole count.
-use Prim.Native.Nat.{◌-◌}
 use native.Mathlib.Omega.{arith}
 use Rattle.lines.proofs.Tallying.{last-small, run-start, run_on, run-refused, run-done}
 use Rattle.lines.proofs.run.counted.Goals as goal

@@ -3,7 +3,6 @@ use Prim.Native.Nat.{◌-◌}
 use mathlib.Core.Path.{◌≡◌}
 use mathlib.Core.Bool.{true}
 use lib.ListN.{length, take}
-use Rattle.pattern.proofs.Scans as laws
 use Rattle.runs.specs.Keys.{is_line}
 use Rattle.pattern.proofs.clean.clean.Given as goal
 

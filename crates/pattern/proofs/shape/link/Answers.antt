@@ -1,5 +1,4 @@
 -- `shape::link`: behind the atoms of one set those of another may be entered.
-use Prim.Native.Nat.{◌-◌}
 use native.Mathlib.Omega.{arith}
 use Rattle.pattern.proofs.Linking.{linked-none, linked-more, linked-all}
 use Rattle.pattern.proofs.shape.link.Goals as goal

@@ -1,5 +1,4 @@
 -- `load_rows`. Invariant: the rows below q are read.
-use Prim.Native.Nat.{◌-◌}
 use Rattle.reports.proofs.WordLaws.{loading-none, loading-more, loading-done}
 use Rattle.reports.proofs.words.load_rows.Goals as goal
 

@@ -1,5 +1,4 @@
 -- `store_rows`. Invariant: the rows below q are stored.
-use Prim.Native.Nat.{◌-◌}
 use borrow.Author.Rules.{rules}
 use Rattle.runs.proofs.CopyLaws.{copying-none, copying-done}
 use Rattle.reports.proofs.WordLaws.{storing-more}

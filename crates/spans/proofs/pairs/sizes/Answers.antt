@@ -1,5 +1,4 @@
 -- `pairs::sizes`: the members of the first q rows are counted.
-use Prim.Native.Nat.{◌-◌}
 use native.Mathlib.Omega.{arith}
 use Rattle.spans.proofs.RowLaws.{summing-none, summing-room, summing-more, summing-done}
 use Rattle.spans.proofs.pairs.sizes.Goals as goal

@@ -1,5 +1,4 @@
 -- `rows::heads_through`: the heads below q are gathered.
-use Prim.Native.Nat.{◌-◌}
 use native.Mathlib.Omega.{arith}
 use Rattle.spans.proofs.RowLaws.{gathering-none, gathering-more, gathering-done}
 use Rattle.spans.proofs.rows.heads_through.Goals as goal

@@ -1,5 +1,4 @@
 -- `rows::moved_rows`: the first q rows have moved.
-use Prim.Native.Nat.{◌-◌}
 use native.Mathlib.Omega.{arith}
 use Rattle.spans.proofs.RowLaws.{building-none, building-more, building-done}
 use Rattle.spans.proofs.rows.moved_rows.Goals as goal

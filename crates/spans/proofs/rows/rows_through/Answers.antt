@@ -1,5 +1,4 @@
 -- `rows::rows_through`: the first q rows are those of both runs.
-use Prim.Native.Nat.{◌-◌}
 use native.Mathlib.Omega.{arith}
 use Rattle.spans.proofs.RowLaws.{building-none, building-more, building-done}
 use Rattle.spans.proofs.rows.rows_through.Goals as goal

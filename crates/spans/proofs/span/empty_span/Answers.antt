@@ -1,5 +1,4 @@
 -- `span::empty_span`: the first q rows have their own state.
-use Prim.Native.Nat.{◌-◌}
 use native.Mathlib.Omega.{arith}
 use lib.Dec.{eqb}
 use Rattle.spans.proofs.RowLaws.{building-none, building-more, own_row}

@@ -1,5 +1,4 @@
 -- `facts::items_below`: the items of the first i macros are counted.
-use Prim.Native.Nat.{◌-◌}
 use borrow.Author.Rules.{rules}
 use Rattle.survey.proofs.FactLaws.{summed-none, summed-more, summed-fits, summed-all}
 use Rattle.survey.proofs.facts.items_below.Goals as goal

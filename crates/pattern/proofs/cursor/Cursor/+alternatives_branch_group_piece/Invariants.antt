@@ -1,10 +1,8 @@
 -- The cycle of readers. The measure is a bound on how deep they call each other; the bytes left fall.
-use Prim.Native.Nat.{ℕ, ◌-◌, ◌<◌}
-use borrow.Author.Rules.{rules}
+use Prim.Native.Nat.{◌-◌}
 use Rattle.pattern.specs.Reader.{Mode}
 use Rattle.pattern.specs.Cycle.{room}
 use lib.ListN.{length}
-use Rattle.pattern.proofs.Cycles as laws
 use Rattle.pattern.proofs.cursor.Cursor.+alternatives_branch_group_piece.Given as goal
 
 abbrev pub decreases-alternatives : goal.decreases-alternatives

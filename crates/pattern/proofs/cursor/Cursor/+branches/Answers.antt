@@ -1,7 +1,4 @@
 -- The measure is the number of bytes left.
-use Prim.Native.Nat.{ℕ, ◌-◌, ◌<◌}
-use lib.ListN.{length}
-use borrow.Author.Rules.{rules}
 use Rattle.pattern.proofs.BranchLists as laws
 use Rattle.pattern.proofs.cursor.Cursor.+branches.Goals as goal
 

@@ -1,8 +1,6 @@
 -- The measure is the number of bytes left.
-use Prim.Native.Nat.{ℕ, ◌-◌, ◌<◌}
+use Prim.Native.Nat.{◌-◌}
 use lib.ListN.{length}
-use borrow.Author.Rules.{rules}
-use Rattle.pattern.proofs.BranchLists as laws
 use Rattle.pattern.proofs.cursor.Cursor.+branches.Given as goal
 
 abbrev pub decreases-branches : goal.decreases-branches
