@@ -1,7 +1,7 @@
 #!/usr/bin/env bash
 # Looks that all is there that docs/ASSURANCE.md names, and that crates keep to each other's laws; proves every crate, tries the must-fail
-# edits and looks that each wrong program is refused by itself, runs the programs and the command, runs the cases again within 1 MiB of
-# stack, and compares the programs with the second program in docs/src/second. The last line is 'N passed, M failed', over all of these.
+# edits and looks that each is refused for what its own function does, runs the programs and the command, runs the cases again within 1 MiB
+# of stack, and compares the programs with the second program in docs/src/second. The last line is 'N passed, M failed', over all of these.
 set -u -o pipefail
 cd "$(dirname "$0")" || exit 2
 # Nothing here is asked of whoever started it; and a standard input that is closed would become one of the pipes below.
@@ -73,6 +73,26 @@ counted_beside() {
     add "$status" "$1" "$room/$2"
 }
 
+# rt_ci: proves all from the top of the checkout, tries the edits and runs the programs; what it prints is kept in the file rt, too. It lets
+# an edit pass that is none any more, and says on its line `rt: ok` how many are bad: here that is a failure.
+rt_ci() {
+    local status=0
+    rt ci | tee "$room/rt" || status=1
+    [ "$status" -eq 0 ] || return
+    grep -q '^rt: ok;' "$room/rt" && ! grep -qE '^rt: ok;.*, [1-9][0-9]* bad(,|;|$)' "$room/rt" && return
+    echo "FAILED: rt ci does not say that no must-fail edit is bad" >&2
+    return 1
+}
+
+# take PROGRAM...: into target/bin, as rt ci has just proved and built them.
+take() {
+    local program
+    mkdir -p target/bin || return
+    for program; do
+        cp -f "crates/$program/out/$program" "target/bin/$program" || return
+    done
+}
+
 # stated WHAT: how many docs/ASSURANCE.md says there are at least.
 stated() {
     awk -F ' *[|] *' -v what="$1" '$2 == what { print $3 }' docs/ASSURANCE.md
@@ -86,7 +106,8 @@ small_stack() {
 # No crate opens a definition of another, but for the computed tables; there the search must find some.
 opened_nowhere() {
     local opened
-    opened=$(find crates -name '*.antt' ! -name PaperRuns.antt ! -name Examples.antt -print0 | xargs -0 bash tests/opened.sh)
+    opened=$(find crates -regex 'crates/[^/]*/out' -prune -o \( -name '*.antt' -o -name '*.rt' \) ! -name PaperRuns.antt ! -name Examples.antt -print0 |
+        xargs -0 bash tests/opened.sh)
     [ -z "$opened" ] || echo "$opened"
     [ -z "$opened" ] && [ -n "$(bash tests/opened.sh crates/command/proofs/PaperRuns.antt)" ]
 }
@@ -119,6 +140,7 @@ works rustc --version || { echo "FAILED: rustc, which compiles the second progra
 
 single "all is there that docs/ASSURANCE.md names" bash tests/floor.sh
 single "no crate opens a definition of another" opened_nowhere
+beside opened bash tests/opened_fails.sh
 beside floor bash tests/floor_fails.sh
 beside refused bash tests/refused_fails.sh
 beside build bash tests/build.sh
@@ -126,8 +148,9 @@ beside answers bash tests/answers.sh
 beside compiled rustc -O --edition 2021 -o "$room/second" docs/src/second/main.rs
 beside examples rustc -O --edition 2021 -o "$room/write" docs/src/examples.rs
 key=$(sources_key "$home")
-counted 1 rt ci
-counted "$(stated 'wrong programs')" bash tests/refused.sh
+counted 1 rt_ci
+counted "$(stated 'wrong programs')" bash tests/refused.sh "$room/rt"
+counted_beside 1 opened
 counted_beside "$(stated 'faults that `tests/floor.sh` must see')" floor
 counted_beside "$(stated 'tries of `tests/refused.sh`')" refused
 counted_beside "$(stated 'runs of its building')" build
@@ -135,6 +158,7 @@ counted_beside "$(stated 'runs with programs that go wrong')" answers
 single "the second program compiles" gather compiled
 single "the generator of the examples compiles" gather examples
 [ "$failed" -eq 0 ] || finish
+single "the programs are there that were proved" take pattern_cases cases cuecount rakvinje
 single "the program is of the sources that were proved" adopt "$key" target/bin/rakvinje
 
 for cases in pattern_cases cases; do

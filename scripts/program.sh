@@ -3,10 +3,10 @@
 # checkout's folder. ./rakvinje calls program_path, the test command sources_key and adopt.
 #
 # A built program stands at target/built/KEY, where KEY is a hash of its sources, and is used for no others. It is built from a copy of
-# the sources in target/build: so KEY says what was proved, whatever happens to the sources in the meantime.
+# the sources in a folder of its own: so KEY says what was proved, whatever happens to the sources in the meantime. That folder is outside
+# the checkout, in which `rt ci` lets no such files stand, and goes when the program is built.
 
 built=${home:?}/target/built
-work=$home/target/build
 
 tell() {
     printf 'rakvinje: %s\n' "$*" >&2
@@ -29,12 +29,13 @@ needed_lines() {
         }' crates.txt
 }
 
-# source_files LINES: the files of the crates of these lines, each ended by a zero byte. The must-fail edits are no part of the program.
+# source_files LINES: the files of the crates of these lines, each ended by a zero byte. The must-fail edits are no part of the program, nor
+# is what rt keeps in the folder out.
 source_files() {
     local names
     mapfile -t names <<<"$1"
     names=("${names[@]%%:*}")
-    find -L "${names[@]/#/crates/}" -type d -name must-fail -prune -o -type f -print0 | LC_ALL=C sort -z
+    find -L "${names[@]/#/crates/}" -regex 'crates/[^/]*/\(must-fail\|out\)' -prune -o -type f -print0 | LC_ALL=C sort -z
 }
 
 # sources_key FOLDER: a hash of the names and the contents of the sources there.
@@ -52,13 +53,12 @@ writable() {
     return 1
 }
 
-# Copies the sources to $work. What rt keeps in $work/target stays: it proves again only what differs from the last time.
+# mirror FOLDER: copies the sources there. rt takes the folder for the top of a repository, wherever it is, if it has a folder .git.
 mirror() (
     set -o pipefail
-    writable "$work" || exit
-    rm -rf "$work/crates" "$work/crates.txt" && cd "$home" && lines=$(needed_lines) &&
-        source_files "$lines" | xargs -0r cp --parents --no-preserve=mode -t "$work" && echo "$lines" >"$work/crates.txt" && exit
-    tell "the program's sources could not be copied to $work"
+    mkdir "$1/.git" && cd "$home" && lines=$(needed_lines) &&
+        source_files "$lines" | xargs -0r cp --parents --no-preserve=mode -t "$1" && echo "$lines" >"$1/crates.txt" && exit
+    tell "the program's sources could not be copied to $1"
     exit 1
 )
 
@@ -66,8 +66,8 @@ has_lock() {
     [ "$built/lock" -ef "/proc/self/fd/$lock" ]
 }
 
-# Only one call at a time builds. What outlives a call that was killed still holds its lock, so nothing writes to $work beside a build.
-# rt ci removes target/, and the lock with it; a lock on a removed file keeps nobody out, hence the loop.
+# Only one call at a time builds, and what outlives a call that was killed still holds its lock. Whoever removes target/ removes the lock
+# with it; a lock on a removed file keeps nobody out, hence the loop.
 take_lock() {
     while writable "$built" && exec {lock}>>"$built/lock"; do
         if ! flock -n "$lock"; then
@@ -87,11 +87,11 @@ find_rt() {
     return 1
 }
 
-# progress N: shows each crate that rt is done with, of N.
+# progress N: shows each crate that rt is done with, of N. What an earlier run of rt on this machine proved of the same files is kept.
 progress() {
     local line at=0
     while IFS= read -r line; do
-        [[ $line =~ ^rt:\ ([A-Za-z0-9_]+\ proved\ .*) ]] || continue
+        [[ $line =~ ^rt:\ ([A-Za-z0-9_]+\ (proved|is\ kept))(:|$) ]] || continue
         at=$((at + 1))
         tell "crate $at of $1: ${BASH_REMATCH[1]}"
     done
@@ -99,18 +99,20 @@ progress() {
 
 # The lines of rt's output that say what went wrong: without the crates that were proved, and those that only rest on one that was not.
 faults() {
-    grep -E '^rt: |error|: no proof: ' | grep -Ev '^rt: [A-Za-z0-9_]+ (proved |NOT PROVED: its dependency)' | cut -c 1-300 | tail -n 10
+    grep -E '^rt: |error|^note: [^ ]+:[0-9]+:[0-9]+: |: not proved$|is not in the layout$' |
+        grep -Ev '^rt: ([A-Za-z0-9_]+(: its tests)? (are proved|proved|passed|is kept|ran|NOT PROVED: its library)|FAILED: |note: )' |
+        cut -c 1-300 | tail -n 10
 }
 
-# Proves and builds what stands in $work. The standard input may be the book, and is not for rt.
+# prove FOLDER: proves and builds what stands there, from nothing. The standard input may be the book, and is not for rt.
 prove() {
     local crates
-    mapfile -t crates <"$work/crates.txt"
+    mapfile -t crates <"$1/crates.txt"
     tell "proving and building the program, once; this takes some minutes"
-    (cd "$work" && rt check rakvinje) </dev/null 2>&1 | tee "$work/log" | progress "${#crates[@]}"
+    (cd "$1" && rt ci) </dev/null 2>&1 | tee "$built/log" | progress "${#crates[@]}"
     [ "${PIPESTATUS[0]}" -ne 0 ] || return 0
-    faults <"$work/log" >&2
-    tell "the program was not built; the whole log is $work/log"
+    faults <"$built/log" >&2
+    tell "the program was not built; the whole log is $built/log"
     return 1
 }
 
@@ -132,7 +134,10 @@ is_built() {
 build() (
     take_lock && key=$(sources_key "$home") || exit
     if ! is_built "$key"; then
-        find_rt && mirror && key=$(sources_key "$work") && prove && put_in_place "$key" "$work/target/bin/rakvinje" || exit
+        find_rt || exit
+        work=$(mktemp -d) || { tell "the program has to be built, and no folder can be made to build it in"; exit 1; }
+        trap 'rm -rf "$work"' EXIT
+        mirror "$work" && key=$(sources_key "$work") && prove "$work" && put_in_place "$key" "$work/crates/rakvinje/out/rakvinje" || exit
     fi
     echo "$key"
 )

@@ -18,7 +18,7 @@ chmod 755 "$FAKE/bin/rt"
 plain_path=/usr/bin:/bin
 PATH=$FAKE/bin:$PATH
 call=("$home/rakvinje" count B book)
-building='*once;*crate 1 of 3: low proved (1 s)*crate 3 of 3: rakvinje proved (1 s)'
+building='*once;*crate 1 of 3: low proved*crate 3 of 3: rakvinje proved'
 
 # builds N: how often rt ran since this was last asked.
 builds() {
@@ -63,6 +63,8 @@ expect 0 'lines 1 steps 1' '' env -C / "$room/link" count B book
 # What is no change of the program, and what is.
 touch "$home"/crates/*/*/*
 put crates/low/must-fail/wrong.edit new
+put crates/low/out/kept new
+put crates/rakvinje/out/rakvinje new
 put crates/other/src/lib.rt new
 sed -i 's/^#.*/# comment/; s/^other: low/other: low mid/' "$home/crates.txt"
 expect 0 'lines 1 steps 1' '' "${call[@]}"
@@ -71,7 +73,9 @@ number_is 2
 built_anew 2
 put crates/mid/specs/Lib.antt new
 built_anew 2
-put crates/mid/proofs/f/Proof.antt new
+put crates/mid/proofs/f/Answers.antt new
+built_anew 2
+put crates/mid/proofs/f/Invariants.antt new
 built_anew 2
 mv "$home/crates/mid/proofs/f" "$home/crates/mid/proofs/g"
 built_anew 2
@@ -79,25 +83,48 @@ ln -s Lib.antt "$home/crates/mid/specs/Link.antt"
 built_anew 2
 rm "$home/crates/mid/specs/Link.antt"
 built_anew 2
-sed -i 's/^rakvinje:.*/& os/' "$home/crates.txt"
+sed -i 's/^rakvinje:.*/& either/' "$home/crates.txt"
+built_anew 2
+# A folder of that name deeper in a crate holds sources, as the proof of a function `out`.
+put crates/mid/proofs/out/Answers.antt old
+built_anew 2
+put crates/mid/proofs/out/Answers.antt new
 built_anew 2
 expect 0 "$(sources_key "$home")${lf}lock" '' ls "$built"
 
+# Where it was built nothing stays.
+gone() {
+    [ ! -e "$(cat "$FAKE/place")" ]
+}
+expect 0 '' '' gone
+
+# What rt has proved before.
+number_is 3
+: >"$FAKE/kept"
+expect 0 'lines 3 steps 1' '*once;*crate 1 of 3: low is kept*crate 3 of 3: rakvinje is kept' "${call[@]}"
+builds 1
+rm "$FAKE/kept"
+number_is 2
+built_anew 2
+
 # A build that fails is not used, nor is the program of other sources, which stays for these.
 number_is 3
-after 'echo "crates/low/src/lib.rt:1:1: error: no proof"' 'echo "rt: low NOT PROVED (exit 1, 0 s)"' \
-    'echo "rt: mid NOT PROVED: its dependency low is not proved"' 'exit 1'
-failing="*crate 3 of 3: rakvinje proved (1 s)${lf}crates/low/src/lib.rt:1:1: error: no proof${lf}rt: low NOT PROVED (exit 1, 0 s)$lf"
-failing+="rakvinje: the program was not built; the whole log is $home/target/build/log"
+after 'echo "note: src/lib.rt:1:1: it is not proved"' 'echo "help: words"' 'echo "src/lib.rt:1:1: error: no proof"' \
+    'echo "fn low::f: not proved"' 'echo "rt: low NOT PROVED"' 'echo "rt: mid NOT PROVED: its library low failed"' \
+    'echo "rt: FAILED: low mid"' 'echo "0 passed, 2 failed"' 'exit 1'
+failing="*crate 3 of 3: rakvinje proved${lf}note: src/lib.rt:1:1: it is not proved${lf}src/lib.rt:1:1: error: no proof$lf"
+failing+="fn low::f: not proved${lf}rt: low NOT PROVED$lf"
+failing+="rakvinje: the program was not built; the whole log is $home/target/built/log"
 expect 2 '' "$failing" "${call[@]}"
 expect 2 '' "$failing" "${call[@]}"
 builds 2
-expect 0 'rt: mid NOT PROVED: its dependency low is not proved' '' tail -n 1 "$work/log"
+expect 0 'rt: mid NOT PROVED: its library low failed' '' grep 'its library' "$built/log"
+expect 0 '' '' gone
 number_is 2
 expect 0 'lines 2 steps 1' '' "${call[@]}"
 builds 0
 number_is 3
-after 'rm target/bin/rakvinje'
+after 'rm crates/rakvinje/out/rakvinje'
 expect 2 '' "*could not be put into $built" "${call[@]}"
 builds 1
 nothing_happens
@@ -157,13 +184,11 @@ expect 0 'lines 9 steps 1' '*waiting for it*' "${call[@]}"
 expect 0 'lines 9 steps 1' '' "${call[@]}"
 builds 1
 
-# rt ci removes target/ at any time, and another call may have begun to build other sources there since.
+# Someone may remove target/ at any time, and another call may have begun to build other sources since.
 number_is 10
 before 'rm -rf "$LIVE/target"'
 expect 2 '' "*could not be put into $built" "${call[@]}"
-before 'rm -rf "$LIVE/target"' 'mkdir -p "$LIVE/target/built" "$LIVE/target/build/target/bin"' ': >"$LIVE/target/built/lock"' \
-    'printf "#!/bin/sh\necho lines 99 steps 1\n" >"$LIVE/target/build/target/bin/rakvinje"' \
-    'chmod +x "$LIVE/target/build/target/bin/rakvinje"'
+before 'rm -rf "$LIVE/target"' 'mkdir -p "$LIVE/target/built"' ': >"$LIVE/target/built/lock"'
 expect 2 '' "*could not be put into $built" "${call[@]}"
 builds 2
 nothing_happens
@@ -186,6 +211,11 @@ expect 2 '' "*rt, the command*nor in $room/nowhere/bin" env PATH="$plain_path" R
 builds 0
 expect 0 'lines 13 steps 1' "$building" env PATH="$plain_path" RATTLE_HOME="$FAKE" "${call[@]}"
 builds 1
+
+# No folder to build it in.
+number_is 14
+expect 2 '' '*no folder can be made to build it in' env TMPDIR="$room/nowhere" "${call[@]}"
+builds 0
 
 # A program that was built in place is taken, if its sources are still the same.
 number_is 14

@@ -1,17 +1,25 @@
-# changed.awk -v crate=FOLDER EDIT: what the wrong programs of an edit file change, a line NAME|KIND|FUNCTION for each function. The kind is
-# `function` for a change in its body, or of a constant that stands there alone; `shared` for a constant that several functions name, or one
-# in its head, and, with * for the function, for what everyone may see: a head, a type, a definition. A line NAME|fault|WORDS says what no
-# edit file may have.
+# changed.awk -v crate=FOLDER [-v said=FILE:LINE] EDIT: what the wrong program of an edit file changes, a line KIND|PLACES for each function,
+# where PLACES are those in which its proof may stand, each behind a blank: its own folder, and that of its cycle of functions. The kind is `function` for
+# a change in its body, or of a constant that stands there alone; `shared` for a constant that several functions name, or one in its
+# head, and, with * for the places, for what everyone may see: a head, a type, a definition. A line said|PLACES is of the function that
+# stands at that line, and a line fault|WORDS says what no edit file may have.
 BEGIN {
-    fn_head = "^ *(pub(\\([a-z]+\\))? )?(const )?(extern \"C\" )?fn "
+    fn_head = "^ *(pub(\\([a-z]+\\))? )?(const )?(unsafe )?(extern \"C\" )?fn "
     const_head = "^ *(pub(\\([a-z]+\\))? )?const [A-Z]"
     list = "cd '" crate "' && find src -name '*.rt' | LC_ALL=C sort"
     while ((list | getline line) > 0) names[++files] = line
     close(list)
+    if (said != "") {
+        at_line = said
+        sub(/^.*:/, "", at_line)
+        sub(/:[0-9]+$/, "", said)
+        place(said, 0, at_line + 0)
+        if (kind == "head" || kind == "function") print "said|" places(item)
+    }
 }
 
 function fault(words) {
-    print program "|fault|" words
+    print "fault|" words
 }
 
 function text_of(file,    line) {
@@ -47,42 +55,58 @@ function home_of(type,    i, n, lines, k) {
     return ""
 }
 
+# places FUNCTION: in which its proof may stand. A function that calls itself is a cycle of one.
+function places(item,    folder, name) {
+    folder = name = item
+    sub(/[^\/]*$/, "", folder)
+    sub(/^.*\//, "", name)
+    return " " item " " folder "+" name (item in cycles ? " " folder "+" cycles[item] : "")
+}
+
 # step FILE LINE: goes on by one line of the formatted source. `item` is what the line is part of, and `kind` says what that is: a
 # function, by its place, in its head or its body; a constant; or nothing of these.
 function begin() {
-    item = kind = type = ""
-    over = 0
+    item = kind = type = cycle = ""
+    over = open_braces = 0
 }
 function step(file, line,    rest) {
     if (over) item = kind = ""
     over = 0
+    sub(/ *\/\/.*/, "", line)
+    if (line ~ /^ *#\[cycle\(/) { cycle = line; sub(/^ *#\[cycle\(/, "", cycle); cycle = word(cycle) }
     if (line ~ /^impl /) { rest = line; sub(/^impl /, "", rest); type = word(rest) }
     if (line ~ fn_head) {
         rest = line
         sub(fn_head, "", rest)
         item = (line ~ /^ / ? home_of(type) type "/" : module_of(file)) word(rest)
         kind = "head"
+        open_braces = 0
+        if (cycle != "") cycles[item] = cycle
+        cycle = ""
     } else if (line ~ const_head && kind == "") {
         rest = line
         sub(/^.*const /, "", rest)
         item = word(rest)
         kind = "constant"
     }
-    if (kind == "head" && (line ~ /^ *\{$/ || line ~ /[^⌝] \{$/)) kind = "function"
+    # A clause has braces of its own, maybe over several lines.
+    if (kind == "head" && (open_braces || line ~ /^ *(requires|ensures|decreases)( |$)/)) open_braces += gsub(/\{/, "{", line) - gsub(/\}/, "}", line)
+    else if (kind == "head" && line ~ /\{(.*\})?$/) { kind = "function"; over = line ~ /\}$/ }
     if (kind == "constant" && line ~ /;$/) over = 1
     if (line == "}") { over = 1; type = "" }
     if (line == "    }" && type != "") over = 1
 }
 
-# place FILE AT: goes on to the line there.
-function place(file, at,    n, lines, k, end) {
+# place FILE AT LINE: goes on to that line, or else to the line there.
+function place(file, at, line,    n, lines, k, end) {
     n = split(text_of(file), lines, "\n")
     begin()
     for (k = 1; k <= n; k++) {
         step(file, lines[k])
         end += length(lines[k]) + 1
-        if (at <= end) return
+        if (line ? k == line : at <= end) return
     }
+    item = kind = ""
 }
 
 # naming CONSTANT: the functions that name it, or a constant that is made of it, become `users`. It is `open` if one does so in its head.
@@ -108,8 +132,7 @@ function change(file, old, new,    text, at, rest, user, count) {
     text = text_of(file)
     at = index(text, old)
     rest = substr(text, at + length(old))
-    if (program == "") fault("a change stands under no name")
-    else if (file !~ /^(src|specs)\//) fault("neither code nor a definition is changed, but " file)
+    if (file !~ /^(src|specs)\//) fault("neither code nor a definition is changed, but " file)
     else if (old == "" || !at) fault("the old text is not in " file)
     else if (index(rest, old)) fault("the old text is more than once in " file)
     else {
@@ -122,26 +145,14 @@ function change(file, old, new,    text, at, rest, user, count) {
             open = count = 0
             naming(item)
             for (user in users) count++
-            for (user in users) print program (count == 1 && !open ? "|function|" : "|shared|") user
+            for (user in users) print (count == 1 && !open ? "function|" : "shared|") places(user)
             if (!count) fault("no function names " item)
-        } else print program (kind == "function" ? "|function|" item : "|shared|*")
+        } else print (kind == "function" ? "function|" places(item) : "shared|*")
         texts[file] = substr(text, 1, at - 1) new rest
     }
 }
 
-function ended() {
-    if (!changes) fault("nothing is changed")
-}
-
-/^# [a-z0-9_]+: ./ {
-    if (program != "") ended()
-    program = word(substr($0, 3))
-    if (program in programs) fault("the name is given twice")
-    programs[program]
-    changes = 0
-    file = ""
-}
 /^file: / { file = substr($0, 7) }
 /^old: / { old = substr($0, 6) }
 /^new:/ { new = substr($0, 5); sub(/^ /, "", new); change(file, old, new); old = "" }
-END { ended() }
+END { if (!changes) fault("nothing is changed") }

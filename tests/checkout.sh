@@ -12,11 +12,11 @@ put() {
     printf '%s\n' "${@:2}" >"$home/$1"
 }
 
-put crates.txt '# what rests on what' low: 'mid: low' 'other: low' 'rakvinje: mid io libc'
+put crates.txt '# what rests on what' low: 'mid: low' 'other: low' 'rakvinje: mid hex csv'
 put crates/low/src/lib.rt 1
 put crates/low/must-fail/wrong.edit old
 put crates/mid/specs/Lib.antt old
-put crates/mid/proofs/f/Proof.antt old
+put crates/mid/proofs/f/Answers.antt old
 put crates/other/src/lib.rt old
 put crates/rakvinje/src/main.rt old
 

@@ -79,8 +79,10 @@ while read -r crate name contract; do
         for definition in "${words[@]}"; do
             [[ $contract == *"$definition"* ]] || fault "the contract of $name of $crate does not cite $definition"
         done
-        clauses=${contract//[^⌜]/}
-        [ "${#words[@]}" -ge "${#clauses}" ] || fault "of the ${#clauses} parts of the contract of $name of $crate not each has a definition"
+        clauses=" $contract"
+        clauses=${clauses// ensures /$'\x01'}
+        clauses=${clauses//[!$'\x01']/}
+        [ "${#words[@]}" -ge "${#clauses}" ] || fault "of the ${#clauses} clauses of the contract of $name of $crate not each has a definition"
     elif [ -n "$contract" ] || ! [[ $row =~ $none ]]; then
         fault "$name of $crate is not in the table of contracts"
     fi
@@ -89,23 +91,18 @@ while read -r crate name; do
     [[ $'\n'$functions == *$'\n'"$crate $name "* ]] || fault "there is no public function $name of $crate"
 done < <(LC_ALL=C awk -F '`' '{ for (i = 4; i < NF; i += 2) if ($(i + 1) ~ /^: /) print $2, $i }' <<<"$contracts")
 
-# As many wrong programs as the page says, crate by crate: those with a name, and a change under it.
+# As many wrong programs as the page says, crate by crate: each edit file is one, if it has a change.
 declare -A programs=()
-while read -r crate number; do
+while read -r number crate; do
     programs[$crate]=$number
-done < <(LC_ALL=C awk '
-    FNR == 1 { split(FILENAME, path, "/"); named = 0 }
-    /^# [a-z0-9_]+: ./ { named = 1 }
-    /^new:/ && named { count[path[2]]++; named = 0 }
-    END { for (crate in count) print crate, count[crate] }
-' crates/*/must-fail/*.edit)
+done < <(grep -l '^new:' crates/*/must-fail/*.edit | cut -d / -f 2 | uniq -c)
 times=$(cells '| Crate | Functions | Check | Wrong programs |')
 wrong=0
 for folder in crates/*/; do
     crate=$(basename "$folder")
     row=$(grep "^\`$crate\`" <<<"$times") || { fault "$crate is not in the table of times"; continue; }
     stated=$(cut -f 4 <<<"$row")
-    stated=${stated%% *}
+    stated=${stated%%[ ,]*}
     found=${programs[$crate]-0}
     wrong=$((wrong + found))
     [ "${stated/none/0}" -le "$found" ] || fault "$crate has $found wrong programs and not $stated"

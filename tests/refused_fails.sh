@@ -1,32 +1,50 @@
 #!/usr/bin/env bash
-# Has rt try edits of two small crates, some of them no wrong programs, and looks that tests/refused.sh tells the ones from the others; and
-# gives it edit files that are none. The last line is 'N passed, M failed'.
-# shellcheck disable=SC2016,SC2317 # Backquotes are what logs have; expect calls the functions.
+# Gives tests/refused.sh what rt prints of edits of some crates, as it prints it, shortened: of wrong programs that are refused for what they
+# do, and of such as are not; and edit files that are none. The last line is 'N passed, M failed'.
+# shellcheck disable=SC2016,SC2317 # Backquotes are what rt prints; expect calls the functions.
 set -u
 cd "$(dirname "$0")/.." || exit 2
 # shellcheck source=tests/expect.sh
 . tests/expect.sh
 home=$room/checkout
 
-# crates NAME...: a checkout with these, without their edits.
+# crates NAME...: a checkout with these, without their edits, of which rt has printed nothing.
 crates() {
     local crate
     rm -rf "$home"
     for crate in "$@"; do
         mkdir -p "$home/crates/$crate/must-fail"
-        cp -r "crates/$crate/"{src,specs,proofs} "$home/crates/$crate" || exit 2
-        grep "^$crate:" crates.txt >>"$home/crates.txt"
+        cp -r "crates/$crate/src" "$home/crates/$crate" || exit 2
+    done
+    : >"$room/rt"
+}
+
+# takes CRATE/NAME...: the edits of the checkout with these names.
+takes() {
+    local edit
+    for edit in "$@"; do
+        cp "crates/${edit%/*}/must-fail/${edit#*/}.edit" "$home/crates/${edit%/*}/must-fail" || exit 2
     done
 }
 
-# edit CRATE/FILE: standard input as an edit file.
+# edit CRATE/NAME: standard input as an edit.
 edit() {
     cat >"$home/crates/${1%/*}/must-fail/${1#*/}.edit"
 }
 
+# prints CRATE/NAME WORDS: as rt prints its word on an edit. refuses: that it was refused, with the reason. A later one takes an earlier one's place.
+prints() {
+    sed -i "\\|^rt: must-fail $1[.]edit: |d" "$room/rt"
+    echo "rt: must-fail $1.edit: $2" >>"$room/rt"
+}
+
+refuses() {
+    prints "$1" "refused, as it must be: $2"
+}
+
 judged() {
     local status=0 printed
-    printed=$(bash tests/refused.sh "$home") || status=1
+    printed=$(bash tests/refused.sh "$room/rt" "$home") || status=1
     LC_ALL=C sort <<<"$printed"
     return "$status"
 }
@@ -36,236 +54,133 @@ says() {
     expect "$1" "$(printf '%s\n' "${@:2}" | LC_ALL=C sort)" '' judged
 }
 
-# lacks CRATE/FILE PROGRAM FUNCTION: the line for a program that has no error of its own.
-lacks() {
-    echo "FAILED: ${1%/*}/$2: no error of its own in target/must-fail/$1/.log; it changes $3"
+# tells WORDS: refused.sh fails, and says this among other words.
+tells() {
+    ! judged >"$room/judged" && grep -oF -- "$1" "$room/judged"
 }
 
-# Wrong programs of callers and callees, with proof files and without, and one of a definition: each is refused by itself.
-crates runs letters stateset
-cat >>"$home/crates/stateset/src/lib.rt" <<'END'
-
-pub fn either(a: u64, b: u64) -> u64
-    ensures { λ r. ⌜ r ≡ bitOr a b ⌝ }
-{
-    union(a, b)
+# elsewhere CRATE/NAME PLACE PLACES: the line for a program of which a fact of another function is refused.
+elsewhere() {
+    echo "FAILED: crates/${1%/*}/must-fail/${1#*/}.edit: the fact stands in $2; it changes $3"
 }
-END
-edit letters/wrong <<'END'
-# one_way: folding one way only
-file: src/lib.rt
-old:         return b - 32;
-new:         return b - 0;
 
-# fold_late: folding after the complement
-file: src/lib.rt
-old:         Case::Ignored => (set[b as usize] | set[other_case(b) as usize]) != negated,
-new:         Case::Ignored => (set[b as usize] != negated) | (set[other_case(b) as usize] != negated),
-END
-edit letters/defined <<'END'
-# no_folding: with case ignored a set has what it had
-file: specs/Letters.antt
-old: folded Case.Ignored X k = X k || X (otherCase k)
-new: folded Case.Ignored X k = X k
-END
-edit stateset/wrong <<'END'
-# union_apart: what both have is left out
-file: src/lib.rt
-old:     a | b
-new:     a ^ b
+no_fact() {
+    echo "FAILED: crates/${1%/*}/must-fail/${1#*/}.edit: no fact of it is refused: $2"
+}
 
-# either_first: the second set is left out
-file: src/lib.rt
-old:     union(a, b)
-new:     union(a, a)
-END
-# Right programs beside wrong ones: one that is proved as it is, and two callers that are refused for their callee alone.
-edit letters/callee <<'END'
-# one_back: folding one way only
-file: src/lib.rt
-old:         return b - 32;
-new:         return b - 1;
+# line CRATE/FILE TEXT: the number of the line there that has this text.
+line() {
+    grep -nF -- "$2" "$home/crates/${1%%/*}/src/${1#*/}" | head -n 1 | cut -d : -f 1
+}
 
-# set_same: the same set
-file: src/lib.rt
-old:         Case::Sensitive => set[b as usize] != negated,
-new:         Case::Sensitive => (set[b as usize]) != negated,
-END
-edit stateset/callee <<'END'
-# union_none: the empty set
-file: src/lib.rt
-old:     a | b
-new:     a & 0
+search='`search`: no proof of `mathlib.Core.Path.◌≡◌ (Prim.Native.Nat.◌-◌ c.args.b 0) (Rattle.letters.specs.Letters.other_case c.args.b)` was found'
+ensures='it is not proved that what the function ensures holds when it returns (`returns`); the facts known there allow values at which this goal is false'
 
-# either_same: the same sets
-file: src/lib.rt
-old:     union(a, b)
-new:     union((a), b)
+# Wrong programs with a proof file and without: each is refused for a fact of the function that it changes.
+crates letters stateset
+takes letters/one_way letters/fold_late stateset/union_apart stateset/image_high
+refuses letters/one_way './proofs/other_case/Answers.antt:16:22: error: `returns-then-b-2`: '"$search"
+refuses letters/fold_late './proofs/in_set/Answers.antt:9:24: error: `returns-in-Ignored`: '"$search"
+refuses stateset/union_apart "note: src/lib.rt:$(line stateset/lib.rt 'pub fn union'):1: $ensures"
+refuses stateset/image_high './proofs/image/Answers.antt:17:85: error: `loop-y-init`: as printed, the two types differ only where one has `2147483647`'
+says 0 '4 passed, 0 failed'
+refuses stateset/image_high './proofs/image/Invariants.antt:17:85: error: `loop-y-init`: `omega`: `c.loop-y.y < 32` does not follow from what is known'
+says 0 '4 passed, 0 failed'
+refuses stateset/image_high './proofs/image/Proof.antt:17:85: error: `returns`: expected type `◌≡◌ a b`, but this has type `◌≡◌ a c`'
+says 0 '4 passed, 0 failed'
+refuses stateset/image_high "note: src/lib.rt:$(line stateset/lib.rt 'count_ones'):5: it is not proved that the sum fits its type (\`overflow_add-y\`)"
+says 1 "$(elsewhere stateset/image_high "src/lib.rt:$(line stateset/lib.rt 'count_ones')" 'image +image')" '3 passed, 1 failed'
 
-# meets_same: the same sets
-file: src/lib.rt
-old:     (a & b) != 0
-new:     ((a & b)) != 0
-END
-# A right program that only the names of places in the proof do not fit.
-edit letters/places <<'END'
-# other_named: the difference has a name
-file: src/lib.rt
-old:         return b - 32;
-new:         let small = b - 32; return small;
-END
-(cd "$home" && rt must-fail) >"$room/rt" 2>&1 || cat "$room/rt"
-says 1 \
-    "$(lacks letters/callee set_same in_set)" \
-    "$(lacks letters/places other_named other_case)" \
-    "$(lacks stateset/callee either_same either)" \
-    "$(lacks stateset/callee meets_same meets)" \
-    '7 passed, 4 failed'
-
-# What else a check can say of a function, without a fact of it being refused; as logs have it, shortened. Then a fact of another function, and one
-# of its own.
+# A fact of another function, of a law, and of no function.
 crates letters
-edit letters/said <<'END'
-# one_way: folding one way only
-file: src/lib.rt
-old:         return b - 32;
-new:         return b - 0;
-END
-log=$home/target/must-fail/letters/said
-mkdir -p "$log"
+takes letters/one_way
+refuses letters/one_way './proofs/in_set/Answers.antt:9:24: error: `returns-in-Ignored`: '"$search"
+says 1 "$(elsewhere letters/one_way proofs/in_set 'other_case +other_case')" '0 passed, 1 failed'
+refuses letters/one_way "note: src/lib.rt:$(line letters/lib.rt 'pub fn in_set'):1: $ensures"
+says 1 "$(elsewhere letters/one_way "src/lib.rt:$(line letters/lib.rt 'pub fn in_set')" 'other_case +other_case')" '0 passed, 1 failed'
+refuses letters/one_way "note: src/lib.rt:$(line letters/lib.rt 'pub enum Case'):1: $ensures"
+says 1 "$(elsewhere letters/one_way "src/lib.rt:$(line letters/lib.rt 'pub enum Case')" 'other_case +other_case')" '0 passed, 1 failed'
+refuses letters/one_way './proofs/Laws.antt:9:24: error: `in-ignored`: '"$search"
+says 1 "$(elsewhere letters/one_way proofs/Laws 'other_case +other_case')" '0 passed, 1 failed'
 
-# error FUNCTION WORDS: a line of the log.
-error() {
-    printf '%s/proofs/%s/Proof.antt:13:14: error: `returns`: %s\n' "$log" "$1" "$2"
-}
-
-for words in 'record `Lts.After-shared-slice-known`' 'give the call less to do: list the lemma that is meant' \
-    'expected type `tie.Need-sub-t12`, but this has type `tie.Need-returns`' '`close` was not admitted'; do
-    error other_case "$words" >"$log/.log"
-    says 1 "$(lacks letters/said one_way other_case)" '0 passed, 1 failed'
+# What else a check can say of the function, without a fact of it being refused.
+for words in '`returns`: record `goal.After-s`' '`returns`: give the call less to do: list the lemma that is meant' '`close` was not admitted' \
+    '`returns`: expected type `goal.returns-then-b`, but this has type `goal.returns`' 'no clause covers 2 cases' \
+    '`returns`: expected type `Rattle.letters.proofs.other_case.Goals.returns`, but this has type `ℕ`'; do
+    refuses letters/one_way "./proofs/other_case/Answers.antt:13:14: error: $words"
+    says 1 "$(no_fact letters/one_way "./proofs/other_case/Answers.antt:13:14: error: $words")" '0 passed, 1 failed'
 done
-fact='`search`: no proof of `reads.Post` was found'
-error in_set "$fact" >"$log/.log"
-says 1 "$(lacks letters/said one_way other_case)" '0 passed, 1 failed'
-error other_case "$fact" >>"$log/.log"
-says 0 '1 passed, 0 failed'
+words='(only because a proof file names what the edit took away, so this says little of the contract: change a value and keep the names): ./proofs/other_case/Answers.antt:13:14: error: x has no field'
+prints letters/one_way "refused, as it must be $words"
+says 1 "$(no_fact letters/one_way "${words:1:200}")" '0 passed, 1 failed'
+words='(only by a limit of the prover, which gave no verdict, so this says less of the contract: choose a change that it refuses sooner): ./proofs/other_case/Answers.antt:13:14: error: `search`'
+prints letters/one_way "refused, as it must be $words"
+says 1 "$(no_fact letters/one_way "${words:1:200}")" '0 passed, 1 failed'
+prints letters/one_way 'refused, as it must be'
+says 1 "$(no_fact letters/one_way '')" '0 passed, 1 failed'
 
-says_line() {
-    ! judged >"$room/judged" && grep -Fx -- "$1" "$room/judged"
-}
+# What is no refusal.
+for words in "BAD EDIT: an 'old:' text is in src/lib.rt 0 times, and not once" 'NOT REFUSED: the crate is still proved with this edit' \
+    'NOT TRIED: its check was killed'; do
+    prints letters/one_way "$words"
+    says 1 "FAILED: crates/letters/must-fail/one_way.edit: $words" '0 passed, 1 failed'
+done
+: >"$room/rt"
+says 1 'FAILED: crates/letters/must-fail/one_way.edit: rt has not tried it' '0 passed, 1 failed'
 
-# faulty CRATE WORDS: with standard input as its edit file, refused.sh says these words of it.
+# Functions that call one another have a proof in one folder; a method's is that of its type's module.
+crates reach brackets
+takes reach/reach_twice reach/reach_misses brackets/bracket_back brackets/escape_place
+refuses reach/reach_twice './proofs/listing/+enter_enter_items/Answers.antt:9:24: error: `enter.returns`: '"$search"
+refuses reach/reach_misses "note: src/listing.rt:$(line reach/listing.rt 'fn enter_items'):1: $ensures"
+refuses brackets/bracket_back './proofs/cursor/AtomCursor/atom/Answers.antt:9:24: error: `returns`: '"$search"
+refuses brackets/escape_place "note: src/atom.rt:$(line brackets/atom.rt 'return AtomRead::At(self.past(2))'):13: $ensures"
+says 0 '4 passed, 0 failed'
+refuses brackets/bracket_back './proofs/atom/AtomCursor/atom/Answers.antt:9:24: error: `returns`: '"$search"
+says 1 "$(elsewhere brackets/bracket_back proofs/atom/AtomCursor/atom 'cursor/AtomCursor/atom cursor/AtomCursor/+atom')" '3 passed, 1 failed'
+
+# A constant is a change of each function that names it, and what everyone sees is one of any.
+crates depth stateset
+takes depth/not_capped
+refuses depth/not_capped './proofs/unmatched/repeated/Answers.antt:9:24: error: `returns`: '"$search"
+edit stateset/union_promised <<'END'
+file: src/lib.rt
+old:     ensures { result ≡ bit_or a b }
+new:     ensures { result ≡ bit_and a b }
+END
+refuses stateset/union_promised './proofs/within/Answers.antt:9:24: error: `returns`: '"$search"
+says 0 '2 passed, 0 failed'
+refuses depth/not_capped './proofs/words/below/Answers.antt:9:24: error: `returns`: '"$search"
+place='crates/depth/must-fail/not_capped.edit: the fact stands in proofs/words/below; it changes '
+expect 0 "$place" '' tells "$place"
+
+# faulty WORDS: with standard input as an edit of stateset, refused.sh says these words of it.
 faulty() {
-    local line="FAILED: crates/$1/must-fail/one.edit: $2"
-    crates "$1"
-    edit "$1/one"
-    expect 0 "$line" '' says_line "$line"
+    local line="FAILED: crates/stateset/must-fail/one.edit: $1"
+    crates stateset
+    edit stateset/one
+    refuses stateset/one "note: src/lib.rt:$(line stateset/lib.rt 'pub fn only'):1: $ensures"
+    expect 0 "$line" '' tells "$line"
 }
 
-faulty letters 'rt has not tried it' <<'END'
-# one_way: folding one way only
-file: src/lib.rt
-old:         return b - 32;
-new:         return b - 0;
-END
-faulty letters 'at_sign and one_way both change other_case' <<'END'
-# at_sign: a byte that is no letter is folded
-file: src/lib.rt
-old:     if (65 <= b) & (b <= 90) {
-new:     if (64 <= b) & (b <= 90) {
-
-# one_way: folding one way only
-file: src/lib.rt
-old:         return b - 32;
-new:         return b - 0;
-END
-faulty reach 'reach_twice and reach_misses both change listing/+enter+enter_items' <<'END'
-# reach_twice: a macro is listed each time that the run enters it
-file: src/listing.rt
-old:     marks[i] = true;
-new:     marks[i] = false;
-
-# reach_misses: what a macro's first item calls is missed
-file: src/listing.rt
-old:     for k in 0..count {
-new:     for k in 1..count {
-END
-faulty brackets 'bracket_back and escape_place both change cursor/AtomCursor/atom' <<'END'
-# bracket_back: a bracket is read from one byte too far back, its own `[`
-file: src/atom.rt
-old:             return self.past(1).bracket(s, case, states, keys);
-new:             return self.past(0).bracket(s, case, states, keys);
-
-# escape_place: the place behind an escaped byte is the byte itself
-file: src/atom.rt
-old:             return AtomRead::At(self.past(2));
-new:             return AtomRead::At(self.past(1));
-END
-faulty depth 'not_capped changes what other functions see, and is not alone' <<'END'
-# not_capped: a run may have 2^64 - 2 keys
-file: src/unmatched.rt
-old: pub(crate) const LONGEST: u64 = 0x4000_0000_0000_0000;
-new: pub(crate) const LONGEST: u64 = 0xffff_ffff_ffff_fffe;
-
-# ones_complement: the word of a negative depth is one less than it should be
-file: src/words.rt
-old:         return 0xffff_ffff_ffff_ffff - (b - a - 1);
-new:         return 0xffff_ffff_ffff_ffff - (b - a - 0);
-END
-faulty stateset 'union_promised changes what other functions see, and is not alone' <<'END'
-# union_promised: another contract
-file: src/lib.rt
-old:     ensures { λ r. ⌜ r ≡ bitOr a b ⌝ }
-new:     ensures { λ r. ⌜ r ≡ bitAnd a b ⌝ }
-
-# only_next: a set that has the next number
-file: src/lib.rt
-old: 1 << p
-new: 2 << p
-END
-faulty stateset 'a change stands under no name' <<'END'
-# a set that has the next number
-file: src/lib.rt
-old: 1 << p
-new: 2 << p
-END
-faulty stateset 'meets_said: neither code nor a definition is changed, but proofs/meets/Proof.antt' <<'END'
-# meets_said: another answer
-file: proofs/meets/Proof.antt
+faulty 'neither code nor a definition is changed, but proofs/meets/Answers.antt' <<'END'
+file: proofs/meets/Answers.antt
 old: returns c =
 new: returns d =
 END
-faulty stateset 'only_next: the old text is not in src/lib.rt' <<'END'
-# only_next: a set that has the next number
+faulty 'the old text is not in src/lib.rt' <<'END'
 file: src/lib.rt
 old: 1 << q
 new: 2 << q
 END
-faulty stateset 'only_next: the old text is more than once in src/lib.rt' <<'END'
-# only_next: a set that has the next number
+faulty 'the old text is more than once in src/lib.rt' <<'END'
 file: src/lib.rt
-old: 1 <<
-new: 2 <<
+old: fn
+new: fn 
 END
-faulty stateset 'only_next: nothing is changed' <<'END'
-# only_next: a set that has the next number
+faulty 'nothing is changed' <<'END'
+# the size of the full set
 file: src/lib.rt
-
-# size_full: the set of all numbers counts none
-file: src/lib.rt
-old: u64::count_ones(a) as u64
-new: u64::count_ones(a) as u64 & 63
 END
-faulty stateset 'only_next: the name is given twice' <<'END'
-# only_next: a set that has the next number
-file: src/lib.rt
-old: 1 << p
-new: 2 << p
-
-# only_next: the set of all numbers counts none
-file: src/lib.rt
-old: u64::count_ones(a) as u64
-new: u64::count_ones(a) as u64 & 63
-END
-faulty stateset 'nothing is changed' </dev/null
+faulty 'nothing is changed' </dev/null
 finish
