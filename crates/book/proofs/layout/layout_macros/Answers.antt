@@ -1,5 +1,4 @@
 -- `layout_macros`. Invariant: n macros were read, their offsets stand in the table, and reading goes on behind the last.
-use Prim.Native.Nat.{◌-◌}
 use native.Mathlib.Omega.{arith}
 use Rattle.book.proofs.Laid.{laid_none, laid-refused, laid_more, laid-left, laid_end}
 use Rattle.book.proofs.layout.layout_macros.Goals as goal

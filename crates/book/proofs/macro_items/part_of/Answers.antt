@@ -1,7 +1,6 @@
 -- `part_of`: each way out is a case of whether macro i has a place.
 use native.Mathlib.Omega.{arith}
 use Rattle.book.proofs.Bodies.{part-high, part_none, part_out, part_placed, no_part, some-part}
-use borrow.Author.Rules.{rules}
 use Rattle.book.proofs.macro_items.part_of.Goals as goal
 
 pub returns-then-i-ge1024 : goal.returns-then-i-ge1024
@@ -15,14 +14,6 @@ returns-then-end-count c = let both = let b = c.args.book.now in let o = c.args.
 
 pub returns-then-book-end : goal.returns-then-book-end
 returns-then-book-end c = let both = let b = c.args.book.now in let o = c.args.offsets.now in no_part b o c.args.i c.args.book.ref_ptr (part_out b o c.args.i (omega arith) (omega arith) (omega arith)) in record { part = both.0; place = both.1 }
-
--- LOST slice-bounds-result-start
--- part-result-start : tie.Need-slice-bounds-result-start
--- part-result-start c = search rules
-
--- LOST slice-bounds-result-end
--- part-result-end : tie.Need-slice-bounds-result-end
--- part-result-end c = search rules
 
 pub returns : goal.returns
 returns c = let both = let b = c.args.book.now in let o = c.args.offsets.now in some-part b o c.args.i c.args.book.ref_ptr (part_placed b o c.args.i (omega arith) (omega arith) (omega arith)) in record { part = both.0; place = both.1 }

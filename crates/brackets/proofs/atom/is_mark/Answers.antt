@@ -1,8 +1,6 @@
 -- `is_mark`. Invariant: the marks that are left hold the byte exactly if all twelve do.
-use Prim.Native.Nat.{◌-◌}
 use native.Mathlib.Omega.{arith}
 use mathlib.Core.Path.{refl}
-use borrow.Author.Rules.{rules}
 use Rattle.brackets.specs.Form.{marks}
 use Rattle.brackets.proofs.Atoms.{search-here, search-on, search-end}
 use Rattle.runs.specs.Keys.{member}
@@ -10,10 +8,6 @@ use Rattle.brackets.proofs.atom.is_mark.Goals as goal
 
 pub loop-i-init : goal.loop-i-init
 loop-i-init c = (omega arith, refl)
-
--- LOST array-read-if1
--- array-read-if1 : tie.Need-array-read-if1 invariant-loop decreases-loop
--- array-read-if1 c = search rules
 
 pub returns-then-b-i : goal.returns-then-b-i
 returns-then-b-i c = let b = c.args.b in search-here marks b c.loop-i.i (member b marks) c.loop-i.invariant.1 (omega arith) c.if-b-i.true

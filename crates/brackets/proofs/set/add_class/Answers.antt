@@ -1,5 +1,4 @@
 -- `add_class`. Invariant: the ranges from j on add what is left of the class.
-use Prim.Native.Nat.{◌-◌}
 use Rattle.brackets.proofs.Ranges.{ranges-first, ranges-on, ranges-end}
 use Rattle.brackets.proofs.set.add_class.Goals as goal
 

@@ -1,5 +1,4 @@
 -- `add_range`. Invariant: the entries below k are as the range says.
-use Prim.Native.Nat.{◌-◌}
 use borrow.Author.Rules.{rules}
 use Rattle.brackets.proofs.Adding.{range-first, range-on, range_last}
 use Rattle.brackets.proofs.set.add_range.Goals as goal

@@ -1,5 +1,4 @@
 -- `store`. Invariant: the words of the keys below k are as the set says.
-use Prim.Native.Nat.{◌-◌}
 use Rattle.brackets.proofs.Adding.{keys-first, keys_in_lem, keys-out, keys-last}
 use Rattle.brackets.proofs.set.store.Goals as goal
 use Rattle.brackets.proofs.set.store.Goals.{then-has_key, else-has_key}

@@ -8,14 +8,6 @@ use Rattle.command.proofs.input.answer_in.Goals as goal
 pub returns-then-input-gt-LONGEST : goal.returns-then-input-gt-LONGEST
 returns-then-input-gt-LONGEST c = search (answer-long)
 
--- LOST slice-bounds-last-in-start
--- part-last-in-start : tie.Need-slice-bounds-last-in-start
--- part-last-in-start c = search rules
-
--- LOST slice-bounds-last-in-end
--- part-last-in-end : tie.Need-slice-bounds-last-in-end
--- part-last-in-end c = search rules
-
 pub slice_bounds-last_in-end-2 : goal.slice_bounds-last_in-end-2
 slice_bounds-last_in-end-2 c = simp length-take (omega arith)
 

@@ -14,14 +14,6 @@ overflow_add-steps c = search (items-room)
 pub bounds-codes-k : goal.bounds-codes-k
 bounds-codes-k c = omega (arith, c.requires.few)
 
--- LOST overflow-mul-t22
--- mul-t22 : tie.Need-overflow-mul-t22 invariant-loop decreases-loop
--- mul-t22 c = search rules
-
--- LOST array-read-t25
--- array-read-t25 : tie.Need-array-read-t25 invariant-loop decreases-loop
--- array-read-t25 c = search rules
-
 pub overflow_add-k : goal.overflow_add-k
 overflow_add-k c = omega arith
 

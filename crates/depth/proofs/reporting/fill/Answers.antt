@@ -1,5 +1,4 @@
 -- `reporting::fill`: the words of the first i macros stand in front, and the words behind them are untouched.
-use Prim.Native.Nat.{◌-◌}
 use native.Mathlib.Omega.{arith}
 use Rattle.depth.proofs.BookLaws.{fill_start, macro-at, fill-room, place-fits, next_fits, fill_on, fill_done}
 use Rattle.depth.proofs.reporting.fill.Goals as goal

@@ -1,5 +1,4 @@
 -- `reporting::of_macro`: what is kept is that of the items so far.
-use Prim.Native.Nat.{◌-◌}
 use native.Mathlib.Omega.{arith}
 use Rattle.depth.proofs.BookLaws.{items-start, item-few, item-place, item-ready, item-stands, all-sized, this-sized, passes-sized, items-on, items-done}
 use Rattle.depth.proofs.reporting.of_macro.Goals as goal

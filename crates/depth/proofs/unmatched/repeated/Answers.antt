@@ -1,11 +1,6 @@
 -- `unmatched::repeated`: a run that becomes too long is not kept; else one sort of keys without a partner becomes more.
 use Rattle.depth.proofs.CodeLaws.{passes-long, length-fits, closings-fit, closings-sum, closings-more, openings-fit, openings-sum, openings-more}
-use borrow.Author.Rules.{rules}
 use Rattle.depth.proofs.unmatched.repeated.Goals as goal
-
--- LOST nonzero-div-if1
--- div-if1 : tie.Need-nonzero-div-if1
--- div-if1 c = search rules
 
 pub returns-then-passes-u : goal.returns-then-passes-u
 returns-then-passes-u c = search (passes-long)

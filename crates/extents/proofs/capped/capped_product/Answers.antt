@@ -6,10 +6,6 @@ use Rattle.extents.proofs.capped.capped_product.Goals as goal
 pub returns-then-n-eq0 : goal.returns-then-n-eq0
 returns-then-n-eq0 c = search (product-none)
 
--- LOST nonzero-div-if2
--- div-if2 : tie.Need-nonzero-div-if2
--- div-if2 c = search rules
-
 pub returns-then-n-a : goal.returns-then-n-a
 returns-then-n-a c = search (product-over)
 

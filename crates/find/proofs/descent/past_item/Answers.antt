@@ -3,14 +3,6 @@ use Rattle.find.proofs.DescentLaws.{past-item}
 use borrow.Author.Rules.{rules}
 use Rattle.find.proofs.descent.past_item.Goals as goal
 
--- LOST slice-bounds-item-extent-start
--- part-item-extent-start : tie.Need-slice-bounds-item-extent-start
--- part-item-extent-start c = search rules
-
--- LOST slice-bounds-item-extent-end
--- part-item-extent-end : tie.Need-slice-bounds-item-extent-end
--- part-item-extent-end c = search rules
-
 pub returns : goal.returns
 returns c =
     past-item c.pass_of-pass.ensures c.skip-skipped.ensures c.item_extent-one.ensures c.repeated_extent.ensures c.joined_extents-extent.ensures

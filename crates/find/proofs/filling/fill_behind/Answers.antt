@@ -10,14 +10,6 @@ offset_bounds-work-base c = omega (arith, behind-room c.requires)
 pub slice_bounds-fill_extents-count : goal.slice_bounds-fill_extents-count
 slice_bounds-fill_extents-count c = search (behind-room)
 
--- LOST slice-bounds-fill-extents-start
--- part-fill-extents-start : tie.Need-slice-bounds-fill-extents-start
--- part-fill-extents-start c = search (behind-room)
-
--- LOST slice-bounds-fill-extents-end
--- part-fill-extents-end : tie.Need-slice-bounds-fill-extents-end
--- part-fill-extents-end c = search rules
-
 pub fill_extents-requires : goal.fill_extents-requires
 fill_extents-requires c = search (behind-fits)
 

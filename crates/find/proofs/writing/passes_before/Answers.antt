@@ -9,10 +9,6 @@ returns-then-ends-eq0 c = search (laws.before-none)
 pub returns-then-each-eq0 : goal.returns-then-each-eq0
 returns-then-each-eq0 c = search (laws.before-all)
 
--- LOST nonzero-div-whole
--- div-whole : tie.Need-nonzero-div-whole
--- div-whole c = search rules
-
 pub returns-then-whole-n : goal.returns-then-whole-n
 returns-then-whole-n c = search (laws.before-some)
 

@@ -33,8 +33,7 @@ enter_items-bounds-items-k t c = search laws.turn-few
 
 pub enter_items-enter-listed-requires : goal.enter_items-enter-listed-requires
 enter_items-enter-listed-requires t c =
-    let lower = laws.turn-lower _ _ _ _ _ _ c.requires _ c.codes_of-items.ensures _ _ _ _ c.loop-k.invariant c.loop-k-test.true _ c.item_of.ensures _ c.in-Call.is in
-    (
+    let lower = laws.turn-lower _ _ _ _ _ _ c.requires _ c.codes_of-items.ensures _ _ _ _ c.loop-k.invariant c.loop-k-test.true _ c.item_of.ensures _ c.in-Call.is in (
       omega (arith, lower),
       laws.turn-enters _ _ _ _ _ _ c.requires _ c.codes_of-items.ensures _ _ _ _ c.loop-k.invariant c.loop-k-test.true _ c.item_of.ensures _ c.in-Call.is,
     )
@@ -42,10 +41,10 @@ enter_items-enter-listed-requires t c =
 pub enter_items-loop-k-preserved : goal.enter_items-loop-k-preserved
 enter_items-loop-k-preserved t c =
     elim c.match-item_of.branch [
-      enter_items-in-Call w ↦
-        rw (w.marks-is, w.list-is, w.listed-is) (laws.turn-call _ _ _ _ _ _ c.requires _ c.codes_of-items.ensures _ _ _ _ c.loop-k.invariant c.loop-k-test.true _ c.item_of.ensures _ w.in-Call.is w.enter-listed.ensures)
-    | enter_items-in_default w ↦
-        rw (w.marks-is, w.list-is, w.listed-is) (laws.turn-key _ _ _ _ _ _ c.requires _ c.codes_of-items.ensures _ _ _ _ c.loop-k.invariant c.loop-k-test.true _ c.item_of.ensures _ w.in_default.is)
+      | enter_items-in-Call w ↦
+          rw (w.marks-is, w.list-is, w.listed-is) (laws.turn-call _ _ _ _ _ _ c.requires _ c.codes_of-items.ensures _ _ _ _ c.loop-k.invariant c.loop-k-test.true _ c.item_of.ensures _ w.in-Call.is w.enter-listed.ensures)
+      | enter_items-in_default w ↦
+          rw (w.marks-is, w.list-is, w.listed-is) (laws.turn-key _ _ _ _ _ _ c.requires _ c.codes_of-items.ensures _ _ _ _ c.loop-k.invariant c.loop-k-test.true _ c.item_of.ensures _ w.in_default.is)
     ]
 
 pub enter_items-returns : goal.enter_items-returns

@@ -1,5 +1,4 @@
 -- `AtomCursor::elements`. Invariant: what is done from here is done from the start.
-use Prim.Native.Nat.{◌-◌}
 use Rattle.brackets.proofs.Bracketed.{going-first, going_end, going-closed, going-fault, going_on}
 use Rattle.brackets.proofs.Taken.{found-known, found-less}
 use Rattle.brackets.proofs.cursor.AtomCursor.elements.Goals as goal

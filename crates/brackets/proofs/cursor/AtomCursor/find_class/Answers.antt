@@ -1,5 +1,4 @@
 -- `AtomCursor::find_class`. Invariant: the classes from c on decide as all twelve do.
-use Prim.Native.Nat.{◌-◌}
 use mathlib.Core.Path.{refl}
 use Rattle.brackets.proofs.Classes.{find-end, find-found, find-on}
 use Rattle.brackets.proofs.cursor.AtomCursor.find_class.Goals as goal

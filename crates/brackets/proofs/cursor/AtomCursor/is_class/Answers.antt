@@ -1,5 +1,4 @@
 -- `AtomCursor::is_class`. Invariant: the bytes from j on decide as the whole name does.
-use Prim.Native.Nat.{◌-◌}
 use borrow.Author.Rules.{rules}
 use Rattle.brackets.proofs.Classes.{name-first, name-other, name-on, name-end}
 use Rattle.brackets.proofs.cursor.AtomCursor.is_class.Goals as goal
