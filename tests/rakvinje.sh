@@ -50,6 +50,11 @@ expect 0 'lines 24 steps 7225' '' "$r" count 'HOIST|HAZE|BLACKOUT' "$arena" 170
 expect 0 'lines 2 steps 17' '' "$r" count B <(slowly "$small")
 cp "$small" "$room/a book"
 expect 0 'lines 2 steps 17' '' "$r" count B "$room/a book"
+# A name that is not UTF-8; the program opens none, so the book is handed over.
+cp "$small" "$room/"$'a\377book'
+expect 0 'lines 2 steps 17' '' "$r" count B "$room/"$'a\377book' 1
+expect 0 "$(listed 1 0)" '' "$r" reach "$room/"$'a\377book'
+expect 2 '' "$room/"$'no\377book: No such file or directory' "$r" check "$room/"$'no\377book'
 ln -s "$PWD/rakvinje" "$room/link"
 expect 0 'lines 2 steps 17' '' env -C / "$room/link" count B "$PWD/$small"
 
