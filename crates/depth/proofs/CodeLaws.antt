@@ -138,6 +138,9 @@ pub call-room : (work : List ℕ) {item : Item} {j : ℕ} → InWords work item 
 unfolding InWords
 call-room work {item} {j} h e = rw e at h
 
+-- for every call of `load` in `of_item`
+pub ruleset call_rules = (call-room)
+
 -- The words that are stored.
 pub stored-words : (work : List ℕ) (at : ℕ) (u : Unmatched) {end lowest : ℕ} → at + width ≤ length work → end ≡ word (sub_ℕ u.openings u.closings) → lowest ≡ word (sub_ℕ 0 u.closings)
     → set (set (set work at u.length) (at + 1) end) (at + 2) lowest ≡ stored_at work at u

@@ -22,6 +22,7 @@ pub enum DepthReport {
 }
 
 // One item; a called macro's words stand in the work words.
+#[tactic(auto, using(crate::proofs::CodeLaws::call_rules))]
 fn of_item(item: Item, keys: Delimiters, work: &[u64]) -> Unmatched
     requires { InWords work.now item }
     ensures { result ≡ item_unmatched keys work.now item }

@@ -1,9 +1,6 @@
 -- `reporting::of_item`: a key itself, or the words of a called macro.
-use Rattle.depth.proofs.CodeLaws.{item-key, item-call, call-room}
+use Rattle.depth.proofs.CodeLaws.{item-key, item-call}
 use Rattle.depth.proofs.reporting.of_item.Goals as goal
-
-pub load-requires : goal.load-requires
-load-requires c = search (call-room)
 
 pub returns-in-Key : goal.returns-in-Key
 returns-in-Key c = search (item-key)
