@@ -62,6 +62,6 @@ pub(crate) fn line_text(found: LineAnswer, line: &[u8; BUFFER], out: &mut [u8; S
     }
 }
 
-pub fn write_shown(rt: &HostRuntime, out: &[u8; SHOWN], n: usize) {
-    write_front(rt, out, n);
+pub fn write_shown(rt: &HostRuntime, out: &[u8; SHOWN], n: usize) -> bool {
+    write_front(rt, out, n)
 }

@@ -3,13 +3,17 @@ use crate::line::LINE;
 use crate::list::LISTING;
 use files::say_failure;
 
-// The first n bytes of a buffer on standard output. What fails is said on standard error.
-pub fn write_front(rt: &HostRuntime, out: &[u8], n: usize) {
+// The first n bytes of a buffer on standard output, and whether they were written. What fails is said on standard error.
+pub fn write_front(rt: &HostRuntime, out: &[u8], n: usize) -> bool {
     if out.len() < n {
-        return;
+        return false;
     }
-    if let Err(error) = rt.write_all(&out[..n]) {
-        say_failure(rt, b"standard output", error);
+    match rt.write_all(&out[..n]) {
+        Ok(()) => true,
+        Err(error) => {
+            say_failure(rt, b"standard output", error);
+            false
+        }
     }
 }
 

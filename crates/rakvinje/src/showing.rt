@@ -23,7 +23,8 @@ struct Range {
     count: u64,
 }
 
-// Prints an answer, and says what it means; answers whether there may be a next line. Behind the first line the end of them is no refusal.
+// Prints an answer, and says what it means; answers whether there may be a next line, which nobody reads where this one could not be written.
+// Behind the first line the end of them is no refusal.
 fn told(
     rt: &HostRuntime,
     found: LineAnswer,
@@ -32,14 +33,11 @@ fn told(
     first: bool,
 ) -> bool {
     match found {
-        LineAnswer::Shown(_, _) => {
-            write_shown(rt, out, length);
-            true
-        }
+        LineAnswer::Shown(_, _) => write_shown(rt, out, length),
         LineAnswer::Long(_, _) => {
-            write_shown(rt, out, length);
+            let written = write_shown(rt, out, length);
             say::long_line(rt);
-            true
+            written
         }
         LineAnswer::Refused(r) => {
             if first {
