@@ -97,13 +97,14 @@ function step(file, line,    rest) {
     if (line == "    }" && type != "") over = 1
 }
 
-# place FILE AT LINE: goes on to that line, or else to the line there.
+# place FILE AT LINE: goes on to that line, or else to the line there. An attribute is of what stands below it.
 function place(file, at, line,    n, lines, k, end) {
     n = split(text_of(file), lines, "\n")
     begin()
     for (k = 1; k <= n; k++) {
         step(file, lines[k])
         end += length(lines[k]) + 1
+        if (line && k == line && lines[k] ~ /^ *#\[/) line++
         if (line ? k == line : at <= end) return
     }
     item = kind = ""

@@ -139,6 +139,12 @@ says 0 '4 passed, 0 failed'
 refuses brackets/bracket_back './proofs/atom/AtomCursor/atom/Answers.antt:9:24: error: `returns`: '"$search"
 says 1 "$(elsewhere brackets/bracket_back proofs/atom/AtomCursor/atom 'cursor/AtomCursor/atom cursor/AtomCursor/+atom')" '3 passed, 1 failed'
 
+# rt names the line of a function's attribute where there is one.
+crates depth
+takes depth/item_ends
+refuses depth/item_ends "note: src/reporting.rt:$(line depth/reporting.rt '#[tactic(auto, using(crate::proofs::CodeLaws::call_rules'):1: $ensures"
+says 0 '1 passed, 0 failed'
+
 # A constant is a change of each function that names it, and what everyone sees is one of any.
 crates depth stateset
 takes depth/not_capped
