@@ -21,7 +21,7 @@ use Rattle.pattern.specs.declared.cursor.Part.{Part}
 use Rattle.pattern.specs.declared.shape.Shape.{Shape}
 use Rattle.pattern.specs.Cycle.{AtomDone, ReadsAtom}
 use Rattle.pattern.specs.States.{nothing, first, last, atom_state, atom_word}
-use Rattle.pattern.proofs.Tables.{keys-atom}
+use Rattle.pattern.proofs.AtomTables.{keys-atom}
 use Rattle.runs.proofs.Tests.{clash}
 
 -- the state of atom k as a set: one that is stored

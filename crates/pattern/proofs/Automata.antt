@@ -11,6 +11,7 @@ use lib.Dec.{leb, ltb}
 use lib.ListN.{length, set, replicate, length-replicate, get_or-replicate}
 use lib.Seq.{ext_get_or}
 use borrow.Author.Tests.{le-leb, lt-ltb, lt-leb}
+use Rattle.refusal.specs.declared.Refusal.{Refusal}
 use Rattle.refusal.specs.declared.Refusal.TheVariants.{PatternSyntax, TooManyAtoms}
 use Rattle.letters.specs.declared.Case.{Case}
 use Rattle.brackets.specs.Sets.{set_of}
@@ -27,11 +28,12 @@ use Rattle.pattern.specs.Branches.{shape_in, keys_in, enter_in}
 use Rattle.pattern.specs.Summaries.{with_branch, summary_of, through, PatternDone, ReadsBranches}
 use Rattle.pattern.specs.Moves.{enters}
 use Rattle.pattern.specs.Cycle.{Ready}
-use Rattle.refusal.specs.Figures.{answered}
-use Rattle.pattern.specs.Automata.{always_of, accepts_of, key_table, enter_table, accepts, accepting_of, refused_pattern, read_figures, keys_read, enter_read}
+use Rattle.pattern.specs.Automata.{always_of, accepts_of, key_table, enter_table, accepts, accepting_of, tables_of}
+use Rattle.pattern.specs.declared.automaton.Tables.{Tables}
+use Rattle.std.specs.Prelude.{Result, Err, Ok}
 use Rattle.brackets.proofs.Entries.{with-same, with-with, with_none, with-length, with-get_or}
 use Rattle.pattern.proofs.Moving.{always-word, accepting-word}
-use Rattle.pattern.proofs.Tables.{atoms-none, atoms-same, with_atoms, both-added, added-if}
+use Rattle.pattern.proofs.AtomTables.{atoms-none, atoms-same, with_atoms, both-added, added-if}
 use Rattle.pattern.specs.Form.{Expr, Branch, Pattern, atoms_in, atom_count}
 use Rattle.stateset.specs.Tabled.{tabled}
 use Rattle.stateset.proofs.Tabled.{tabled-same, tabled-length, tabled-at, tabled-next}
@@ -212,6 +214,10 @@ module _ (a : Summary) {start found : ℕ} (at-start : start ≡ 2 ^ 0 % 2 ^ 64)
 pub summed-words : (a : Summary) (n : ℕ) {w v c : ℕ} → w ≡ always_of a → v ≡ accepts_of a → c ≡ 3 + n → record { always = w; ends = a.ends; accepting = v; states = c } ≡ accepting_of a n
 summed-words a n i j k = rw (k, j, i) refl
 
+-- the answer with these tables
+abbrev pub made : List ℕ → List ℕ → Accepting → Result Tables Refusal
+made keys enter a = Ok (record { keys = keys; enter = enter; accepting = a })
+
 -- the cursor at the start
 abbrev start_of : Case → Cursor
 start_of c = record { at = 0; atoms = 0; case = c }
@@ -221,7 +227,7 @@ pub start-ready : (s : List ℕ) (case : Case) (c : Cursor) → c ≡ start_of c
 start-ready s case c e r = rw e r
 
 -- a whole pattern that has no byte 0 or 10, read from its start
-module _ (s keys enter k e : List ℕ) (x : PatternRead) (case : Case) (c : Cursor) (start : c ≡ start_of case) (h : ReadsBranches s c blank (replicate 256 0) (replicate 32 0) x k e) where
+module _ (s k e : List ℕ) (x : PatternRead) (case : Case) (c : Cursor) (start : c ≡ start_of case) (h : ReadsBranches s c blank (replicate 256 0) (replicate 32 0) x k e) where
   -- what it is
   abbrev result : Read
   result = counted (read_branches (length s) s)
@@ -240,14 +246,8 @@ module _ (s keys enter k e : List ℕ) (x : PatternRead) (case : Case) (c : Curs
         go (parsed t rest) (i, j, l) = clash (cc)
         go fault i = refl
 
-    pub fault-figures : refused_pattern PatternSyntax ≡ read_figures result
-    fault-figures = rw faulty refl
-
-    pub fault-keys : keys ≡ keys_read case result keys
-    fault-keys = rw faulty refl
-
-    pub fault-enter : enter ≡ enter_read result enter
-    fault-enter = rw faulty refl
+    pub fault-tables : Err PatternSyntax ≡ tables_of case result
+    fault-tables = rw faulty refl
 
   module _ (n : ℕ) (a : Summary) (f : x ≡ PatternRead.Read n a) where
     module _ (over : 29 < n) where
@@ -258,14 +258,8 @@ module _ (s keys enter k e : List ℕ) (x : PatternRead) (case : Case) (c : Curs
           go (parsed t rest) (i, j, l) = let count : n ≡ 0 + atom_count t = cc in rw (lt-leb (atom_count t) 29 (omega arith)) refl
           go fault i = clash (cc)
 
-      pub many-figures : refused_pattern TooManyAtoms ≡ read_figures result
-      many-figures = rw many refl
-
-      pub many-keys : keys ≡ keys_read case result keys
-      many-keys = rw many refl
-
-      pub many-enter : enter ≡ enter_read result enter
-      many-enter = rw many refl
+      pub many-tables : Err TooManyAtoms ≡ tables_of case result
+      many-tables = rw many refl
 
     -- an accepted one: its tree, and what was read
     record Fine : Type 0 where
@@ -286,14 +280,17 @@ module _ (s keys enter k e : List ℕ) (x : PatternRead) (case : Case) (c : Curs
               record { tree = t; reading = rw (q, le-leb (atom_count t) 29 (omega arith)) refl; count = count ∙ zero-add (atom_count t); sum = cc; keyed = j; entered = l }
           go fault q i = clash (cc)
 
-      pub fine-figures : {v : Accepting} → v ≡ accepting_of a n → answered v ≡ read_figures result
-      fine-figures {v} g = rw fine.reading (ap (λ (w : Accepting). answered w) (g ∙ ap (λ (b : Summary). accepting_of b n) fine.sum ∙ accepts-all fine.tree n fine.count))
-
-      pub fine-keys : k ≡ keys_read case result keys
-      fine-keys = rw fine.reading (fine.keyed ∙ keys-all (query case fine.tree))
-
-      pub fine-enter : {p q : ℕ} → p ≡ 0 → q ≡ 1 → set (set e p a.first) q a.free ≡ enter_read result enter
-      fine-enter i j = rw (i, j, fine.reading) (table fine.sum fine.entered ∙ enter-all fine.tree)
+      pub fine-tables : {p q : ℕ} {v : Accepting} → p ≡ 0 → q ≡ 1 → v ≡ accepting_of a n → made k (set (set e p a.first) q a.free) v ≡ tables_of case result
+      fine-tables {p} {q} {v} i j g = rw fine.reading (together (fine.keyed ∙ keys-all (query case fine.tree)) entering words)
         where
           table : {b : Summary} {l : List ℕ} → a ≡ b → e ≡ l → set (set e 0 a.first) 1 a.free ≡ set (set l 0 b.first) 1 b.free
           table g h = rw (g, h) refl
+
+          entering : set (set e p a.first) q a.free ≡ enter_table fine.tree
+          entering = rw (i, j) (table fine.sum fine.entered ∙ enter-all fine.tree)
+
+          words : v ≡ accepts fine.tree
+          words = g ∙ ap (λ (b : Summary). accepting_of b n) fine.sum ∙ accepts-all fine.tree n fine.count
+
+          together : {x y x' y' : List ℕ} {z z' : Accepting} → x ≡ x' → y ≡ y' → z ≡ z' → made x y z ≡ made x' y' z'
+          together e f h = rw (e, f, h) refl

@@ -23,7 +23,7 @@ use Rattle.pattern.specs.Tables.{keys_after, enter_after, linked, shape_of, seq_
 use Rattle.pattern.specs.Cycle.{past_byte, Ready, Done, room, ReadsIn, Reads, AtomDone, ReadsAtom, repeat_enter, repeat_part}
 use Rattle.pattern.proofs.TreesFrom.{expr-from, group-group, marked_by}
 use Rattle.pattern.proofs.Atoms.{inside}
-use Rattle.pattern.proofs.Tables.{keys-seq, keys-alt, enter-seq, enter-alt, enter-again, enter-atom, first-seq, last-seq, first-alt, last-alt}
+use Rattle.pattern.proofs.AtomTables.{keys-seq, keys-alt, enter-seq, enter-alt, enter-again, enter-atom, first-seq, last-seq, first-alt, last-alt}
 use Rattle.pattern.specs.Form.{Expr, atom, group, star, plus, opt, seq, alt, atoms, write}
 use Rattle.runs.proofs.Tests.{clash}
 use Rattle.runs.proofs.KeyLaws.{line-drop}

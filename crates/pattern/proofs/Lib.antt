@@ -12,7 +12,7 @@ pub mod Leading
 pub mod Readings
 pub mod Lookups
 pub mod Moving
-pub mod Tables
+pub mod AtomTables
 pub mod TreesFrom
 pub mod TreesBack
 pub mod Branches

@@ -1,6 +1,5 @@
 -- What the answer of a reading says of the pattern.
 use Prim.Native.Nat.{ℕ, ◌≤◌}
-use native.Mathlib.Omega.{arith}
 use mathlib.Core.Path.{◌≡◌, refl, sym, ap, ◌∙◌}
 use mathlib.Core.Bool.{Bool, true, false, ◌&&◌, ◌||◌, cond}
 use mathlib.Core.List.{List}
@@ -9,15 +8,14 @@ use lib.ListN.{length}
 use borrow.Author.Tests.{leb-true}
 use Rattle.refusal.specs.declared.Refusal.{Refusal}
 use Rattle.refusal.specs.declared.Refusal.TheVariants.{PatternLength, PatternSyntax, TooManyAtoms}
-use Rattle.refusal.proofs.Number.{number-positive, number-injective}
 use Rattle.letters.specs.declared.Case.{Case}
 use Rattle.pattern.specs.Meaning.{Query, query}
 use Rattle.pattern.specs.declared.automaton.Accepting.{Accepting}
 use Rattle.pattern.specs.Reader.{Read, accepted, refused, counted, read_branches, read_pattern}
 use Rattle.brackets.specs.Brackets.{Parsed, parsed, fault}
-use Rattle.refusal.specs.Figures.{Figures, answered}
-use Rattle.pattern.specs.Automata.{Automaton, refused_pattern, verdict_figures, read_figures, keys_read, enter_read, accepts, VerdictOn, KeysFrom, EnterFrom}
-use Rattle.pattern.specs.declared.automaton.Verdict.{Verdict}
+use Rattle.pattern.specs.Automata.{Automaton, verdict_figures, read_figures, tables_of, accepts, enter_table, key_table, TablesOn}
+use Rattle.pattern.specs.declared.automaton.Tables.{Tables}
+use Rattle.std.specs.Prelude.{Result, Ok, Err}
 use Rattle.pattern.specs.States.{ends_free, atom_word}
 use Rattle.pattern.specs.Moves.{states, jumps, accepting}
 use Rattle.stateset.specs.Set.{word}
@@ -44,38 +42,54 @@ accepted-few p t e = go (leb 1 (length p) && leb (length p) 128) (is_line p) e
     go false b h = clash (cc)
 
 -- a pattern that is accepted: its tree, and its tables
-pub record AcceptedAs (c : Case) (p : List ℕ) (a : Accepting) (keys enter : List ℕ) : Type 0 where
+pub record AcceptedAs (c : Case) (p : List ℕ) (a : Tables) : Type 0 where
   pub tree : Pattern
   pub reading : read_pattern p ≡ accepted tree
-  pub tables : Automaton (query c tree) keys enter a
+  pub tables : Automaton (query c tree) a.keys a.enter a.accepting
 
 -- what `read_pattern` promises
-module _ (c : Case) (p keys enter keys' enter' : List ℕ) {v : Verdict} (f : VerdictOn p v) (k : KeysFrom c p keys keys') (n : EnterFrom p enter enter') where
-  pub read-accepted : {a : Accepting} → v ≡ Verdict.Accepted a → AcceptedAs c p a keys' enter'
-  read-accepted {a} h = go (read_pattern p) refl (sym (ap verdict_figures h) ∙ f) k n
+module _ (c : Case) (p : List ℕ) {v : Result Tables Refusal} (f : TablesOn c p v) where
+  pub read-accepted : {a : Tables} → v ≡ Ok a → AcceptedAs c p a
+  read-accepted {a} h = go (read_pattern p) refl (sym h ∙ f)
     where
-      go : (r : Read) → read_pattern p ≡ r → answered a ≡ read_figures r → keys' ≡ keys_read c r keys → enter' ≡ enter_read r enter → AcceptedAs c p a keys' enter'
-      go (accepted t) e g i j =
-          record { tree = t; reading = e; tables = record { keyed = i; entered = j; words = ap (λ (x : Figures Accepting). x.value) g; few = accepted-few p t e } }
-      go (refused r) e g i j = absurd (omega (arith, number-positive r, ap (λ (x : Figures Accepting). x.refusal) g))
+      go : (r : Read) → read_pattern p ≡ r → Ok a ≡ tables_of c r → AcceptedAs c p a
+      go (accepted t) e g =
+          let same : a ≡ record { keys = key_table (query c t); enter = enter_table t; accepting = accepts t } = cc in
+          record {
+            tree = t;
+            reading = e;
+            tables = record { keyed = ap (λ (x : Tables). x.keys) same; entered = ap (λ (x : Tables). x.enter) same; words = ap (λ (x : Tables). x.accepting) same; few = accepted-few p t e };
+          }
+      go (refused r) e g = clash (cc)
 
--- a pattern that is refused: the choice and the tables play no part
-pub read-refused : (p : List ℕ) {v : Verdict} {r : Refusal} → VerdictOn p v → v ≡ Verdict.Refused r → read_pattern p ≡ refused r
-read-refused p {v} {r} f h = go (read_pattern p) refl (sym (ap verdict_figures h) ∙ f)
-  where
-    go : (d : Read) → read_pattern p ≡ d → refused_pattern r ≡ read_figures d → read_pattern p ≡ refused r
-    go (accepted t) e g = absurd (omega (arith, number-positive r, ap (λ (x : Figures Accepting). x.refusal) g))
-    go (refused s) e g = e ∙ ap refused (number-injective s r (sym (ap (λ (x : Figures Accepting). x.refusal) g)))
+  -- a pattern that is refused: the choice plays no part
+  pub read-refused : {r : Refusal} → v ≡ Err r → read_pattern p ≡ refused r
+  read-refused {r} h = go (read_pattern p) refl (sym h ∙ f)
+    where
+      go : (d : Read) → read_pattern p ≡ d → Err r ≡ tables_of c d → read_pattern p ≡ refused r
+      go (accepted t) e g = clash (cc)
+      go (refused s) e g = let same : s ≡ r = cc in e ∙ ap refused same
 
--- what `read_pattern` promises of pattern p, with case ignored or not
-pub record ReadBy (c : Case) (p keys enter : List ℕ) (v : Verdict) (keys' enter' : List ℕ) : Type 0 where
-  pub figures : VerdictOn p v
-  pub keyed : KeysFrom c p keys keys'
-  pub entered : EnterFrom p enter enter'
+-- the figures of an answer
+pub tables-figures : (c : Case) (d : Read) → verdict_figures (tables_of c d) ≡ read_figures d
+tables-figures c (accepted t) = refl
+tables-figures c (refused r) = refl
+
+pub tables-told : (c : Case) (d : Read) {v : Result Tables Refusal} → v ≡ tables_of c d → verdict_figures v ≡ read_figures d
+tables-told c d e = ap verdict_figures e ∙ tables-figures c d
 
 -- Read by either choice, a pattern is accepted or refused alike, with the same number of atoms and of states, and the same table of entering.
-pub verdict-alike : (c d : Case) {p keys enter : List ℕ} {v w : Verdict} {keys' enter' keys'' enter'' : List ℕ} → ReadBy c p keys enter v keys' enter' → ReadBy d p keys enter w keys'' enter'' → (verdict_figures v ≡ verdict_figures w) × (enter' ≡ enter'')
-verdict-alike c d a b = (a.figures ∙ sym b.figures, a.entered ∙ sym b.entered)
+pub verdict-alike : (c d : Case) (p : List ℕ) {v w : Result Tables Refusal} → TablesOn c p v → TablesOn d p w → (verdict_figures v ≡ verdict_figures w) × ((a b : Tables) → v ≡ Ok a → w ≡ Ok b → a.enter ≡ b.enter)
+verdict-alike c d p {v} {w} f g =
+    (tables-told c (read_pattern p) f ∙ sym (tables-told d (read_pattern p) g),
+     λ a b h k. alike (read_pattern p) a b (sym h ∙ f) (sym k ∙ g))
+  where
+    alike : (r : Read) (a b : Tables) → Ok a ≡ tables_of c r → Ok b ≡ tables_of d r → a.enter ≡ b.enter
+    alike (accepted t) a b h k =
+        let left : a ≡ record { keys = key_table (query c t); enter = enter_table t; accepting = accepts t } = cc in
+        let right : b ≡ record { keys = key_table (query d t); enter = enter_table t; accepting = accepts t } = cc in
+        ap (λ (x : Tables). x.enter) left ∙ sym (ap (λ (x : Tables). x.enter) right)
+    alike (refused r) a b h k = clash (cc)
 
 pub states-alike : (c d : Case) (t : Pattern) → states (query c t) ≡ states (query d t)
 states-alike c d t = refl

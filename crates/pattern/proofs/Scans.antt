@@ -12,11 +12,12 @@ use lib.Seq.{take-suc, take_all}
 use borrow.Author.Tests.{le-leb, lt-leb, eqb-true, eqb-false, ltb-true, ltb-false}
 use Rattle.refusal.specs.declared.Refusal.TheVariants.{PatternLength, PatternSyntax}
 use Rattle.letters.specs.declared.Case.{Case}
-use Rattle.pattern.specs.Reader.{Read, refused, read_branches, counted, read_pattern}
+use Rattle.pattern.specs.Reader.{refused, read_branches, counted, read_pattern}
 use Rattle.pattern.specs.Cycle.{Ready}
-use Rattle.refusal.specs.Figures.{Figures}
-use Rattle.pattern.specs.declared.automaton.Accepting.{Accepting}
-use Rattle.pattern.specs.Automata.{refused_pattern, read_figures, keys_read, enter_read}
+use Rattle.std.specs.Prelude.{Result, Err}
+use Rattle.refusal.specs.declared.Refusal.{Refusal}
+use Rattle.pattern.specs.declared.automaton.Tables.{Tables}
+use Rattle.pattern.specs.Automata.{tables_of}
 use Rattle.runs.specs.Keys.{is_line, line_key}
 use Rattle.runs.proofs.KeyLaws.{line-lacks, line-more, key-test}
 use Rattle.runs.proofs.Tests.{neither, or_cases}
@@ -51,14 +52,8 @@ module _ (s : List ℕ) where
         go (inl z) = let none : length s ≡ 0 = sym en ∙ eqb-true n 0 z in rw none refl
         go (inr l) = let long : 128 < length s = rw en at (ltb-true 128 n l) in rw (le-leb 1 (length s) (omega arith), lt-leb (length s) 128 long) refl
 
-    pub wrong-figures : refused_pattern PatternLength ≡ read_figures (read_pattern s)
-    wrong-figures = rw wrong refl
-
-    pub wrong-keys : (c : Case) (keys : List ℕ) → keys ≡ keys_read c (read_pattern s) keys
-    wrong-keys c keys = rw wrong refl
-
-    pub wrong-enter : (enter : List ℕ) → enter ≡ enter_read (read_pattern s) enter
-    wrong-enter enter = rw wrong refl
+    pub wrong-tables : (c : Case) → Err PatternLength ≡ tables_of c (read_pattern s)
+    wrong-tables c = rw wrong refl
 
   module _ {n : ℕ} (en : n ≡ length s) (w : (eqb n 0 || ltb 128 n) ≡ false) {t : Bool} (d : t ≡ is_line s) where
     some : 1 ≤ length s
@@ -73,14 +68,8 @@ module _ (s : List ℕ) where
       unfolding read_pattern
       unclean = rw (le-leb 1 (length s) some, le-leb (length s) 128 short, sym d ∙ e) refl
 
-      pub unclean-figures : refused_pattern PatternSyntax ≡ read_figures (read_pattern s)
-      unclean-figures = rw unclean refl
-
-      pub unclean-keys : (c : Case) (keys : List ℕ) → keys ≡ keys_read c (read_pattern s) keys
-      unclean-keys c keys = rw unclean refl
-
-      pub unclean-enter : (enter : List ℕ) → enter ≡ enter_read (read_pattern s) enter
-      unclean-enter enter = rw unclean refl
+      pub unclean-tables : (c : Case) → Err PatternSyntax ≡ tables_of c (read_pattern s)
+      unclean-tables c = rw unclean refl
 
     -- or as its branches say
     module _ (e : t ≡ true) where
@@ -91,11 +80,5 @@ module _ (s : List ℕ) where
       unfolding read_pattern
       same = rw (le-leb 1 (length s) some, le-leb (length s) 128 short, sym d ∙ e) refl
 
-      pub clean-figures : {f : Figures Accepting} → f ≡ read_figures (counted (read_branches (length s) s)) → f ≡ read_figures (read_pattern s)
-      clean-figures g = g ∙ ap read_figures same
-
-      pub clean-keys : (c : Case) (keys : List ℕ) {keys' : List ℕ} → keys' ≡ keys_read c (counted (read_branches (length s) s)) keys → keys' ≡ keys_read c (read_pattern s) keys
-      clean-keys c keys g = g ∙ ap (λ (r : Read). keys_read c r keys) same
-
-      pub clean-enter : (enter : List ℕ) {enter' : List ℕ} → enter' ≡ enter_read (counted (read_branches (length s) s)) enter → enter' ≡ enter_read (read_pattern s) enter
-      clean-enter enter g = g ∙ ap (λ (r : Read). enter_read r enter) same
+      pub clean-tables : (c : Case) {v : Result Tables Refusal} → v ≡ tables_of c (counted (read_branches (length s) s)) → v ≡ tables_of c (read_pattern s)
+      clean-tables c g = g ∙ ap (tables_of c) same

@@ -1,12 +1,12 @@
 -- What reading a pattern yields, by the definitions on its tree: the tables of its automaton, or a refusal.
-use Rattle.std.specs.Prelude.{ℕ, ◌+◌, ◌≤◌, ◌≡◌, ◌||◌, cond, List, eqb}
+use Rattle.std.specs.Prelude.{ℕ, ◌+◌, ◌≤◌, ◌≡◌, ◌||◌, cond, List, Result, Ok, Err, eqb}
 use Rattle.std.specs.Int.Bits.{bit_or}
 use Rattle.stateset.specs.Set.{word}
 use Rattle.refusal.specs.declared.Refusal.{Refusal}
 use Rattle.refusal.specs.Figures.{Figures, answered, refused_with}
 use Rattle.letters.specs.declared.Case.{Case}
 use Rattle.pattern.specs.declared.automaton.Accepting.{Accepting}
-use Rattle.pattern.specs.declared.automaton.Verdict.{Verdict}
+use Rattle.pattern.specs.declared.automaton.Tables.{Tables}
 use Rattle.pattern.specs.declared.summary.Summary.{Summary}
 use Rattle.pattern.specs.Reader.{Read, accepted, refused, read_pattern}
 use Rattle.pattern.specs.States.{ends_free, holds_key, atom_word}
@@ -44,34 +44,23 @@ abbrev pub refused_pattern : Refusal → Figures Accepting
 refused_pattern r = refused_with (record { always = 0; ends = 0; accepting = 0; states = 0 }) r
 
 -- the figures of an answer
-abbrev pub verdict_figures : Verdict → Figures Accepting
-verdict_figures (Verdict.Accepted a) = answered a
-verdict_figures (Verdict.Refused r) = refused_pattern r
+abbrev pub verdict_figures : Result Tables Refusal → Figures Accepting
+verdict_figures (Ok a) = answered a.accepting
+verdict_figures (Err r) = refused_pattern r
 
 -- the figures of a reading
 abbrev pub read_figures : Read → Figures Accepting
 read_figures (accepted t) = answered (accepts t)
 read_figures (refused r) = refused_pattern r
 
--- and what it makes of the two tables; "other lent memory is unchanged"
-abbrev pub keys_read : Case → Read → List ℕ → List ℕ
-keys_read c (accepted t) keys = key_table (query c t)
-keys_read c (refused r) keys = keys
+-- the tables of a reading, or why it is refused
+abbrev pub tables_of : Case → Read → Result Tables Refusal
+tables_of c (accepted t) = Ok (record { keys = key_table (query c t); enter = enter_table t; accepting = accepts t })
+tables_of c (refused r) = Err r
 
-abbrev pub enter_read : Read → List ℕ → List ℕ
-enter_read (accepted t) enter = enter_table t
-enter_read (refused r) enter = enter
-
--- what reading pattern p answers: the verdict on it, and the tables of keys and of entering, which may have been filled. Whether case is
--- ignored matters for the table of keys alone (`verdict-alike`).
-abbrev pub VerdictOn : List ℕ → Verdict → Type 0
-VerdictOn p v = verdict_figures v ≡ read_figures (read_pattern p)
-
-abbrev pub KeysFrom : Case → List ℕ → List ℕ → List ℕ → Type 0
-KeysFrom c p keys keys' = keys' ≡ keys_read c (read_pattern p) keys
-
-abbrev pub EnterFrom : List ℕ → List ℕ → List ℕ → Type 0
-EnterFrom p enter enter' = enter' ≡ enter_read (read_pattern p) enter
+-- v is what reading pattern p answers. Whether case is ignored matters for the table of keys alone (`verdict-alike`).
+abbrev pub TablesOn : Case → List ℕ → Result Tables Refusal → Type 0
+TablesOn c p v = v ≡ tables_of c (read_pattern p)
 
 -- what the branches come to: the states in which a line always matches, and those in which it does at its end
 abbrev pub always_of : Summary → ℕ

@@ -2,7 +2,7 @@
 ghost use Rattle.std.specs.Prelude.{◌≡◌, ◌≤◌, length};
 ghost use Rattle.pattern.specs.Reader.{counted, read_branches, read_pattern};
 ghost use Rattle.pattern.specs.Cycle.{Ready};
-ghost use Rattle.pattern.specs.Automata.{accepting_of, enter_read, keys_read, read_figures, verdict_figures};
+ghost use Rattle.pattern.specs.Automata.{accepting_of, read_figures, tables_of, verdict_figures};
 
 use crate::branch_list::PatternRead;
 use crate::clean::clean;
@@ -26,10 +26,14 @@ pub struct Accepting {
     pub states: usize,
 }
 
+// The tables of a pattern's automaton.
 #[derive(Clone, Copy)]
-pub enum Verdict {
-    Accepted(Accepting),
-    Refused(Refusal),
+pub struct Tables {
+    // For each key, the atoms whose set has it.
+    pub keys: [u64; 256],
+    // For each state, the atoms that it may enter.
+    pub enter: [u64; 32],
+    pub accepting: Accepting,
 }
 
 // What the branches come to, with so many atoms.
@@ -52,14 +56,12 @@ fn summed(a: Summary, atoms: usize) -> Accepting
 }
 
 // A pattern of up to 128 bytes, none of which is 0 or 10.
-fn read_clean(s: &[u8], case: Case, keys: &mut [u64; 256], enter: &mut [u64; 32]) -> Verdict
+fn read_clean(s: &[u8], case: Case) -> Result<Tables, Refusal>
     requires { Ready s.now (record { at = 0; atoms = 0; case = case }) }
-    ensures figures { verdict_figures result ≡ read_figures (counted (read_branches (length s.now) s.now)) }
-    ensures keyed { keys.new ≡ keys_read case (counted (read_branches (length s.now) s.now)) keys.old }
-    ensures entered { enter.new ≡ enter_read (counted (read_branches (length s.now) s.now)) enter.old }
+    ensures { result ≡ tables_of case (counted (read_branches (length s.now) s.now)) }
 {
-    let mut keyed = [0; 256];
-    let mut entered = [0; 32];
+    let mut keys = [0; 256];
+    let mut enter = [0; 32];
     let none = Summary {
         first: 0,
         free: 0,
@@ -68,33 +70,34 @@ fn read_clean(s: &[u8], case: Case, keys: &mut [u64; 256], enter: &mut [u64; 32]
         empty: false,
         jump: false,
     };
-    let read = Cursor::start(case).branches(s, none, &mut keyed, &mut entered);
+    let read = Cursor::start(case).branches(s, none, &mut keys, &mut enter);
     let PatternRead::Read(atoms, sum) = read else {
-        return Verdict::Refused(Refusal::PatternSyntax);
+        return Err(Refusal::PatternSyntax);
     };
     if atoms > 29 {
-        return Verdict::Refused(Refusal::TooManyAtoms);
+        return Err(Refusal::TooManyAtoms);
     }
-    entered[State::LINE_START.place()] = sum.first;
-    entered[State::MID_LINE.place()] = sum.free;
-    *keys = keyed;
-    *enter = entered;
-    Verdict::Accepted(summed(sum, atoms))
+    enter[State::LINE_START.place()] = sum.first;
+    enter[State::MID_LINE.place()] = sum.free;
+    let accepting = summed(sum, atoms);
+    Ok(Tables {
+        keys,
+        enter,
+        accepting,
+    })
 }
 
-// Reads a pattern, with case ignored or not. Refused with 7, 8 and 9 of document 01's table, in that order; the tables then stay as they
-// were. Else they have, for each key, the word of the atoms whose set has it, and for each state the word of the atoms that it may enter.
-pub fn read_pattern(s: &[u8], case: Case, keys: &mut [u64; 256], enter: &mut [u64; 32]) -> Verdict
+// Reads a pattern, with case ignored or not. Refused with 7, 8 and 9 of document 01's table, in that order.
+pub fn read_pattern(s: &[u8], case: Case) -> Result<Tables, Refusal>
     ensures figures { verdict_figures result ≡ read_figures (read_pattern s.now) }
-    ensures keyed { keys.new ≡ keys_read case (read_pattern s.now) keys.old }
-    ensures entered { enter.new ≡ enter_read (read_pattern s.now) enter.old }
+    ensures tables { result ≡ tables_of case (read_pattern s.now) }
 {
     let n = s.len();
     if (n == 0) | (n > 128) {
-        return Verdict::Refused(Refusal::PatternLength);
+        return Err(Refusal::PatternLength);
     }
     if clean(s) {
-        return read_clean(s, case, keys, enter);
+        return read_clean(s, case);
     }
-    Verdict::Refused(Refusal::PatternSyntax)
+    Err(Refusal::PatternSyntax)
 }

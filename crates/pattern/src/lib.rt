@@ -11,5 +11,5 @@ mod shape;
 mod state;
 mod summary;
 
-pub use automaton::{Accepting, Verdict, read_pattern};
+pub use automaton::{Accepting, Tables, read_pattern};
 pub use state::State;

@@ -6,10 +6,10 @@ pub branches-read-requires : goal.branches-read-requires
 branches-read-requires c = search (laws.start-ready)
 
 pub returns-in_default : goal.returns-in_default
-returns-in_default c = record { figures = search (laws.fault-figures); keyed = search (laws.fault-keys); entered = search (laws.fault-enter) }
+returns-in_default c = search (laws.fault-tables)
 
 pub returns-then-atoms-gt29 : goal.returns-then-atoms-gt29
-returns-then-atoms-gt29 c = record { figures = search (laws.many-figures); keyed = search (laws.many-keys); entered = search (laws.many-enter) }
+returns-then-atoms-gt29 c = search (laws.many-tables)
 
 pub returns : goal.returns
-returns c = record { figures = search (laws.fine-figures); keyed = search (laws.fine-keys); entered = search (laws.fine-enter) }
+returns c = search (laws.fine-tables)
