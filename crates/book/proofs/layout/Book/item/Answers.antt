@@ -1,6 +1,6 @@
--- `book::item_at`: the numbers of one item of the part.
+-- `Book::item`: one item of the part.
 use Rattle.book.proofs.MacroItems.{place-fits, item-beyond, item-read}
-use Rattle.book.proofs.macro_items.item_at.Goals as goal
+use Rattle.book.proofs.layout.Book.item.Goals as goal
 
 pub returns-then-k-ge64 : goal.returns-then-k-ge64
 returns-then-k-ge64 c = search (item-beyond)

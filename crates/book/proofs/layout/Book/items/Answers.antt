@@ -1,6 +1,6 @@
--- `book::items_of`: the items of the part.
+-- `Book::items`: the items of the part.
 use Rattle.book.proofs.MacroItems.{items-from}
-use Rattle.book.proofs.macro_items.items_of.Goals as goal
+use Rattle.book.proofs.layout.Book.items.Goals as goal
 
 pub returns : goal.returns
 returns c = search items-from
