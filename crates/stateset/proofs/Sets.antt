@@ -204,11 +204,8 @@ bit-chosen false k p = bit-zero p
 -- The members below s.
 
 -- a power of two that a word holds, by a shift
-pub shifted : (s : ℕ) → s < 64 → 1 * 2 ^ s % 2 ^ 64 ≡ 2 ^ s
+shifted : (s : ℕ) → s < 64 → 1 * 2 ^ s % 2 ^ 64 ≡ 2 ^ s
 shifted s h = let l : 2 ^ s < 2 ^ 64 = pow-lt {i = s} {j = 64} h in let e : 1 * 2 ^ s ≡ 2 ^ s = omega arith in rw e (mod-eq_of_lt l)
-
-pub shifted-some : (s : ℕ) → s < 64 → 1 ≤ 1 * 2 ^ s % 2 ^ 64
-shifted-some s h = rw (shifted s h) (pow_pos s)
 
 -- a mask keeps them
 pub masked : (s x : ℕ) → s < 64 → bit_and x (1 * 2 ^ s % 2 ^ 64 - 1) ≡ word s (bit x)
