@@ -37,11 +37,6 @@ pub at_most_one : (m : Bool) {x : ℕ} → x ≡ cond m 1 0 → x ≤ 1
 at_most_one true e = omega arith
 at_most_one false e = omega arith
 
--- and only if it has a key
-pub last-small : (p m : Bool) {y : ℕ} → y ≡ from_bool (p && m) → y ≤ cond p 1 0
-last-small true m e = omega (arith, at_most_one m (once m e))
-last-small false m e = omega arith
-
 -- One more key.
 module _ {d : Tables} {a : Tally} {k : ℕ} where
   pub after-end : {x : ℕ} {m : Bool} → k ≡ line_end → m ≡ has_accepting d.accepting a.trimmed → x ≡ from_bool m → AfterKey d a k (closed_tally (a.lines + x))
