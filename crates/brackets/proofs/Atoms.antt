@@ -11,8 +11,7 @@ use lib.ListN.{length, drop, get_or, drop_of_length-le, get_or-eq_default}
 use lib.Seq.{drop-cons, drop-length, get_or-drop, drop-drop}
 use borrow.Author.Tests.{eq-eqb, ne_eqb, not-true, not-false}
 use Rattle.letters.specs.declared.Case.{Case}
-use Rattle.brackets.specs.declared.atom.AtomRead.{AtomRead}
-use Rattle.brackets.specs.declared.atom.AtomRead.TheVariants.{At}
+use Rattle.std.specs.Prelude.{Option, Some}
 use Rattle.brackets.specs.declared.cursor.AtomCursor.{AtomCursor}
 use Rattle.brackets.specs.Form.{Atom, marks, dot, plain, escaped}
 use Rattle.brackets.specs.Sets.{set_of, named}
@@ -41,8 +40,8 @@ module _ (s : List ℕ) (p : ℕ) where
 
   -- an atom a that takes k bytes
   module _ (a : Atom) (k : ℕ) (e : read_atom (drop p s) ≡ parsed a (drop (p + k) s)) where
-    ends : p + k ≤ length s → (d : AtomCursor) → d ≡ cursor_at (p + k) → At d ≡ place_behind (length s) (read_atom (drop p s))
-    ends h d f = same_place (read_atom (drop p s)) (parsed a (drop (p + k) s)) e (length s) (At d) (rw f (behind-place a s (p + k) h))
+    ends : p + k ≤ length s → (d : AtomCursor) → d ≡ cursor_at (p + k) → Some d ≡ place_behind (length s) (read_atom (drop p s))
+    ends h d f = same_place (read_atom (drop p s)) (parsed a (drop (p + k) s)) e (length s) (Some d) (rw f (behind-place a s (p + k) h))
 
     stores : (case : Case) (states : ℕ) (before after : List ℕ) → after ≡ keys_with case a states before → after ≡ keys_behind case (read_atom (drop p s)) states before
     stores case states before after f = same-table (read_atom (drop p s)) (parsed a (drop (p + k) s)) e case states before after f
@@ -56,7 +55,7 @@ module _ (s : List ℕ) (p : ℕ) where
       unfolding read_atom
       atom-dot = rw (front, h, drop-drop)
 
-      pub dot-place : p < length s → (d : AtomCursor) → d ≡ cursor_at (p + 1) → At d ≡ place_behind (length s) (read_atom (drop p s))
+      pub dot-place : p < length s → (d : AtomCursor) → d ≡ cursor_at (p + 1) → Some d ≡ place_behind (length s) (read_atom (drop p s))
       dot-place l = ends dot 1 atom-dot (omega arith)
 
       pub dot-table : (case : Case) (states : ℕ) (before after : List ℕ) → after ≡ keys_with case dot states before → after ≡ keys_behind case (read_atom (drop p s)) states before
@@ -72,7 +71,7 @@ module _ (s : List ℕ) (p : ℕ) where
           inside : read_atom (drop p s) ≡ read_bracket (drop inner.at s)
           inside = atom-bracket ∙ rw f
 
-          pub bracket-place : (r : AtomRead) → r ≡ place_behind (length s) (read_bracket (drop inner.at s)) → r ≡ place_behind (length s) (read_atom (drop p s))
+          pub bracket-place : (r : Option AtomCursor) → r ≡ place_behind (length s) (read_bracket (drop inner.at s)) → r ≡ place_behind (length s) (read_atom (drop p s))
           bracket-place = same_place (read_atom (drop p s)) (read_bracket (drop inner.at s)) inside (length s)
 
           pub bracket-table : (case : Case) (states : ℕ) (before after : List ℕ) → after ≡ keys_behind case (read_bracket (drop inner.at s)) states before → after ≡ keys_behind case (read_atom (drop p s)) states before
@@ -91,7 +90,7 @@ module _ (s : List ℕ) (p : ℕ) where
             atom-escaped = rw (front, h, get_or-drop, ← f, ← g, not-false m k, drop-drop)
 
             -- a mark is no 0, so it stands inside
-            pub escaped-place : (d : AtomCursor) → d ≡ cursor_at (p + 2) → At d ≡ place_behind (length s) (read_atom (drop p s))
+            pub escaped-place : (d : AtomCursor) → d ≡ cursor_at (p + 2) → Some d ≡ place_behind (length s) (read_atom (drop p s))
             escaped-place d at-two =
                 elim (dec_le (length s) (p + 1)) [
                   | yes l ↦ torn (member x marks) (sym g ∙ not-false m k) (rw (f, get_or-eq_default s 0 l))
@@ -113,7 +112,7 @@ module _ (s : List ℕ) (p : ℕ) where
             unfolding read_atom
             atom-plain = rw (front, ← g, ne_eqb _ _ no-dot, ne_eqb _ _ no-bracket, ne_eqb _ _ no-escape, k, drop-drop)
 
-            pub plain-place : p < length s → (d : AtomCursor) → d ≡ cursor_at (p + 1) → At d ≡ place_behind (length s) (read_atom (drop p s))
+            pub plain-place : p < length s → (d : AtomCursor) → d ≡ cursor_at (p + 1) → Some d ≡ place_behind (length s) (read_atom (drop p s))
             plain-place l = ends (plain b) 1 atom-plain (omega arith)
 
             pub plain-table : (case : Case) (states : ℕ) (before after : List ℕ) → after ≡ keys_with case (plain b) states before → after ≡ keys_behind case (read_atom (drop p s)) states before
