@@ -33,26 +33,27 @@ impl AtomCursor {
         ensures place { result ≡ place_behind (length s.now) (read_atom (drop self.at s.now)) }
         ensures table { keys.new ≡ keys_behind case (read_atom (drop self.at s.now)) states keys.old }
     {
-        let b = *s.get(self.at)?;
-        if b == b'.' {
-            store_dot(case, states, keys);
-            return Some(self.past(1));
-        }
-        if b == b'[' {
-            return self.past(1).bracket(s, case, states, keys);
-        }
-        if b == b'\\' {
-            let escaped = peek(s, self.at + 1);
-            if !is_mark(escaped) {
-                return None;
+        match *s.get(self.at)? {
+            b'.' => {
+                store_dot(case, states, keys);
+                Some(self.past(1))
             }
-            store_key(escaped, case, states, keys);
-            return Some(self.past(2));
+            b'[' => self.past(1).bracket(s, case, states, keys),
+            b'\\' => {
+                let escaped = peek(s, self.at + 1);
+                if !is_mark(escaped) {
+                    return None;
+                }
+                store_key(escaped, case, states, keys);
+                Some(self.past(2))
+            }
+            b => {
+                if (b == 0) | is_mark(b) {
+                    return None;
+                }
+                store_key(b, case, states, keys);
+                Some(self.past(1))
+            }
         }
-        if (b == 0) | is_mark(b) {
-            return None;
-        }
-        store_key(b, case, states, keys);
-        Some(self.past(1))
     }
 }
