@@ -4,7 +4,6 @@ ghost use Rattle.pattern.specs.Reader.{counted, read_branches, read_pattern};
 ghost use Rattle.pattern.specs.Cycle.{Ready};
 ghost use Rattle.pattern.specs.Automata.{accepting_of, enter_read, keys_read, read_figures, verdict_figures};
 
-use crate::branch_list::PatternRead;
 use crate::clean::clean;
 use crate::cursor::Cursor;
 use crate::state::State;
@@ -69,7 +68,7 @@ fn read_clean(s: &[u8], case: Case, keys: &mut [u64; 256], enter: &mut [u64; 32]
         jump: false,
     };
     let read = Cursor::start(case).branches(s, none, &mut keyed, &mut entered);
-    let PatternRead::Read(atoms, sum) = read else {
+    let Some((atoms, sum)) = read else {
         return Verdict::Refused(Refusal::PatternSyntax);
     };
     if atoms > 29 {
