@@ -6,8 +6,6 @@ use mathlib.Core.Bool.{true}
 use mathlib.Core.List.{List, [], ◌++◌, Memᴰ}
 use lib.ListN.{length, get_or, take, drop, length-append}
 use lib.Seq.{take_all}
-use mir.Val.{Fits}
-use mir.Syntax.{w64}
 use Rattle.runs.specs.Kept.{first_words, times, words_over}
 use Rattle.runs.proofs.KeptLaws.{words-length, words-at, words-stored}
 use Rattle.book.specs.declared.item.Item.{Item}
@@ -21,7 +19,7 @@ use Rattle.std.proofs.lemmas.Option.{slice_get-get_or}
 use Rattle.book.specs.declared.item.Repeated.{Repeated}
 use Rattle.book.specs.MacroItems.{items_from, decoded}
 use Rattle.book.proofs.MacroItems.{item-in, item-more, items-are}
-use Rattle.book.proofs.LayoutLaws.{well-in, macros-few}
+use Rattle.book.proofs.LayoutLaws.{well-in}
 use Rattle.book.proofs.Expansion.{well-call, well-times, unrolled-none, expand-none, expand-more, expansion-law}
 use Rattle.depth.specs.declared.unmatched.Delimiters.{Delimiters}
 use Rattle.depth.specs.declared.unmatched.Unmatched.{Unmatched}
@@ -129,21 +127,16 @@ module _ {keys : Delimiters} {b offsets : List ℕ} {i : ℕ} {work : List ℕ} 
               ∙ ap (kept_items keys ms) (sym (item-more items k there))
 
 -- The words of macros 0 to m, where those of the first i stand over the front of the work words.
-module _ {keys : Delimiters} {b offsets : List ℕ} {m : ℕ} {before : List ℕ} (g : BookFits keys b offsets m before) {i : ℕ} (h : i < m + 1) {work : List ℕ} (s : work ≡ words_over (W keys (macros_in b)) width i before) where
+module _ {keys : Delimiters} {b offsets : List ℕ} {m : ℕ} {before : List ℕ} (g : BookFits keys b offsets m before) {i : ℕ} (h : i ≤ m) {work : List ℕ} (s : work ≡ words_over (W keys (macros_in b)) width i before) where
   pub macro-at : MacroAt keys b offsets i work
   macro-at = record { table = g.table; inside = omega (arith, g.inside); apart = g.apart; behind = drop (i * width) before; below = s }
 
-  pub fill-on : {u : Unmatched} {after : List ℕ} → u ≡ kept keys (macros_in b) (expansion (macros_in b) i) → after ≡ stored_at work (i * width) u → after ≡ words_over (W keys (macros_in b)) width (i + 1) before
-  fill-on {u} {after} e f =
-      words-stored (W keys (macros_in b)) width (wide keys (macros_in b)) i before work after s
-      (f ∙ ap (λ (v : List ℕ). take (i * width) work ++ (v ++ drop (i * width + width) work)) (ap words_of e ∙ run-words keys.opening keys.closing (expansion (macros_in b) i)))
+  -- one macro more, and the last one
+  module _ {u : Unmatched} {after : List ℕ} (e : u ≡ kept keys (macros_in b) (expansion (macros_in b) i)) (f : after ≡ stored_at work (i * width) u) where
+    pub fill-on : after ≡ words_over (W keys (macros_in b)) width (i + 1) before
+    fill-on =
+        words-stored (W keys (macros_in b)) width (wide keys (macros_in b)) i before work after s
+        (f ∙ ap (λ (v : List ℕ). take (i * width) work ++ (v ++ drop (i * width + width) work)) (ap words_of e ∙ run-words keys.opening keys.closing (expansion (macros_in b) i)))
 
-module _ {keys : Delimiters} {b offsets : List ℕ} {m : ℕ} {before : List ℕ} (g : BookFits keys b offsets m before) where
-  pub place-fits : (i : ℕ) → i < m + 1 → Fits w64 (i * 3)
-  place-fits i h = omega (arith, g.inside, macros-few b)
-
-  pub next-fits : Fits w64 (m + 1)
-  next-fits = omega (arith, g.inside, macros-few b)
-
-  pub fill-done : {i : ℕ} → i ≤ m + 1 → m + 1 ≤ i → {work : List ℕ} → work ≡ words_over (W keys (macros_in b)) width i before → work ≡ filled keys.opening keys.closing (macros_in b) m before
-  fill-done {i} h l s = let all : i ≡ suc m = omega arith in rw all at s
+    pub fill-last : m ≤ i → after ≡ filled keys.opening keys.closing (macros_in b) m before
+    fill-last l = let all : i + 1 ≡ suc m = omega arith in rw all at fill-on

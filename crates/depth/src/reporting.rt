@@ -51,7 +51,7 @@ fn fill(book: &Book, m: usize, keys: Delimiters, work: &mut [u64])
     requires { BookFits keys book.now.bytes.now book.now.offsets m work.old }
     ensures { work.new ≡ filled keys.opening keys.closing (macros_in book.now.bytes.now) m work.old }
 {
-    for i in 0..m + 1 {
+    for i in 0..=m {
         let run = of_macro(book, i, keys, work);
         run.store(work, i * WIDTH);
     }
