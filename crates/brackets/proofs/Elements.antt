@@ -23,10 +23,6 @@ use Rattle.runs.specs.Keys.{member}
 use Rattle.runs.proofs.Tests.{clash}
 use Rattle.std.proofs.lemmas.Option.{some_pair_parts}
 
--- `[.`, `[=` or `[:`
-pub opens_one : (b c : ℕ) → eqb b 91 && (eqb c 46 || (eqb c 61 || eqb c 58)) ≡ eqb b 91 && member c (46 ∷ 61 ∷ 58 ∷ [])
-opens_one b c = rw (or-false (eqb c 58))
-
 module _ (s : List ℕ) (p : ℕ) where
   -- bytes behind a place
   behind : (i : ℕ) → at i (drop p s) ≡ get_or s (p + i) 0
