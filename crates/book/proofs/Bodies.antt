@@ -12,7 +12,7 @@ use Rattle.book.specs.Format.{Macro, versions, width}
 use Rattle.book.specs.Offset.{size, starts, offset, body_part}
 use Rattle.book.specs.MacroItems.{items_start, items_end, placed, between, part_from, part_at}
 use Rattle.book.specs.Reading.{Reading, got, refused, macros_in, version_in}
-use Rattle.book.specs.Answer.{layout, body_of, body_at, refusal_of}
+use Rattle.book.specs.Answer.{offsets_in, body_of, body_at, refusal_of}
 use Rattle.book.proofs.Offsets.{starts-length, book-offsets, book-end}
 use Rattle.book.proofs.LayoutLaws.{read-in, read-with}
 
@@ -48,11 +48,11 @@ pub record PartOffsets (b offsets : List ℕ) (i : ℕ) : Type 0 where
   pub fits : items_end offsets i ≤ length b
 
 module _ (b : List ℕ) (i : ℕ) (h : i < length (macros_in b)) where
-  pub part-offsets : PartOffsets b (layout b).offsets i
-  unfolding layout
+  pub part-offsets : PartOffsets b (offsets_in b) i
+  unfolding offsets_in
   part-offsets =
       let ms = macros_in b in
-      let table = (layout b).offsets in
+      let table = offsets_in b in
       let (rest, e) = read-in b h in
       let (end, none, some, most) = book-end versions b ms rest (read-with b e) in
       let (step, fits) = book-offsets versions b ms rest (read-with b e) i h in
@@ -67,22 +67,22 @@ module _ (b : List ℕ) (i : ℕ) (h : i < length (macros_in b)) where
         fits = rw there fits;
       }
 
-  has_part : placed b (layout b).offsets i ≡ true
+  has_part : placed b (offsets_in b) i ≡ true
   has_part =
       let p = part-offsets in
-      part_placed b (layout b).offsets i p.few (omega (arith, p.to)) p.fits
+      part_placed b (offsets_in b) i p.few (omega (arith, p.to)) p.fits
 
   -- the layout leads to its body
-  pub part-is : part_from b (layout b).offsets i ≡ body_part (version_in b) b (macros_in b) i
+  pub part-is : part_from b (offsets_in b) i ≡ body_part (version_in b) b (macros_in b) i
   part-is =
       let p = part-offsets in
-      let table = (layout b).offsets in
+      let table = offsets_in b in
       let long : items_end table i - items_start table i ≡ width (version_in b) * length (get_or (macros_in b) i []) = omega (arith, p.to) in
       sym (some-part b table i (0, 0) has_part).0 ∙ rw (long, p.from)
 
-  pub part-at : (q : ℕ × ℕ) → part_at q b (layout b).offsets i ≡ (q.0, offset (version_in b) (macros_in b) i + 2 + q.1)
+  pub part-at : (q : ℕ × ℕ) → part_at q b (offsets_in b) i ≡ (q.0, offset (version_in b) (macros_in b) i + 2 + q.1)
   part-at q =
-      sym (some-part b (layout b).offsets i q has_part).1
+      sym (some-part b (offsets_in b) i q has_part).1
       ∙ ap (λ (x : ℕ). (q.0, x + 2 + q.1)) part-offsets.from
 
 -- the two results of a body

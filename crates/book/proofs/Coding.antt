@@ -13,12 +13,14 @@ use Rattle.refusal.specs.declared.Refusal.TheVariants.{UnsupportedVersion}
 use Rattle.book.specs.declared.item.Item.{Item}
 use Rattle.book.specs.declared.item.Item.TheVariants.{Key, Call}
 use Rattle.book.specs.Reading.{got, refused, item_of, le16, times_in, check_item, read_item, read_items, read_macro, read_macros, has_magic, read_header, version_in, read_all, read_in, read_book}
-use Rattle.book.specs.Format.{Encodes, SoundIn, Sound, versions, Repeated, repeated, Macro, le16_bytes, code, magic, encode_item, encode_items, encode_macros, encode, sound_target, sound_item, sound_items, sound_macro, sound_macros, well_formed, item_fits, items_fit, fits, width}
+use Rattle.book.specs.Format.{Encodes, SoundIn, Sound, versions, repeated, Macro, le16_bytes, code, magic, encode_item, encode_items, encode_macros, encode, sound_target, sound_item, sound_items, sound_macro, sound_macros, well_formed, item_fits, items_fit, fits, width}
+use Rattle.book.specs.declared.item.Repeated.{Repeated}
 use Rattle.book.specs.Offset.{size, offset, body_part}
 use Rattle.book.proofs.Readings.{more-got, same-got}
 use Rattle.book.proofs.Walks.{item-got}
 use Rattle.book.proofs.WellFormed.{one-fits-two}
-use Rattle.book.proofs.Offsets.{items-got, macro-parts, front_item, item-is, macro-got, whole, version-there, book-at}
+use Rattle.book.specs.MacroItems.{front_item}
+use Rattle.book.proofs.Offsets.{items-got, macro-parts, item-is, macro-got, whole, version-there, book-at}
 use Rattle.runs.specs.Keys.{Bytes, member}
 use Rattle.runs.proofs.Tests.{and_both, and_parts, by-test}
 

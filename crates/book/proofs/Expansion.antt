@@ -11,7 +11,8 @@ use lib.ListN.{length, get_or, replicate, length-append}
 use borrow.Author.Tests.{ltb-true, leb-true}
 use Rattle.book.specs.declared.item.Item.{Item}
 use Rattle.book.specs.declared.item.Item.TheVariants.{Key, Call}
-use Rattle.book.specs.Format.{Repeated, repeated, Macro, sound_target, sound_item, sound_items, sound_macro, sound_macros, well_formed}
+use Rattle.book.specs.Format.{repeated, Macro, sound_target, sound_item, sound_items, sound_macro, sound_macros, well_formed}
+use Rattle.book.specs.declared.item.Repeated.{Repeated}
 use Rattle.book.specs.Reach.{Calls}
 use Rattle.book.specs.Expansion.{keys_of, expand, unrolled, expand_to, expansion}
 use Rattle.runs.specs.Keys.{is_key, is_run}

@@ -8,7 +8,7 @@ use lib.ListN.{length, drop}
 use borrow.Author.Tests.{lt-leb, le-leb, not-true, not-false, leb-true}
 use Rattle.refusal.specs.declared.Refusal.{Refusal}
 use Rattle.refusal.specs.declared.Refusal.TheVariants.{BadMagic, UnsupportedVersion, BadMacroCount}
-use Rattle.book.specs.declared.layout.Header.{Header}
+use Rattle.std.specs.Prelude.{Ok, Err}
 use Rattle.runs.specs.Keys.{member}
 use Rattle.book.specs.Format.{versions}
 use Rattle.book.specs.Reading.{Reading, got, refused, has_magic, le16, read_header}
@@ -25,7 +25,7 @@ module _ (s : List ℕ) where
   mark-told h = simp (le-leb _ _ h)
 
   module _ (m : Bool) (e : m ≡ leb 7 (length s) && has_magic s) where
-    pub header-magic : not m ≡ true → Header.Refused BadMagic ≡ header_of (read_header versions s)
+    pub header-magic : not m ≡ true → Err BadMagic ≡ header_of (read_header versions s)
     unfolding read_header
     header-magic f = rw (sym e ∙ not-true m f)
 
@@ -34,16 +34,16 @@ module _ (s : List ℕ) where
       header-long = leb-true 7 (length s) (and-fst (leb 7 (length s)) (has_magic s) (sym e ∙ not-false m f))
 
       module _ (v : ℕ) (ev : v ≡ le16 (drop 3 s)) (t : Bool) (et : t ≡ member v versions) where
-        pub header-version : not t ≡ true → Header.Refused UnsupportedVersion ≡ header_of (read_header versions s)
+        pub header-version : not t ≡ true → Err UnsupportedVersion ≡ header_of (read_header versions s)
         unfolding read_header
         header-version n = rw (sym e ∙ not-false m f, ← ev, sym et ∙ not-true t n)
 
         module _ (known : not t ≡ false) (k : ℕ) (ek : k ≡ le16 (drop 5 s)) where
-          pub header-count : not (leb 1 k && leb k 1024) ≡ true → Header.Refused BadMacroCount ≡ header_of (read_header versions s)
+          pub header-count : not (leb 1 k && leb k 1024) ≡ true → Err BadMacroCount ≡ header_of (read_header versions s)
           unfolding read_header
           header-count l = rw (sym e ∙ not-false m f, ← ev, sym et ∙ not-false t known, ← ek, not-true (leb 1 k && leb k 1024) l)
 
-          pub header-good : not (leb 1 k && leb k 1024) ≡ false → Header.Macros k ≡ header_of (read_header versions s)
+          pub header-good : not (leb 1 k && leb k 1024) ≡ false → Ok k ≡ header_of (read_header versions s)
           unfolding read_header
           header-good l = rw (sym e ∙ not-false m f, ← ev, sym et ∙ not-false t known, ← ek, not-false (leb 1 k && leb k 1024) l)
 
@@ -77,10 +77,10 @@ header-got taken b k rest e =
     }
 
 -- what the answer of the header's reader says of its reading
-pub headed-macros : (g : Reading ℕ) (k : ℕ) → header_of g ≡ Header.Macros k → (rest : List ℕ) × (g ≡ got k rest)
+pub headed-macros : (g : Reading ℕ) (k : ℕ) → header_of g ≡ Ok k → (rest : List ℕ) × (g ≡ got k rest)
 headed-macros (got j rest) k e = let same : j ≡ k = cc in (rest, ap (λ (x : ℕ). got x rest) same)
 headed-macros (refused r) k e = clash (cc)
 
-pub headed-refused : (g : Reading ℕ) (r : Refusal) → header_of g ≡ Header.Refused r → g ≡ refused r
+pub headed-refused : (g : Reading ℕ) (r : Refusal) → header_of g ≡ Err r → g ≡ refused r
 headed-refused (got j rest) r e = cc
 headed-refused (refused q) r e = let same : q ≡ r = cc in ap refused same

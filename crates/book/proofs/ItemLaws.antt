@@ -9,12 +9,13 @@ use lib.Seq.{get_or-drop, drop-drop}
 use lib.Dec.{ltb, eqb}
 use borrow.Author.Tests.{lt-ltb, le-ltb, ltb-true, ltb-false, eq-eqb, ne_eqb}
 use Rattle.book.specs.declared.item.Item.TheVariants.{Key, Call}
-use Rattle.book.specs.declared.item.ItemRead.TheVariants.{Found, Short}
-use Rattle.book.specs.Format.{width, versions}
+use Rattle.std.specs.Prelude.{Some, None}
+use Rattle.book.specs.declared.item.Item.{Item}
+use Rattle.book.specs.declared.item.Repeated.{Repeated}
+use Rattle.book.specs.Format.{repeated, width, versions}
 use Rattle.book.specs.Reading.{item_of, le16, times_in}
-use Rattle.book.specs.Promises.{numbers_at}
+use Rattle.book.specs.MacroItems.{front_item, item_read}
 use Rattle.runs.specs.Keys.{member}
-use Rattle.runs.proofs.Tests.{clash}
 
 -- How many bytes an item has.
 module _ (version : ℕ) where
@@ -77,16 +78,16 @@ module _ (s : List ℕ) (at : ℕ) where
 
     -- the ways out of `read_item`
     module _ (wide : ℕ) (e : wide ≡ width version) where
-      short : length s < at + width version → Short ≡ numbers_at version (drop at s)
+      short : length s < at + width version → None ≡ item_read version (drop at s)
       short h =
           let f : length s - at < width version = omega (arith, width-least version) in
           simp (length-drop, lt-ltb _ _ f)
 
-      pub code-short : length s < wide → Short ≡ numbers_at version (drop at s)
+      pub code-short : length s < wide → None ≡ item_read version (drop at s)
       code-short h = short (omega arith)
 
       module _ (room : wide ≤ length s) where
-        pub code-cut : length s - wide < at → Short ≡ numbers_at version (drop at s)
+        pub code-cut : length s - wide < at → None ≡ item_read version (drop at s)
         code-cut h = short (omega arith)
 
         module _ (h : at ≤ length s - wide) where
@@ -96,26 +97,26 @@ module _ (s : List ℕ) (at : ℕ) where
           pub code-there : at + 1 < length s
           code-there = omega (arith, room, width-least version)
 
-          pub code-found : {k n : ℕ} → k ≡ le16 (drop at s) → n ≡ times_in version (drop at s) → Found k n ≡ numbers_at version (drop at s)
+          pub code-found : {i : Item} {n : ℕ} → i ≡ item_of (le16 (drop at s)) → n ≡ times_in version (drop at s) → Some (repeated i n) ≡ item_read version (drop at s)
           code-found c t =
               let f : width version ≤ length s - at = omega (arith, room, width-least version) in
               rw (c, t, length-drop at s, le-ltb _ _ f) refl
 
--- numbers that were found are at the front of the bytes, which are enough for an item
-pub found_at : (version : ℕ) (b : List ℕ) (k n : ℕ) → numbers_at version b ≡ Found k n → (width version ≤ length b) × (k ≡ le16 b) × (n ≡ times_in version b)
-found_at version b k n e = go (ltb (length b) (width version)) refl e
+-- an item that was read is at the front of the bytes, which are enough for it
+pub found_at : (version : ℕ) (b : List ℕ) (i : Repeated) → item_read version b ≡ Some i → (width version ≤ length b) × (i ≡ front_item version b)
+found_at version b i e = go (ltb (length b) (width version)) refl e
   where
-    go : (t : Bool) → ltb (length b) (width version) ≡ t → cond t Short (Found (le16 b) (times_in version b)) ≡ Found k n → (width version ≤ length b) × (k ≡ le16 b) × (n ≡ times_in version b)
-    go true h f = clash (cc)
-    go false h f = (ltb-false _ _ h, cc, cc)
+    go : (t : Bool) → ltb (length b) (width version) ≡ t → cond t None (Some (front_item version b)) ≡ Some i → (width version ≤ length b) × (i ≡ front_item version b)
+    go true h f = absurd (cc)
+    go false h f = (ltb-false _ _ h, cc)
 
--- and where none was found they are not
-pub short-at : (version : ℕ) (b : List ℕ) → numbers_at version b ≡ Short → length b < width version
+-- and where none was read they are not
+pub short-at : (version : ℕ) (b : List ℕ) → item_read version b ≡ None → length b < width version
 short-at version b e = go (ltb (length b) (width version)) refl e
   where
-    go : (t : Bool) → ltb (length b) (width version) ≡ t → cond t Short (Found (le16 b) (times_in version b)) ≡ Short → length b < width version
+    go : (t : Bool) → ltb (length b) (width version) ≡ t → cond t None (Some (front_item version b)) ≡ None → length b < width version
     go true h f = ltb-true _ _ h
-    go false h f = clash (cc)
+    go false h f = absurd (cc)
 
 -- the two kinds of item
 pub item-key : (k : ℕ) → k < 256 → Key k ≡ item_of k

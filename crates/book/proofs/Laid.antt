@@ -9,18 +9,15 @@ use lib.Seq.{drop-drop, set_at, append_snoc, get_or_at}
 use borrow.Author.Tests.{eq-eqb, ne_eqb}
 use Rattle.refusal.specs.declared.Refusal.{Refusal}
 use Rattle.refusal.specs.declared.Refusal.TheVariants.{MalformedBody}
-use Rattle.book.specs.declared.layout.Checked.{Checked}
-use Rattle.book.specs.declared.layout.Header.{Header}
-use Rattle.book.specs.declared.layout.Layout.{Layout}
-use Rattle.book.specs.declared.layout.Walk.{Walk}
+use Rattle.std.specs.Prelude.{Result, Ok, Err}
 use Rattle.book.specs.Format.{Macro, versions, width}
 use Rattle.book.specs.Offset.{size, starts}
 use Rattle.book.specs.Reading.{Reading, got, refused, next, done, read_header, read_macro, read_macros, read_all, read_in, read_book, version_in}
-use Rattle.book.specs.Answer.{layout_figures, book_layout, layout_for, refused_layout}
-use Rattle.book.specs.Promises.{walk_of, header_of}
-use Rattle.book.proofs.LayoutLaws.{figures-laid}
+use Rattle.book.specs.Answer.{offsets_of, offsets_in, check_result, opened_figures}
+use Rattle.book.specs.Promises.{walk_of, header_of, table_of}
 use Rattle.book.proofs.Header.{header-got, headed-macros, headed-refused}
-use Rattle.book.proofs.Offsets.{macro-got, starts-length, starts_more}
+use Rattle.book.proofs.Offsets.{macro-got, starts-length, starts_more, whole as whole-reading}
+use Rattle.refusal.specs.Figures.{answered}
 use Rattle.book.proofs.Walks.{walked-refused, walked_at}
 
 -- macros that were read before those of a reading
@@ -50,7 +47,10 @@ pub record Laid (version : ℕ) (s : List ℕ) (count : ℕ) (offsets : List ℕ
   pub reading : read_macros version 0 count (drop 7 s) ≡ prepend macros (read_macros version n (count - n) (drop at s))
 
 module _ (version : ℕ) (s : List ℕ) (ev : version ≡ version_in s) (count : ℕ) where
-  as_read : (x : Layout) → x ≡ layout_for version (read_all version count (drop 7 s)) → x ≡ layout_for (version_in s) (read_all (version_in s) count (drop 7 s))
+  abbrev answer : Result (List ℕ) Refusal
+  answer = table_of (version_in s) (read_all (version_in s) count (drop 7 s))
+
+  as_read : (x : Result (List ℕ) Refusal) → x ≡ table_of version (read_all version count (drop 7 s)) → x ≡ answer
   as_read x e = rw ev at e
 
   pub laid_none : (offsets : List ℕ) → offsets ≡ 7 ∷ replicate 1024 0 → Laid version s count offsets 7 0
@@ -59,17 +59,17 @@ module _ (version : ℕ) (s : List ℕ) (ev : version ≡ version_in s) (count :
       let all : count ≡ count - 0 = omega arith in
       record { macros = []; many = refl; here = refl; table = e; reading = prepend-none _ ∙ ap (λ (k : ℕ). prepend [] (read_macros version 0 k (drop 7 s))) all }
 
-  module _ (offsets : List ℕ) (at n : ℕ) (l : Laid version s count offsets at n) (w : Walk) (h : n < count) (e : w ≡ walk_of (length s) (read_macro version n (drop at s))) where
+  module _ (offsets : List ℕ) (at n : ℕ) (l : Laid version s count offsets at n) (w : Result ℕ Refusal) (h : n < count) (e : w ≡ walk_of (length s) (read_macro version n (drop at s))) where
     less : count - n ≡ suc (count - (n + 1))
     less = omega arith
 
-    pub laid-refused : (r : Refusal) (x : Layout) → w ≡ Walk.Refused r → x ≡ refused_layout r → x ≡ layout_for (version_in s) (read_all (version_in s) count (drop 7 s))
+    pub laid-refused : (r : Refusal) → w ≡ Err r → Err r ≡ answer
     unfolding read_all read_macros prepend
-    laid-refused r x f g =
+    laid-refused r f =
         let stop : read_macro version n (drop at s) ≡ refused r = walked-refused (length s) (read_macro version n (drop at s)) r (sym e ∙ f) in
-        as_read x (g ∙ rw (l.reading, less, stop))
+        as_read (Err r) (rw (l.reading, less, stop) refl)
 
-    pub laid_more : (p : ℕ) → at ≤ length s → count ≤ 1024 → w ≡ Walk.At p → (p ≤ length s) × Laid version s count (set offsets (n + 1) p) p (n + 1)
+    pub laid_more : (p : ℕ) → at ≤ length s → count ≤ 1024 → w ≡ Ok p → (p ≤ length s) × Laid version s count (set offsets (n + 1) p) p (n + 1)
     laid_more p in-s few f = on (walked_at (length s) (read_macro version n (drop at s)) p (sym e ∙ f))
       where
         on : ((m : Macro) × (rest : List ℕ) × (read_macro version n (drop at s) ≡ got m rest) × (p ≡ length s - length rest)) → (p ≤ length s) × Laid version s count (set offsets (n + 1) p) p (n + 1)
@@ -100,34 +100,61 @@ module _ (version : ℕ) (s : List ℕ) (ev : version ≡ version_in s) (count :
         let none : count - n ≡ 0 = omega arith in
         l.reading ∙ rw (none, append-nil)
 
-    pub laid-left : (x : Layout) → at < length s → x ≡ refused_layout MalformedBody → x ≡ layout_for (version_in s) (read_all (version_in s) count (drop 7 s))
+    pub laid-left : at < length s → Err MalformedBody ≡ answer
     unfolding read_all
-    laid-left x i f =
+    laid-left i =
         let some : length (drop at s) ≡ 0 → ⊥ = rw length-drop (omega arith) in
-        as_read x (f ∙ rw (all, ne_eqb _ _ some))
+        as_read (Err MalformedBody) (rw (all, ne_eqb _ _ some) refl)
 
-    pub laid_end : (x : Layout) → length s ≤ at → x ≡ record { answer = Checked.Sound count; offsets = offsets } → x ≡ layout_for (version_in s) (read_all (version_in s) count (drop 7 s))
+    pub laid_end : length s ≤ at → Ok offsets ≡ answer
     unfolding read_all
-    laid_end x i f =
+    laid_end i =
         let none : length (drop at s) ≡ 0 = rw length-drop (omega arith) in
-        let same : length l.macros ≡ count = omega arith in
-        let exact : count ≡ n = omega arith in
-        as_read x (f ∙ rw (all, eq-eqb _ _ none, same, l.table, exact))
+        let exact : length l.macros ≡ n = l.many in
+        as_read (Ok offsets) (rw (all, eq-eqb _ _ none, l.table, exact) refl)
 
 -- the whole book, after its header
-module _ (s : List ℕ) (g : Header) (e : g ≡ header_of (read_header versions s)) where
-  pub header-fits : (k : ℕ) → g ≡ Header.Macros k → (7 ≤ length s) × (k ≤ 1024)
+module _ (s : List ℕ) (g : Result ℕ Refusal) (e : g ≡ header_of (read_header versions s)) where
+  pub header-fits : (k : ℕ) → g ≡ Ok k → (7 ≤ length s) × (k ≤ 1024)
   header-fits k f =
       let (rest, h) = headed-macros (read_header versions s) k (sym e ∙ f) in
       let r = header-got versions s k rest h in
       (r.long, r.few)
 
-  pub whole-macros : (x : Layout) (k : ℕ) → g ≡ Header.Macros k → x ≡ layout_for (version_in s) (read_all (version_in s) k (drop 7 s)) → layout_figures x ≡ book_layout s
+  pub header-refused : {r : Refusal} → g ≡ Err r → opened_figures (Err r) ≡ check_result (read_book s)
   unfolding read_book read_in
-  whole-macros x k f i =
-      let (rest, h) = headed-macros (read_header versions s) k (sym e ∙ f) in
-      figures-laid (version_in s) x (read_book s) (i ∙ rw (h, (header-got versions s k rest h).behind))
+  header-refused {r} f = rw (headed-refused (read_header versions s) r (sym e ∙ f)) refl
 
-  pub whole-refused : (x : Layout) (r : Refusal) → g ≡ Header.Refused r → x ≡ refused_layout r → layout_figures x ≡ book_layout s
-  unfolding read_book read_in
-  whole-refused x r f i = figures-laid (version_in s) x (read_book s) (i ∙ rw (headed-refused (read_header versions s) r (sym e ∙ f)))
+  module _ (k : ℕ) (f : g ≡ Ok k) (t : Result (List ℕ) Refusal) (h : t ≡ table_of (version_in s) (read_all (version_in s) k (drop 7 s))) where
+    whole : read_book s ≡ read_all (version_in s) k (drop 7 s)
+    unfolding read_book read_in
+    whole =
+        let (rest, i) = headed-macros (read_header versions s) k (sym e ∙ f) in
+        rw (i, (header-got versions s k rest i).behind)
+
+    pub macros-refused : {r : Refusal} → t ≡ Err r → opened_figures (Err r) ≡ check_result (read_book s)
+    macros-refused {r} i = rw whole (go (read_all (version_in s) k (drop 7 s)) (sym i ∙ h))
+      where
+        go : (g : Reading (List Macro)) → Err r ≡ table_of (version_in s) g → opened_figures (Err r) ≡ check_result g
+        go (got ms rest) j = absurd (cc)
+        go (refused q) j = let same : r ≡ q = cc in rw same refl
+
+    -- as many macros as the header says
+    pub macros-sound : {o : List ℕ} → t ≡ Ok o → answered k ≡ check_result (read_book s)
+    unfolding read_book
+    macros-sound {o} i = go (read_book s) refl (rw whole (sym i ∙ h))
+      where
+        go : (g : Reading (List Macro)) → read_book s ≡ g → Ok o ≡ table_of (version_in s) g → answered k ≡ check_result g
+        go (got ms rest) j l =
+            let (behind, w) = headed-macros (read_header versions s) k (sym e ∙ f) in
+            let many : k ≡ length ms = sym (header-got versions s k behind w).count ∙ (whole-reading versions s ms rest j).count in
+            ap answered many
+        go (refused q) j l = absurd (cc)
+
+    pub macros-laid : {o : List ℕ} → t ≡ Ok o → o ≡ offsets_in s
+    unfolding offsets_in
+    macros-laid {o} i = rw whole (go (read_all (version_in s) k (drop 7 s)) (sym i ∙ h))
+      where
+        go : (g : Reading (List Macro)) → Ok o ≡ table_of (version_in s) g → o ≡ offsets_of (version_in s) g
+        go (got ms rest) j = cc
+        go (refused q) j = absurd (cc)

@@ -13,7 +13,9 @@ use Rattle.refusal.specs.declared.Refusal.TheVariants.{MalformedBody, InvalidKey
 use Rattle.book.specs.declared.item.Item.{Item}
 use Rattle.book.specs.declared.item.Item.TheVariants.{Key, Call}
 use Rattle.book.specs.Reading.{got, item_of, le16, times_in, check_times, check_item, read_item, read_items, read_macro, read_macros, has_magic, read_header, version_in, at_end, read_all, read_in}
-use Rattle.book.specs.Format.{Repeated, repeated, Macro, sound_target, sound_item, width}
+use Rattle.book.specs.Format.{repeated, Macro, sound_target, sound_item, width}
+use Rattle.book.specs.declared.item.Repeated.{Repeated}
+use Rattle.book.specs.MacroItems.{front_item, front_items}
 use Rattle.book.specs.Offset.{size, starts, start_of, offset}
 use Rattle.runs.specs.Keys.{member}
 use Rattle.runs.proofs.Tests.{and_both}
@@ -71,20 +73,11 @@ checked-is n c t b rest i e = go (ltb c 256) refl e
         let (lower, g) = test-got (ltb (c - 256) n) (check_times (Call (c - 256)) t b) ForwardReference i rest f in
         often (Call (c - 256)) lower g
 
--- the item at the front of some bytes
-abbrev pub front_item : ℕ → List ℕ → Repeated
-front_item version b = repeated (item_of (le16 b)) (times_in version b)
-
 pub item-is : (version n : ℕ) (b rest : List ℕ) (i : Repeated) → read_item version n b ≡ got i rest → (front_item version b ≡ i) × (sound_item n i ≡ true)
 unfolding read_item
 item-is version n b rest i e =
     checked-is n (le16 b) (times_in version b) (drop (width version) b) rest i
     (untest-got (ltb (length b) (width version)) (check_item n (item_of (le16 b)) (times_in version b) (drop (width version) b)) MalformedBody i rest e).1
-
--- the first k items of some bytes
-unfoldable pub front_items : ℕ → ℕ → List ℕ → Macro
-front_items version zero b = []
-front_items version (suc k) b = front_item version b ∷ front_items version k (drop (width version) b)
 
 -- items that were read are these
 items-front : (version n k : ℕ) (b rest : List ℕ) (is : Macro) → read_items version n k b ≡ got is rest → front_items version k b ≡ is

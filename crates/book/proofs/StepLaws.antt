@@ -10,25 +10,20 @@ use borrow.Author.Tests.{lt-ltb, le-ltb, ltb-true, ltb-false}
 use Rattle.runs.proofs.Tests.{clash}
 use Rattle.refusal.specs.declared.Refusal.{Refusal}
 use Rattle.refusal.specs.declared.Refusal.TheVariants.{NoSuchMacro, InsufficientSpace}
-use Rattle.book.specs.Reading.{read_book, macros_in}
-use Rattle.book.specs.Answer.{layout_figures, book_layout}
-use Rattle.book.specs.declared.layout.Checked.{Checked}
-use Rattle.book.specs.declared.layout.Layout.{Layout}
-use Rattle.book.specs.declared.space.Space.{Space}
+use Rattle.book.specs.Reading.{read_book}
+use Rattle.std.specs.Prelude.{Result, Ok, Err}
+use Rattle.book.specs.Answer.{check_result, offsets_in, opened_figures}
+use Rattle.book.specs.declared.layout.Book.{Book}
 use Rattle.book.specs.Steps.{refused, settled, ◌>>=◌, answer_by, book_step, space_by, space_step, InBook, settled_by}
-use Rattle.book.proofs.LayoutLaws.{layout-figures, layout-table, layout-refused, layout-sound, layout-count}
+use Rattle.book.proofs.LayoutLaws.{opened-refused, opened-sound, opened-count}
 
--- The book, by what `layout_of` answers.
-module _ (book : List ℕ) (l : Layout) (e : layout_figures l ≡ book_layout book) where
-  pub book-refuses : {r : Refusal} → l.answer ≡ Checked.Refused r → book_step (read_book book) ≡ refused r
-  book-refuses f = ap book_step (layout-refused book (layout-figures book e) f)
+-- The book, by what `open` answers.
+module _ (b : List ℕ) where
+  pub book-refuses : {r : Refusal} → opened_figures (Err r) ≡ check_result (read_book b) → book_step (read_book b) ≡ refused r
+  book-refuses e = ap book_step (opened-refused b e)
 
-  module _ {n : ℕ} (f : l.answer ≡ Checked.Sound n) where
-    book-settles : book_step (read_book book) ≡ settled (macros_in book)
-    book-settles = ap book_step (layout-sound book (layout-figures book e) f)
-
-    pub book-in : InBook book l.offsets n
-    book-in = record { table = layout-table book l e; many = layout-count book (layout-figures book e) f; sound = book-settles }
+  pub book-in : {o : List ℕ} (k : Book) → opened_figures (Ok k) ≡ check_result (read_book b) → o ≡ offsets_in b → InBook b o k.macros
+  book-in k e f = record { table = f; many = opened-count b k e; sound = ap book_step (opened-sound b k e) }
 
 -- The macro and the words, by their numbers.
 module _ (macros m need words : ℕ) where
@@ -61,11 +56,11 @@ module _ (macros m width words : ℕ) (inside : m < macros) where
     quotient-enough h = space-enough macros m (suc m * width) words inside ((le-div_iff_mul-le positive).0 h)
 
 -- and by what `space_for` answers
-module _ (macros m need words : ℕ) (x : Space) (e : settled_by x ≡ space_step macros m need words) where
-  pub space-refuses : {r : Refusal} → x ≡ Space.Refused r → space_step macros m need words ≡ refused r
+module _ (macros m need words : ℕ) (x : Result (Unit {0}) Refusal) (e : settled_by x ≡ space_step macros m need words) where
+  pub space-refuses : {r : Refusal} → x ≡ Err r → space_step macros m need words ≡ refused r
   space-refuses f = sym e ∙ ap settled_by f
 
-  module _ (f : x ≡ Space.Enough) where
+  module _ (f : x ≡ Ok tt) where
     pub space-settles : space_step macros m need words ≡ settled tt
     space-settles = sym e ∙ ap settled_by f
 

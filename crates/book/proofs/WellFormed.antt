@@ -12,7 +12,8 @@ use lib.ListN.{length, get_or}
 use borrow.Author.Tests.{leb-true, lt-ltb, le-leb, eqb-true, eq-eqb}
 use Rattle.book.specs.declared.item.Item.{Item}
 use Rattle.book.specs.declared.item.Item.TheVariants.{Key, Call}
-use Rattle.book.specs.Format.{Repeated, repeated, Macro, sound_target, sound_item, sound_items, sound_macro, sound_macros, well_formed, item_fits, items_fit, fits}
+use Rattle.book.specs.Format.{repeated, Macro, sound_target, sound_item, sound_items, sound_macro, sound_macros, well_formed, item_fits, items_fit, fits}
+use Rattle.book.specs.declared.item.Repeated.{Repeated}
 use Rattle.book.proofs.Expansion.{well-nonempty, well-short, well-key, well-call, well-times}
 use Rattle.runs.specs.Keys.{is_key}
 use Rattle.runs.proofs.Tests.{and_both, and_parts}

@@ -1,55 +1,36 @@
 -- What each operation of the book answers, by the definitions of the book.
-use Rattle.std.specs.Prelude.{ℕ, ◌+◌, ◌-◌, cond, List, [], ◌++◌, ltb, length, replicate}
+use Rattle.std.specs.Prelude.{ℕ, ◌+◌, ◌-◌, cond, List, [], ◌++◌, Result, Ok, Err, ltb, length, replicate}
 use Rattle.refusal.specs.declared.Refusal.{Refusal}
 use Rattle.refusal.specs.declared.Refusal.TheVariants.{NoSuchMacro}
 use Rattle.refusal.specs.Number as Number
 use Rattle.refusal.specs.Figures.{Figures, answered, refused_for}
-use Rattle.book.specs.declared.layout.Checked.{Checked}
-use Rattle.book.specs.declared.layout.Layout.{Layout}
+use Rattle.book.specs.declared.layout.Book.{Book}
 use Rattle.book.specs.Offset.{starts, body_part, offset}
 use Rattle.book.specs.Format.{Macro, width}
 use Rattle.book.specs.Reading.{Reading, Reader, got, refused, ◌>>=◌, read_book, version_in}
 
 -- the check of a book: its macro count
-abbrev pub checked_figures : Checked → Figures ℕ
-checked_figures (Checked.Sound n) = answered n
-checked_figures (Checked.Refused r) = refused_for r
+abbrev pub checked_figures : Result ℕ Refusal → Figures ℕ
+checked_figures (Ok n) = answered n
+checked_figures (Err r) = refused_for r
+
+-- and of a book that is opened
+abbrev pub opened_figures : Result Book Refusal → Figures ℕ
+opened_figures (Ok b) = answered b.macros
+opened_figures (Err r) = refused_for r
 
 abbrev pub check_result : Reading (List Macro) → Figures ℕ
 check_result (got ms rest) = answered (length ms)
 check_result (refused r) = refused_for r
 
--- a book's layout: its check and where its macros stand
-pub record LayoutFigures : Type 0 where
-  pub check : Figures ℕ
-  pub offsets : List ℕ
-
-abbrev pub layout_figures : Layout → LayoutFigures
-layout_figures l = record { check = checked_figures l.answer; offsets = l.offsets }
-
--- zeros in the offsets that are left over, or where it is refused
+-- where the macros of a book start and the last one ends, with zeros up to 1,025 numbers; zeros alone where it is refused
 abbrev pub offsets_of : ℕ → Reading (List Macro) → List ℕ
 offsets_of version (got ms rest) = starts (width version) 7 ms ++ replicate (1024 - length ms) 0
 offsets_of version (refused r) = replicate 1025 0
 
-abbrev pub layout_result : ℕ → Reading (List Macro) → LayoutFigures
-layout_result version g = record { check = check_result g; offsets = offsets_of version g }
-
--- the layout of a book's bytes, by its version
-abbrev pub book_layout : List ℕ → LayoutFigures
-book_layout b = layout_result (version_in b) (read_book b)
-
--- the layout of a book that is refused
-abbrev pub refused_layout : Refusal → Layout
-refused_layout r = record { answer = Checked.Refused r; offsets = replicate 1025 0 }
-
--- the layout with these figures, and that of a book's bytes; no public contract cites it
-abbrev pub layout_for : ℕ → Reading (List Macro) → Layout
-layout_for version (got ms rest) = record { answer = Checked.Sound (length ms); offsets = offsets_of version (got ms rest) }
-layout_for version (refused r) = refused_layout r
-
-unfoldable pub layout : List ℕ → Layout
-layout b = layout_for (version_in b) (read_book b)
+-- those of a book's bytes, by its version
+unfoldable pub offsets_in : List ℕ → List ℕ
+offsets_in b = offsets_of (version_in b) (read_book b)
 
 -- 10 after 1 to 6 and 20: "m not below M"
 unfoldable pub require_macro : ℕ → Reader (List Macro)

@@ -3,12 +3,9 @@ use Rattle.std.specs.Prelude.{ℕ, suc, ◌+◌, ◌/◌, ◌%◌, ◌≡◌, Bo
 use Rattle.runs.specs.Keys.{is_key, member}
 use Rattle.book.specs.declared.item.Item.{Item}
 use Rattle.book.specs.declared.item.Item.TheVariants.{Key, Call}
+use Rattle.book.specs.declared.item.Repeated.{Repeated}
 
 -- an item and how often it stands there: "a version 1 item stands once"
-pub record Repeated : Type 0 where
-  pub item : Item
-  pub times : ℕ
-
 abbrev pub repeated : Item → ℕ → Repeated
 repeated i n = record { item = i; times = n }
 

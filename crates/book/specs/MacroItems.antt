@@ -1,9 +1,9 @@
 -- The items of one macro, found by a table of offsets, and the bytes that hold them.
-use Rattle.std.specs.Prelude.{ℕ, zero, suc, ◌+◌, ◌-◌, ◌/◌, min, Bool, ◌&&◌, cond, List, [], ◌∷◌, ◌++◌, leb, ltb, length, drop, get_or, replicate, take}
-use Rattle.book.specs.declared.item.ItemRead.{ItemRead}
-use Rattle.book.specs.declared.item.ItemRead.TheVariants.{Found, Short}
+use Rattle.std.specs.Prelude.{ℕ, zero, suc, ◌+◌, ◌-◌, ◌/◌, min, Bool, ◌&&◌, cond, List, [], ◌∷◌, ◌++◌, Option, Some, None, leb, ltb, length, drop, get_or, replicate, take}
+use Rattle.book.specs.declared.item.Item.TheVariants.{Key}
+use Rattle.book.specs.declared.item.Repeated.{Repeated}
 use Rattle.book.specs.declared.macro_items.Items.{Items}
-use Rattle.book.specs.Format.{Repeated, repeated, Macro, width}
+use Rattle.book.specs.Format.{repeated, Macro, width}
 use Rattle.book.specs.Reading.{item_of, le16, times_in, version_in}
 
 -- where the items of macro i start, behind its two-byte item count, and where they end, at the next macro
@@ -29,19 +29,22 @@ part_from b offsets i = cond (placed b offsets i) (between (items_start offsets 
 unfoldable pub part_at : ℕ × ℕ → List ℕ → List ℕ → ℕ → ℕ × ℕ
 part_at p b offsets i = cond (placed b offsets i) (p.0, items_start offsets i + p.1) p
 
--- a number of each of the first k items that some bytes hold, of so many bytes each
-unfoldable pub each_in : (List ℕ → ℕ) → ℕ → ℕ → List ℕ → List ℕ
-each_in f wide zero b = []
-each_in f wide (suc k) b = f b ∷ each_in f wide k (drop wide b)
+-- the item at the front of some bytes
+abbrev pub front_item : ℕ → List ℕ → Repeated
+front_item version b = repeated (item_of (le16 b)) (times_in version b)
 
--- k items, and zeros up to 64
+-- the same where the bytes are enough for an item
+abbrev pub item_read : ℕ → List ℕ → Option Repeated
+item_read version b = cond (ltb (length b) (width version)) None (Some (front_item version b))
+
+-- the first k items that some bytes hold
+unfoldable pub front_items : ℕ → ℕ → List ℕ → Macro
+front_items version zero b = []
+front_items version (suc k) b = front_item version b ∷ front_items version k (drop (width version) b)
+
+-- k items, and keys of 0 up to 64
 abbrev pub items_up_to : ℕ → ℕ → List ℕ → Items
-items_up_to version k b =
-    record {
-      codes = each_in le16 (width version) k b ++ replicate (64 - k) 0;
-      times = each_in (times_in version) (width version) k b ++ replicate (64 - k) 0;
-      count = k;
-    }
+items_up_to version k b = record { list = front_items version k b ++ replicate (64 - k) (repeated (Key 0) 0); count = k }
 
 -- the items of a version that some bytes hold, 64 at the most
 unfoldable pub items_in : ℕ → List ℕ → Items
@@ -51,19 +54,6 @@ items_in version b = items_up_to version (min 64 (length b / width version)) b
 unfoldable pub items_from : List ℕ → List ℕ → ℕ → Items
 items_from b offsets i = items_in (version_in b) (part_from b offsets i)
 
--- the numbers of item k, where there is one
-unfoldable pub item_read_at : Items → ℕ → ItemRead
-item_read_at r k = cond (ltb k r.count) (Found (get_or r.codes k 0) (get_or r.times k 0)) Short
-
--- what the numbers of item k stand for
-abbrev pub item_at : Items → ℕ → Repeated
-item_at r k = repeated (item_of (get_or r.codes k 0)) (get_or r.times k 0)
-
--- and those of the first n
-unfoldable pub decoded_to : ℕ → Items → Macro
-decoded_to zero r = []
-decoded_to (suc n) r = decoded_to n r ++ (item_at r n ∷ [])
-
--- and those of all
+-- the items themselves
 unfoldable pub decoded : Items → Macro
-decoded r = decoded_to r.count r
+decoded r = take r.count r.list

@@ -5,7 +5,8 @@ use Rattle.refusal.specs.declared.Refusal.TheVariants.{BadMagic, UnsupportedVers
 use Rattle.book.specs.declared.item.Item.{Item}
 use Rattle.book.specs.declared.item.Item.TheVariants.{Key, Call}
 use Rattle.runs.specs.Keys.{member}
-use Rattle.book.specs.Format.{Repeated, repeated, Macro, width, versions}
+use Rattle.book.specs.Format.{repeated, Macro, width, versions}
+use Rattle.book.specs.declared.item.Repeated.{Repeated}
 
 -- what was read and the bytes after it, or the refusal
 pub data Reading (A : Type 0) : Type 0 where

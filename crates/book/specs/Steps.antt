@@ -1,12 +1,11 @@
 -- Document 01, "Refused": the steps that come before any work on a book: the book itself, then the macro and the words. What an operation
 -- asks besides stands before, between or behind them.
-use Rattle.std.specs.Prelude.{ℕ, ◌≡◌, Bool, cond, List, ltb, length}
+use Rattle.std.specs.Prelude.{ℕ, ◌≡◌, Bool, cond, List, Result, Ok, Err, ltb, length}
 use Rattle.refusal.specs.declared.Refusal.{Refusal}
 use Rattle.refusal.specs.declared.Refusal.TheVariants.{NoSuchMacro, InsufficientSpace}
-use Rattle.book.specs.declared.space.Space.{Space}
 use Rattle.book.specs.Format.{Macro}
 use Rattle.book.specs.Reading.{Reading, read_book, macros_in}
-use Rattle.book.specs.Answer.{layout}
+use Rattle.book.specs.Answer.{offsets_in}
 
 -- a step refuses, or hands something on
 pub data Settled (A : Type 0) : Type 0 where
@@ -40,11 +39,11 @@ space_step macros m need words = space_by (ltb m macros) (ltb words need)
 
 -- the first: the places of a sound book's macros, and how many there are
 pub record InBook (book offsets : List ℕ) (macros : ℕ) : Type 0 where
-  pub table : offsets ≡ (layout book).offsets
+  pub table : offsets ≡ offsets_in book
   pub many : macros ≡ length (macros_in book)
   pub sound : book_step (read_book book) ≡ settled (macros_in book)
 
 -- the second: nothing
-abbrev pub settled_by : Space → Settled (Unit {0})
-settled_by Space.Enough = settled tt
-settled_by (Space.Refused r) = refused r
+abbrev pub settled_by : Result (Unit {0}) Refusal → Settled (Unit {0})
+settled_by (Ok u) = settled tt
+settled_by (Err r) = refused r

@@ -2,7 +2,7 @@
 ghost use Rattle.std.specs.Prelude.{◌≡◌, ◌+◌, ◌≤◌, length, drop};
 ghost use Rattle.book.specs.Format.{width};
 ghost use Rattle.book.specs.Reading.{item_of, times_in};
-ghost use Rattle.book.specs.Promises.{numbers_at};
+ghost use Rattle.book.specs.MacroItems.{item_read};
 
 use crate::number::le16_at;
 use crate::version::width_of;
@@ -14,11 +14,11 @@ pub enum Item {
     Call(u16),
 }
 
-// What stands at a place: the number of an item and its repeat count, or fewer bytes than an item has.
+// An item, and how often it stands there.
 #[derive(Clone, Copy)]
-pub enum ItemRead {
-    Found(u16, u16),
-    Short,
+pub struct Repeated {
+    pub item: Item,
+    pub times: u16,
 }
 
 // The repeat count of the item whose bytes start at `at`; an item of version 1 stands once.
@@ -32,19 +32,20 @@ fn times_at(s: &[u8], at: usize, version: u16) -> u16
     le16_at(s, at + 2)
 }
 
-// The number and the repeat count of the item whose bytes start at `at`, in a book of a version.
-pub(crate) fn read_item(s: &[u8], at: usize, version: u16) -> ItemRead
-    ensures { result ≡ numbers_at version (drop at s.now) }
+// The item whose bytes start at `at`, in a book of a version, unless there are fewer bytes than an item has.
+pub(crate) fn read_item(s: &[u8], at: usize, version: u16) -> Option<Repeated>
+    ensures { result ≡ item_read version (drop at s.now) }
 {
     let width = width_of(version);
     if s.len() < width {
-        return ItemRead::Short;
+        return None;
     }
     if s.len() - width < at {
-        return ItemRead::Short;
+        return None;
     }
-    let code = le16_at(s, at);
-    ItemRead::Found(code, times_at(s, at, version))
+    let item = item_of(le16_at(s, at));
+    let times = times_at(s, at, version);
+    Some(Repeated { item, times })
 }
 
 // What an item's number stands for.

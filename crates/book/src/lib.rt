@@ -11,8 +11,8 @@ mod space;
 mod version;
 
 pub use answers::{body, check};
-pub use item::{Item, ItemRead, item_of};
-pub use layout::{Checked, Layout, layout_of};
-pub use macro_items::{Items, item_at, items_of};
-pub use space::{Space, space_for};
+pub use item::{Item, Repeated, item_of};
+pub use layout::Book;
+pub use macro_items::Items;
+pub use space::space_for;
 pub use version::version_of;

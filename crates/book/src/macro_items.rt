@@ -1,39 +1,25 @@
 // The items of one macro. Every table of offsets and every macro number is taken; those that fit no macro give no items.
-ghost use Rattle.std.specs.Prelude.{◌≡◌};
-ghost use Rattle.book.specs.MacroItems.{item_read_at, items_from, items_in, part_at, part_from};
+ghost use Rattle.std.specs.Prelude.{◌≡◌, slice_get};
+ghost use Rattle.book.specs.MacroItems.{decoded, items_from, items_in, part_at, part_from};
 
-use crate::item::{ItemRead, read_item};
-use crate::version::{version_of, width_of};
+use crate::item::{Item, Repeated, read_item};
+use crate::layout::Book;
+use crate::version::width_of;
 
-// The numbers of a macro's items and how often each stands there, `count` of them, and zeros behind them.
+// The items of a macro, `count` of them, and keys of 0 behind them.
 #[derive(Clone, Copy)]
 pub struct Items {
-    pub codes: [u16; 64],
-    pub times: [u16; 64],
+    pub list: [Repeated; 64],
     pub count: usize,
 }
 
-// The bytes of macro i's items: from behind its item count to where the next macro starts.
-pub(crate) fn part_of<'a>(book: &'a [u8], offsets: &[usize; 1025], i: usize) -> &'a [u8]
-    ensures part { result.now ≡ part_from book.now offsets.now i }
-    ensures place { result.ref_ptr ≡ part_at book.entry.ref_ptr book.now offsets.now i }
-{
-    if 1024 <= i {
-        return &book[..0];
+impl Items {
+    // The items themselves.
+    pub fn as_slice(&self) -> &[Repeated]
+        ensures { result.now ≡ decoded self.now }
+    {
+        &self.list[..self.count.min(64)]
     }
-    let count = offsets[i];
-    let end = offsets[i + 1];
-    if end < 2 {
-        return &book[..0];
-    }
-    if end - 2 < count {
-        return &book[..0];
-    }
-    if book.len() < end {
-        return &book[..0];
-    }
-    let start = count + 2;
-    &book[start..end]
 }
 
 // The items that some bytes of a book of a version hold, up to the 64 that a macro has at the most.
@@ -41,44 +27,59 @@ fn items_in(part: &[u8], version: u16) -> Items
     ensures { result ≡ items_in version part.now }
 {
     let width = width_of(version);
-    let mut codes = [0; 64];
-    let mut times = [0; 64];
-    let mut count = 0;
-    while count < 64 {
-        let read = read_item(part, width * count, version);
-        let ItemRead::Found(code, n) = read else {
-            return Items {
-                codes,
-                times,
-                count,
-            };
+    let nothing = Repeated {
+        item: Item::Key(0),
+        times: 0,
+    };
+    let mut list = [nothing; 64];
+    for count in 0..64 {
+        let Some(next) = read_item(part, width * count, version) else {
+            return Items { list, count };
         };
-        codes[count] = code;
-        times[count] = n;
-        count += 1;
+        list[count] = next;
     }
-    Items {
-        codes,
-        times,
-        count,
-    }
+    Items { list, count: 64 }
 }
 
-// The items of macro i, where `offsets` says where the macros start.
-pub fn items_of(book: &[u8], offsets: &[usize; 1025], i: usize) -> Items
-    ensures { result ≡ items_from book.now offsets.now i }
-{
-    let version = version_of(book);
-    items_in(part_of(book, offsets, i), version)
-}
-
-// Item k of macro i alone, for whoever has no room for all of them; or that there is none.
-pub fn item_at(book: &[u8], offsets: &[usize; 1025], i: usize, k: usize) -> ItemRead
-    ensures { result ≡ item_read_at (items_from book.now offsets.now i) k }
-{
-    if 64 <= k {
-        return ItemRead::Short;
+impl<'a> Book<'a> {
+    // The bytes of macro i's items: from behind its item count to where the next macro starts.
+    pub(crate) fn part(&self, i: usize) -> &'a [u8]
+        ensures part { result.now ≡ part_from self.now.bytes.now self.now.offsets i }
+        ensures place { result.ref_ptr ≡ part_at self.now.bytes.ref_ptr self.now.bytes.now self.now.offsets i }
+    {
+        if 1024 <= i {
+            return &self.bytes[..0];
+        }
+        let count = self.offsets[i];
+        let end = self.offsets[i + 1];
+        if end < 2 {
+            return &self.bytes[..0];
+        }
+        if end - 2 < count {
+            return &self.bytes[..0];
+        }
+        if self.bytes.len() < end {
+            return &self.bytes[..0];
+        }
+        let start = count + 2;
+        &self.bytes[start..end]
     }
-    let version = version_of(book);
-    read_item(part_of(book, offsets, i), width_of(version) * k, version)
+
+    // The items of macro i.
+    pub fn items(&self, i: usize) -> Items
+        ensures { result ≡ items_from self.now.bytes.now self.now.offsets i }
+    {
+        items_in(self.part(i), self.version())
+    }
+
+    // Item k of macro i alone, for whoever has no room for all of them.
+    pub fn item(&self, i: usize, k: usize) -> Option<Repeated>
+        ensures { result ≡ slice_get (decoded (items_from self.now.bytes.now self.now.offsets i)) k }
+    {
+        if 64 <= k {
+            return None;
+        }
+        let version = self.version();
+        read_item(self.part(i), width_of(version) * k, version)
+    }
 }

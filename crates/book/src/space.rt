@@ -4,26 +4,19 @@ ghost use Rattle.book.specs.Steps.{settled_by, space_step};
 
 use refusal::Refusal;
 
-// Whether an operation has its macro and its work words.
-#[derive(Clone, Copy)]
-pub enum Space {
-    Enough,
-    Refused(Refusal),
-}
-
 // 10 and 11 of the table, for macro m of so many, where each of macros 0 to m needs `width` of the work words. No product
 // is made, so none is too large.
-pub fn space_for(macros: usize, m: usize, width: usize, words: usize) -> Space
+pub fn space_for(macros: usize, m: usize, width: usize, words: usize) -> Result<(), Refusal>
     ensures { settled_by result ≡ space_step macros m (suc m * width) words }
 {
     if macros <= m {
-        return Space::Refused(Refusal::NoSuchMacro);
+        return Err(Refusal::NoSuchMacro);
     }
     if width == 0 {
-        return Space::Enough;
+        return Ok(());
     }
     if words / width <= m {
-        return Space::Refused(Refusal::InsufficientSpace);
+        return Err(Refusal::InsufficientSpace);
     }
-    Space::Enough
+    Ok(())
 }

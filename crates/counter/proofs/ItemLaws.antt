@@ -18,7 +18,8 @@ use Rattle.runs.proofs.CountLaws.{sum-none, sum_more, sum-ext}
 use Rattle.book.specs.declared.item.Item.{Item}
 use Rattle.book.specs.declared.item.Item.TheVariants.{Key, Call}
 use Rattle.book.specs.declared.macro_items.Items.{Items}
-use Rattle.book.specs.Format.{Repeated, repeated, Macro}
+use Rattle.book.specs.Format.{repeated, Macro}
+use Rattle.book.specs.declared.item.Repeated.{Repeated}
 use Rattle.book.specs.Expansion.{keys_of, expand, unrolled}
 use Rattle.book.specs.Reading.{item_of}
 use Rattle.book.specs.MacroItems.{decoded}

@@ -6,7 +6,8 @@ use Rattle.runs.specs.Kept.{times}
 use Rattle.book.specs.declared.item.Item.{Item}
 use Rattle.book.specs.declared.item.Item.TheVariants.{Key, Call}
 use Rattle.book.specs.declared.macro_items.Items.{Items}
-use Rattle.book.specs.Format.{Repeated, Macro}
+use Rattle.book.specs.Format.{Macro}
+use Rattle.book.specs.declared.item.Repeated.{Repeated}
 use Rattle.book.specs.Expansion.{keys_of, expand, unrolled}
 use Rattle.book.specs.Reading.{macros_in}
 use Rattle.book.specs.Answer.{layout}

@@ -7,7 +7,8 @@ use Rattle.runs.specs.Kept.{first_words, times}
 use Rattle.book.specs.declared.item.Item.{Item}
 use Rattle.book.specs.declared.item.Item.TheVariants.{Key, Call}
 use Rattle.book.specs.declared.macro_items.Items.{Items}
-use Rattle.book.specs.Format.{Repeated, repeated, Macro, well_formed}
+use Rattle.book.specs.Format.{repeated, Macro, well_formed}
+use Rattle.book.specs.declared.item.Repeated.{Repeated}
 use Rattle.book.specs.Expansion.{keys_of, expand, unrolled, expansion}
 use Rattle.book.specs.Reading.{Reading, read_book, macros_in}
 use Rattle.book.specs.Steps.{settled, answer_by, book_step}

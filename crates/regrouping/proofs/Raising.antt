@@ -10,7 +10,8 @@ use borrow.Author.Tests.{lt-ltb, le-ltb}
 use Rattle.runs.proofs.Tests.{either}
 use Rattle.book.specs.declared.item.Item.{Item}
 use Rattle.book.specs.declared.item.Item.TheVariants.{Key, Call}
-use Rattle.book.specs.Format.{Repeated, Macro, item_fits}
+use Rattle.book.specs.Format.{Macro, item_fits}
+use Rattle.book.specs.declared.item.Repeated.{Repeated}
 use Rattle.book.specs.Expansion.{keys_of, expand, unrolled}
 use Rattle.book.proofs.Expansion.{unrolled-none, expand-none, expand-cons}
 use Rattle.book.proofs.WellFormed.{TargetSound, ItemSound, fits-alike}

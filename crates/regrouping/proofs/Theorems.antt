@@ -13,7 +13,8 @@ use Rattle.refusal.specs.declared.Refusal.{Refusal}
 use Rattle.runs.proofs.Tests.{by-test, either}
 use Rattle.book.specs.declared.item.Item.{Item}
 use Rattle.book.specs.declared.item.Item.TheVariants.{Key, Call}
-use Rattle.book.specs.Format.{Encodes, Repeated, repeated, Macro, versions, well_formed, item_fits, fits, encode}
+use Rattle.book.specs.Format.{Encodes, repeated, Macro, versions, well_formed, item_fits, fits, encode}
+use Rattle.book.specs.declared.item.Repeated.{Repeated}
 use Rattle.book.specs.Expansion.{expand, unrolled, expansion}
 use Rattle.book.proofs.Expansion.{well-call, unrolled-from, expand-same, expand-both, expand-single, expansion-law}
 use Rattle.book.proofs.WellFormed.{TargetSound, ItemSound, MacroSound, BookSound, well-iff, fits_iff, once-fits}

@@ -3,7 +3,8 @@ use Rattle.std.specs.Prelude.{ℕ, suc, ◌<◌, ◌≤◌, ◌≡◌, cond, ltb
 use mathlib.Core.List.{List, [], ◌∷◌, ◌++◌, map, Memᴰ}
 use Rattle.book.specs.declared.item.Item.{Item}
 use Rattle.book.specs.declared.item.Item.TheVariants.{Key, Call}
-use Rattle.book.specs.Format.{Repeated, repeated, Macro}
+use Rattle.book.specs.Format.{repeated, Macro}
+use Rattle.book.specs.declared.item.Repeated.{Repeated}
 
 -- every macro from j on goes up by one: the number that macro i has then
 unfoldable pub raised : ℕ → ℕ → ℕ

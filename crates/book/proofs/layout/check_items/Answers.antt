@@ -1,20 +1,20 @@
 -- `check_items`. Invariant: reading the items that are left, from here, ends as reading all of them does.
+use Prim.Native.Nat.{◌+◌, ◌-◌}
 use native.Mathlib.Omega.{arith}
-use mathlib.Core.Path.{refl}
-use borrow.Author.Rules.{rules}
+use Rattle.std.proofs.lemmas.Result.{err_from_is_err_and}
 use Rattle.book.proofs.Walks.{items_refused, items-on, items-done}
 use Rattle.book.proofs.layout.check_items.Goals as goal
 
-pub loop-left-init : goal.loop-left-init
-loop-left-init c = (search rules, refl)
-
-pub returns-in-Refused : goal.returns-in-Refused
-returns-in-Refused c = search items_refused
-
-pub loop-left-preserved : goal.loop-left-preserved
-loop-left-preserved c =
+pub returns-in_err-at : goal.returns-in_err-at
+returns-in_err-at c =
+    let p = err_from_is_err_and c.from_residual.result c.from_residual.ensures.1 in
     let a = c.args in
-    items-on a.s.now a.version a.n c.loop-left.at c.loop-left.left _ _ c.check_item.ensures c.loop-left.invariant.1 (omega arith) _ c.loop-left.invariant.0 c.in-At.is
+    rw (p.1, p.2) (items_refused a.s.now a.version a.n c.loop.at _ (a.count - (c.loop.counter + 1)) _ _ c.check_item.ensures c.loop.invariant.1 (omega arith) _ c.in_err-at.was)
+
+pub loop-preserved : goal.loop-preserved
+loop-preserved c =
+    let a = c.args in
+    items-on a.s.now a.version a.n c.loop.at _ (a.count - (c.loop.counter + 1)) _ _ c.check_item.ensures c.loop.invariant.1 (omega arith) _ c.loop.invariant.0 c.in_ok-at.was
 
 pub returns : goal.returns
-returns c = search items-done
+returns c = let a = c.args in items-done a.s.now a.version a.n c.loop.at _ _ c.loop.invariant.1 (omega arith) c.loop.invariant.0

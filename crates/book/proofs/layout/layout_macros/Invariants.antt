@@ -1,11 +1,8 @@
 -- `layout_macros`. Invariant: n macros were read, their offsets stand in the table, and reading goes on behind the last.
-use Prim.Native.Nat.{◌≤◌, ◌-◌}
+use Prim.Native.Nat.{◌≤◌}
 use lib.ListN.{length}
 use Rattle.book.proofs.Laid.{Laid}
 use Rattle.book.proofs.layout.layout_macros.Given as goal
 
 abbrev pub invariant-loop-n : goal.invariant-loop-n
-invariant-loop-n l = (l.n ≤ l.count) × (l.at ≤ length l.s) × Laid l.version l.s l.count l.offsets l.at l.n
-
-abbrev pub decreases-loop-n : goal.decreases-loop-n
-decreases-loop-n l = l.count - l.n
+invariant-loop-n l = (l.at ≤ length l.s) × Laid l.version l.s l.count l.offsets l.at l.n

@@ -1,4 +1,4 @@
--- `items_in`. Invariant: the first `count` items of the bytes are read, and zeros stand behind them.
+-- `items_in`. Invariant: the first `count` items of the bytes are read, and keys of 0 stand behind them.
 use native.Mathlib.Omega.{arith}
 use Rattle.book.proofs.MacroItems.{place-most, items-start, items-on, items-cut, items-full}
 use Rattle.book.proofs.macro_items.items_in.Goals as goal
