@@ -59,33 +59,32 @@ module _ (s : List ℕ) (p : ℕ) where
     range-fault h = rw (range-read, h)
 
   -- a class, whose name is read behind the `[:`
-  module _ (here : AtomCursor) (two : here ≡ cursor_at (p + 2)) where
-    module _ (c : ℕ) (d : AtomCursor) (e : Some (c, d) ≡ class_shown here.at (find_class 12 0 (drop here.at s))) where
-      found : (find_class 12 0 (drop (p + 2) s) ≡ math.some c) × (d ≡ cursor_at (p + 2 + (length (class_name c) + 2)))
-      found = go (find_class 12 0 (drop (p + 2) s)) (sym (rw two at e))
-        where
-          go : (o : math.Option ℕ) → class_shown (p + 2) o ≡ Some (c, d) → (o ≡ math.some c) × (d ≡ cursor_at (p + 2 + (length (class_name c) + 2)))
-          go math.none f = clash (cc)
-          go (math.some x) f = let (g, h) = some_pair_parts x c (cursor_at (p + 2 + (length (class_name x) + 2))) d f in (ap math.some g, sym h ∙ rw g)
+  module _ (here : AtomCursor) (two : here ≡ cursor_at (p + 2)) (c : ℕ) (d : AtomCursor) (e : Some (c, d) ≡ class_shown here.at (find_class 12 0 (drop here.at s))) where
+    found : (find_class 12 0 (drop (p + 2) s) ≡ math.some c) × (d ≡ cursor_at (p + 2 + (length (class_name c) + 2)))
+    found = go (find_class 12 0 (drop (p + 2) s)) (sym (rw two at e))
+      where
+        go : (o : math.Option ℕ) → class_shown (p + 2) o ≡ Some (c, d) → (o ≡ math.some c) × (d ≡ cursor_at (p + 2 + (length (class_name c) + 2)))
+        go math.none f = clash (cc)
+        go (math.some x) f = let (g, h) = some_pair_parts x c (cursor_at (p + 2 + (length (class_name x) + 2))) d f in (ap math.some g, sym h ∙ rw g)
 
-      pub class-near : p ≤ length s → d.at ≤ length s + 10
-      class-near low =
-          let less : c < 12 = (found-class (drop (p + 2) s) c 12 0 found.0).0 in
-          let short : length (class_name c) ≤ 6 = name-short c less in
-          rw found.1 (omega arith)
+    pub class-near : p ≤ length s → d.at ≤ length s + 10
+    class-near low =
+        let less : c < 12 = (found-class (drop (p + 2) s) c 12 0 found.0).0 in
+        let short : length (class_name c) ≤ 6 = name-short c less in
+        rw found.1 (omega arith)
 
-      module _ (t : Bool) (g : t ≡ starts_range (drop d.at s)) where
-        class-read-found : read_class (drop (p + 2) s) ≡ cond t fault (parsed (class c) (drop (p + 2 + (length (class_name c) + 2)) s))
-        class-read-found = rw (found.0, drop-drop, rw found.1 at g)
+    module _ (t : Bool) (g : t ≡ starts_range (drop d.at s)) where
+      class-read-found : read_class (drop (p + 2) s) ≡ cond t fault (parsed (class c) (drop (p + 2 + (length (class_name c) + 2)) s))
+      class-read-found = rw (found.0, drop-drop, rw found.1 at g)
 
-        pub class-range : t ≡ true → None ≡ element_shown p (read_class (drop (p + 2) s))
-        class-range k = rw (class-read-found, k)
+      pub class-range : t ≡ true → None ≡ element_shown p (read_class (drop (p + 2) s))
+      class-range k = rw (class-read-found, k)
 
-        pub class-found : t ≡ false → Some (variant.Class c, d) ≡ element_shown p (read_class (drop (p + 2) s))
-        unfolding write_element
-        class-found k =
-            let g : p + 2 + (length (class_name c) + 2) ≡ p + suc (suc (length (class_name c) + 2)) = omega arith in
-            rw (class-read-found, k, length-append, ← g) (ap (λ (n : AtomCursor). Some (variant.Class c, n)) found.1)
+      pub class-found : t ≡ false → Some (variant.Class c, d) ≡ element_shown p (read_class (drop (p + 2) s))
+      unfolding write_element
+      class-found k =
+          let g : p + 2 + (length (class_name c) + 2) ≡ p + suc (suc (length (class_name c) + 2)) = omega arith in
+          rw (class-read-found, k, length-append, ← g) (ap (λ (n : AtomCursor). Some (variant.Class c, n)) found.1)
 
   -- which of the three it is
   module _ (first : Bool) (a b : ℕ) (e : a ≡ get_or s p 0) (f : b ≡ get_or s (p + 1) 0) where
