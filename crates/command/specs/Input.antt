@@ -6,7 +6,9 @@ use Rattle.book.specs.Format.{Macro}
 use Rattle.book.specs.Reading.{Reading, got, refused, read_book}
 use Rattle.counter.specs.Counting.{Outcome, stopped, book_result, most_words}
 use Rattle.counter.specs.Answers.{outcome}
-use Rattle.counter.specs.declared.counting.BookCount.{BookCount}
+use Rattle.std.specs.Prelude.{Result, Ok, Err}
+use Rattle.refusal.specs.declared.Refusal.{Refusal}
+use Rattle.counter.specs.declared.counting.Count.{Count}
 use Rattle.runs.specs.Keys.{line_end}
 
 -- "Standard input: the pattern, LF, the book."
@@ -45,7 +47,7 @@ pub record Told : Type 0 where
 abbrev pub told : Outcome → Told
 told o = record { refusal = o.refusal; lines = o.lines; steps = o.steps }
 
-abbrev pub told_by : BookCount → Told
+abbrev pub told_by : Result Count Refusal → Told
 told_by r = told (outcome r [])
 
 -- "with 4,096 work words"

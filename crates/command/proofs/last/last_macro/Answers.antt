@@ -6,8 +6,8 @@ use Rattle.command.proofs.last.last_macro.Goals as goal
 pub overflow_sub-result : goal.overflow_sub-result
 overflow_sub-result c = search (some-macro, rules)
 
-pub returns-in-Sound : goal.returns-in-Sound
-returns-in-Sound c = search (last-sound)
+pub returns-in-Ok : goal.returns-in-Ok
+returns-in-Ok c = search (last-sound)
 
-pub returns-in-Refused : goal.returns-in-Refused
-returns-in-Refused c = search (last-refused)
+pub returns-in-Err : goal.returns-in-Err
+returns-in-Err c = search (last-refused)
