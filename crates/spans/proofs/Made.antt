@@ -68,13 +68,13 @@ module _ (keys enter : List ℕ) (p : Accepting) (a : Span) (k : ℕ) where
     pub moved-rows : {rows : List ℕ} {x : Span} → a.ended ≡ false → rows ≡ rows_of s (λ q. keyed keys enter p k s (get_or a.rows q 0)) → x ≡ of_rows s rows a.edges → x ≡ moved_states keys enter p a k
     moved-rows e g x = rw (x, g, c, e) refl
 
-    pub moved-return : {x y : Span} {d : Edges} → k ≡ carriage_return → x ≡ moved_states keys enter p a k → d ≡ return_edges s p a → y ≡ with_edges d x → y ≡ moved_span keys enter p a k
+    pub moved-return : {x : Span} {d : Edges} → k ≡ carriage_return → x ≡ moved_states keys enter p a k → d ≡ return_edges s p a → with_edges d x ≡ moved_span keys enter p a k
     unfolding moved_span moved_edges
-    moved-return e x d y = rw (eq-eqb k carriage_return e, y, d, x, c) refl
+    moved-return e x d = rw (eq-eqb k carriage_return e, d, x, c) refl
 
-  pub moved-key : {x y : Span} {d : Edges} → (k ≡ carriage_return → ⊥) → x ≡ moved_states keys enter p a k → d ≡ key_edges a → y ≡ with_edges d x → y ≡ moved_span keys enter p a k
+  pub moved-key : {x : Span} {d : Edges} → (k ≡ carriage_return → ⊥) → x ≡ moved_states keys enter p a k → d ≡ key_edges a → with_edges d x ≡ moved_span keys enter p a k
   unfolding moved_span moved_edges
-  moved-key e x d y = rw (ne_eqb k carriage_return e, y, d, x) refl
+  moved-key e x d = rw (ne_eqb k carriage_return e, d, x) refl
 
   pub extended-end : {b : Span} {x : JoinedSpan} → k ≡ line_end → b ≡ end_span a.s p → x ≡ joined_spans a b → x ≡ extended_span keys enter p a k
   unfolding extended_span

@@ -5,7 +5,7 @@ ghost use Rattle.spans.specs.Joining.{end_span, extended_span, moved_span, moved
 use crate::edges::{key_edges, return_edges};
 use crate::joining::join_spans;
 use crate::rows::States;
-use crate::span::{Edges, JoinedSpan, Span, ended_span, open_span, with_edges};
+use crate::span::{Edges, JoinedSpan, Span, ended_span, open_span};
 use pattern::{Accepting, State, Tables};
 
 // The states that a key which is no line end leads to; the edges are left.
@@ -29,10 +29,12 @@ fn moved_span(a: Span, key: u8, tables: &Tables) -> Span
     ensures { result ≡ moved_span tables.now.keys tables.now.enter tables.now.accepting a key }
 {
     let on = moved_states(a, key, tables);
-    if key == b'\r' {
-        return with_edges(on, return_edges(States::new(a.s), a, tables.accepting));
-    }
-    with_edges(on, key_edges(a))
+    let edges = if key == b'\r' {
+        return_edges(States::new(a.s), a, tables.accepting)
+    } else {
+        key_edges(a)
+    };
+    Span { edges, ..on }
 }
 
 // A line end alone.

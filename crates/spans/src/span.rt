@@ -1,7 +1,7 @@
 // Spans of runs.
 ghost use Rattle.std.specs.Prelude.{◌≡◌, false, true};
 ghost use Rattle.spans.specs.Spans.{no_rows};
-ghost use Rattle.spans.specs.Joining.{empty_span, with_edges};
+ghost use Rattle.spans.specs.Joining.{empty_span};
 
 use crate::rows::States;
 use stateset::only;
@@ -83,13 +83,6 @@ pub(crate) fn ended_span(s: u64, heads: u64, tail: u64, edges: Edges) -> Span
         tail,
         edges,
     }
-}
-
-// The same run but for how it begins and ends.
-pub(crate) fn with_edges(a: Span, edges: Edges) -> Span
-    ensures { result ≡ with_edges edges a }
-{
-    Span { edges, ..a }
 }
 
 // The empty run: each of s states is reached from itself.
