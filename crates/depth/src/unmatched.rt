@@ -38,7 +38,7 @@ pub(crate) struct Unmatched {
 }
 
 impl Unmatched {
-    // The most keys of a run whose depths are kept. Two such numbers have a sum of 64 bits.
+    // The most keys of a run whose depths are kept.
     pub(crate) const LONGEST: u64 = 1 << 62;
 
     // What is kept of every longer run.

@@ -26,7 +26,7 @@ use Rattle.book.proofs.Reach.{reach-trans}
 use Rattle.book.proofs.LayoutLaws.{macros-few, well-in}
 use Rattle.book.proofs.MacroItems.{item-in, item-more, items-are, items-end}
 use Rattle.reach.specs.Entries.{entries_of, entries, reach_list}
-use Rattle.reach.specs.Promises.{MacroOf, Entering, Entered, called_by, extend, Walk, Closed}
+use Rattle.reach.specs.Promises.{MacroOf, WalkAt, called_by, extend, Walk, Closed}
 use Rattle.reach.proofs.Firsts.{member-append, extend-none, extend-new, extend-append, extend-all, extend-times, extend-has, extend-longer, extend-firsts, once-none, once_more, once-room}
 use Rattle.reach.proofs.Entries.{entries_of-none, entries_of-key, entries_of-call, entries-law, entries-iff}
 
@@ -82,7 +82,7 @@ pub record Within (ms : List Macro) (i : ℕ) (front before : List ℕ) (k : ℕ
   pub closed : Closed ms i (listed_by ms i front k)
 
 -- Macro i, behind the numbers `take n list`.
-module _ (b offsets : List ℕ) (i n : ℕ) (marks : List Bool) (list : List ℕ) (x : Entering b offsets i n marks list) where
+module _ (b offsets : List ℕ) (i n : ℕ) (marks : List Bool) (list : List ℕ) (x : WalkAt (i + 1) b offsets i n marks list) where
   well : well_formed (macros_in b) ≡ true
   well = well-in b x.place.inside
 
@@ -132,7 +132,7 @@ module _ (b offsets : List ℕ) (i n : ℕ) (marks : List Bool) (list : List ℕ
         rw (member-append q (take n list) (i ∷ [])) (or_left (member q (take n list)) (member q (i ∷ [])) old)
 
     -- then it is listed, and its items come next
-    pub enter-items : Entered b offsets i (n + 1) (set marks i true) (set list n i)
+    pub enter-items : WalkAt i b offsets i (n + 1) (set marks i true) (set list n i)
     enter-items =
         record {
           place = x.place;
@@ -152,7 +152,7 @@ module _ (b offsets : List ℕ) (i n : ℕ) (marks : List Bool) (list : List ℕ
         walk-under list done (length-set list n i) (drop-set-lt (length (extend L (entries (macros_in b) i))) list n i behind)
 
 -- The turns of the loop over a macro's items.
-module _ {b offsets : List ℕ} {i n : ℕ} {marks : List Bool} {list : List ℕ} (x : Entered b offsets i n marks list) where
+module _ {b offsets : List ℕ} {i n : ℕ} {marks : List Bool} {list : List ℕ} (x : WalkAt i b offsets i n marks list) where
   abbrev ms : List Macro
   ms = macros_in b
 
@@ -197,7 +197,7 @@ module _ {b offsets : List ℕ} {i n : ℕ} {marks : List Bool} {list : List ℕ
         pub turn-lower : j < i
         turn-lower = well-call ms (well-in b x.place.inside) i (rw g at among)
 
-        pub turn-enters : Entering b offsets j listed made now
+        pub turn-enters : WalkAt (j + 1) b offsets j listed made now
         turn-enters =
             record {
               place = record { table = x.place.table; inside = omega (arith, turn-lower, x.place.inside) };
@@ -220,7 +220,7 @@ module _ {b offsets : List ℕ} {i n : ℕ} {marks : List Bool} {list : List ℕ
 -- The whole walk.
 
 -- nothing is listed yet
-pub start-entering : (b offsets : List ℕ) (m : ℕ) (list : List ℕ) → MacroOf b offsets m → m < length list → Entering b offsets m 0 (replicate 1024 false) list
+pub start-entering : (b offsets : List ℕ) (m : ℕ) (list : List ℕ) → MacroOf b offsets m → m < length list → WalkAt (m + 1) b offsets m 0 (replicate 1024 false) list
 start-entering b offsets m list place room =
     record {
       place = place;

@@ -7,6 +7,7 @@ use Rattle.book.specs.Answer.{offsets_in}
 use Rattle.book.specs.Expansion.{unrolled}
 use Rattle.book.specs.Reach.{Reaches}
 use Rattle.book.specs.Reading.{macros_in}
+use Rattle.reach.specs.declared.listing.Walker.{Walker}
 use Rattle.reach.specs.Entries.{entries_of, entries}
 
 -- the places of a book's macros, and a macro of the book
@@ -51,8 +52,12 @@ pub record WalkAt (a : ℕ) (b offsets : List ℕ) (i n : ℕ) (marks : List Boo
   pub closed : Closed (macros_in b) a (take n list)
 
 -- when it comes there, macro i was left if it is listed; when it goes through its items, it was not
-abbrev pub Entering : List ℕ → List ℕ → ℕ → ℕ → List Bool → List ℕ → Type 0
-Entering b offsets i n marks list = WalkAt (i + 1) b offsets i n marks list
+abbrev pub Entering : Walker → ℕ → Type 0
+Entering w i = WalkAt (i + 1) w.book.now.bytes.now w.book.now.offsets i w.listed w.marks w.list.now
 
-abbrev pub Entered : List ℕ → List ℕ → ℕ → ℕ → List Bool → List ℕ → Type 0
-Entered b offsets i n marks list = WalkAt i b offsets i n marks list
+abbrev pub Entered : Walker → ℕ → Type 0
+Entered w i = WalkAt i w.book.now.bytes.now w.book.now.offsets i w.listed w.marks w.list.now
+
+-- what was entered is listed then
+abbrev pub Walked : Walker → List ℕ → Walker → Type 0
+Walked before more after = Walk (extend (take before.listed before.list.now) more) before.list.now after.list.now after.marks after.listed

@@ -1,6 +1,7 @@
 -- `reach::reach_list`: each way out is a case of what is read of macro m.
 use mathlib.Core.Path.{◌≡◌, ap}
 use Rattle.std.proofs.lemmas.Result.{err_from_is_err_and}
+use Rattle.std.proofs.Common.{rules}
 use Rattle.reach.proofs.AnswerLaws.{list-refused, list-place, list-room, list-short, list-written}
 use Rattle.reach.proofs.Walks.{start-entering, whole-count, whole-written}
 use Rattle.reach.proofs.listing.reach_list.Goals as goal
@@ -27,5 +28,6 @@ returns c =
     let a = c.args in
     let k = c.in_ok-book.book in
     let bytes : k.bytes.now ≡ a.book.now = ap (λ x. x.now) c.in_ok-book.ensures.same in
-    let walk = rw bytes at c.enter.ensures in
-    list-written a.book.now a.list.now a.m k c.in_ok-book.ensures.figures c.in_ok-space_for.ensures (whole-count a.book.now a.m a.list.now walk) (whole-written a.book.now a.m a.list.now walk)
+    let walk = rw bytes at c.enter.ensures.walk in
+    let done = list-written a.book.now a.list.now a.m k c.in_ok-book.ensures.figures c.in_ok-space_for.ensures (whole-count a.book.now a.m a.list.now walk) (whole-written a.book.now a.m a.list.now walk) in
+    (done.0, search (rules, c.enter.ensures.same, done.1))
