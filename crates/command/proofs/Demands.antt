@@ -6,7 +6,7 @@ use mathlib.Core.Path.{◌≡◌, refl, sym, ◌∙◌}
 use mathlib.Core.Logic.{◌⊎◌, inl, inr, ⊎_elim}
 use mathlib.Core.Bool.{Bool, true, false, cond}
 use mathlib.Core.List.{List}
-use mathlib.Core.Option.{none, some}
+use Rattle.std.specs.Prelude.{None, Some}
 use lib.Dec.{ltb}
 use lib.ListN.{length, replicate, length-replicate}
 use borrow.Author.Tests.{ltb-true, le-ltb}
@@ -27,7 +27,7 @@ use Rattle.counter.proofs.FrontLaws.{count-refused-book, count-refused-pattern, 
 use Rattle.counter.proofs.Demands.{needed-most}
 use Rattle.decimals.specs.Decimals.{is_number, decimal}
 use Rattle.command.specs.Input.{Told, last_macro, last_result, macro_answer, last_answer}
-use Rattle.command.specs.Named.{named_answer}
+use Rattle.command.specs.Asked.{named_answer}
 
 -- the number of a refusal of the command, or 0 for a count
 abbrev pub CommandRefusal : ℕ → Type 0
@@ -71,10 +71,10 @@ module _ (c : Case) (b p : List ℕ) where
   unfolding last_answer last_result
   last-refusals = of-count c b p (last_macro (read_book b)) (replicate most_words 0) (length-replicate {A = ℕ} most_words 0)
 
-  pub named-refusals : (text : List ℕ) (t : Told) → named_answer c b p text ≡ some t → CommandRefusal t.refusal
+  pub named-refusals : (text : List ℕ) (t : Told) → named_answer c b p text ≡ Some t → CommandRefusal t.refusal
   unfolding named_answer
   named-refusals text t e = go (is_number text) e
     where
-      go : (x : Bool) → cond x (some (macro_answer c b p (decimal text))) none ≡ some t → CommandRefusal t.refusal
+      go : (x : Bool) → cond x (Some (macro_answer c b p (decimal text))) None ≡ Some t → CommandRefusal t.refusal
       go true h = let same : macro_answer c b p (decimal text) ≡ t = cc in rw (← same) (macro-refusals (decimal text))
       go false h = clash (cc)

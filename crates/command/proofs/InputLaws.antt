@@ -1,14 +1,14 @@
 -- Laws of the program's input.
-use Prim.Native.Nat.{ℕ, suc, ◌+◌, ◌-◌, ◌<◌, ◌≤◌, min}
+use Prim.Native.Nat.{ℕ, suc, ◌+◌, ◌-◌, ◌<◌, ◌≤◌}
 use native.Mathlib.Omega.{arith}
 use native.Mathlib.Numerals.{add-one}
 use mathlib.Core.Path.{◌≡◌, refl, sym, ap, ◌∙◌}
-use mathlib.Core.Bool.{Bool, true, false}
-use mathlib.Core.List.{List}
-use lib.Dec.{ltb}
-use lib.ListN.{length, get_or, take, drop, replicate, drop_of_length-le, length-drop}
-use lib.Seq.{drop-cons, drop-length, take_all}
-use borrow.Author.Tests.{eq-eqb, ne_eqb, lt-ltb, le-ltb, ltb-true, ltb-false}
+use mathlib.Core.Bool.{Bool, true, false, cond}
+use mathlib.Core.List.{List, []}
+use lib.Dec.{eqb, ltb}
+use lib.ListN.{length, take, drop, replicate, drop_of_length-le, length-drop}
+use lib.Seq.{take_all}
+use borrow.Author.Tests.{lt-ltb, le-ltb, ltb-false}
 use Rattle.letters.specs.declared.Case.{Case}
 use Rattle.refusal.specs.declared.Refusal.{Refusal}
 use Rattle.refusal.specs.Figures.{Figures}
@@ -22,8 +22,12 @@ use Rattle.counter.specs.Counting.{Outcome, stopped, book_result, most_words}
 use Rattle.counter.specs.Answers.{outcome}
 use Rattle.counter.specs.declared.counting.BookCount.{BookCount}
 use Rattle.refusal.specs.declared.Refusal.TheVariants.{InputTooLong}
-use Rattle.command.specs.Input.{pattern_end, last_macro, last_result, program_result, told, told_by, program_answer, macro_answer, last_answer}
+use Rattle.command.specs.Input.{pattern_end, pattern_in, book_in, last_macro, last_result, program_result, told, told_by, program_answer, macro_answer}
 use Rattle.runs.specs.Keys.{line_end}
+use Rattle.std.specs.List.{position_or_len, position}
+use Rattle.std.specs.Prelude.{Option, None, Some}
+use Rattle.std.proofs.lemmas.Option.{none-some, cond_some}
+use Rattle.std.proofs.lemmas.List.Recursion.{is_position_or_len}
 
 -- The last macro.
 module _ (b : List ℕ) {r : Checked} (e : checked_figures r ≡ check_result (read_book b)) where
@@ -49,32 +53,43 @@ module _ (b : List ℕ) {r : Checked} (e : checked_figures r ≡ check_result (r
       go (got ms rest) h = absurd (omega (arith, number-positive q, ap (λ (x : Figures ℕ). x.refusal) h))
       go (refused s) h = refl
 
--- Where the pattern ends.
-pub record Searched (w : List ℕ) (at : ℕ) : Type 0 where
-  pub inside : at ≤ length w
-  pub rest : pattern_end w ≡ at + pattern_end (drop at w)
+-- The pattern ends at the first LF, the book begins behind it.
+first-end : (w : List ℕ) → pattern_end w ≡ position_or_len (λ c. eqb c line_end) w
+unfolding pattern_end
+first-end = is_position_or_len pattern_end (λ c. eqb c line_end) refl (λ c w. ap (λ (n : ℕ). cond (eqb c line_end) 0 n) (one_more (pattern_end w)))
+  where
+    one_more : (n : ℕ) → suc n ≡ 1 + n
+    one_more n = omega arith
 
-pub searched-none : (w : List ℕ) → Searched w 0
-searched-none w = record { inside = omega arith; rest = omega arith }
+module _ (w : List ℕ) {o : Option ℕ} (e : o ≡ position (λ c. eqb c line_end) w) where
+  at : ℕ
+  at = position_or_len (λ c. eqb c line_end) w
 
-module _ {w : List ℕ} {at : ℕ} (x : Searched w at) where
-  pub searched-end : at < length w → get_or w at 0 ≡ line_end → at ≡ pattern_end w
-  unfolding pattern_end
-  searched-end h e =
-      let here : pattern_end (drop at w) ≡ 0 = ap pattern_end (drop-cons w at 0 h) ∙ rw (eq-eqb (get_or w at 0) line_end e) refl in
-      omega (arith, x.rest)
+  ended : {end : ℕ} → o ≡ Some end → pattern_end w ≡ end
+  unfolding at
+  ended {end} f = first-end w ∙ (cond_some (ltb at (length w)) at end (sym e ∙ f)).1
 
-  pub searched-more : at < length w → (get_or w at 0 ≡ line_end → ⊥) → Searched w (at + 1)
-  unfolding pattern_end
-  searched-more h n =
-      let here : pattern_end (drop at w) ≡ suc (pattern_end (drop (at + 1) w)) = ap pattern_end (drop-cons w at 0 h) ∙ rw (ne_eqb (get_or w at 0) line_end n, add-one at) refl in
-      record { inside = omega arith; rest = omega (arith, x.rest) }
+  not-ended : o ≡ None → length w ≤ pattern_end w
+  unfolding at
+  not-ended f = rw (first-end w) (go (ltb at (length w)) refl (sym e ∙ f))
+    where
+      go : (b : Bool) → ltb at (length w) ≡ b → cond b (Some at) None ≡ None → length w ≤ at
+      go true g h = absurd (none-some at (sym h))
+      go false g h = ltb-false at (length w) g
 
-  pub searched-all : length w ≤ at → at ≡ pattern_end w
-  unfolding pattern_end
-  searched-all h =
-      let none : pattern_end (drop at w) ≡ 0 = ap pattern_end (drop_of_length-le w h) in
-      omega (arith, x.rest)
+  module _ {end : ℕ} (f : o ≡ Some end) where
+    pub pattern-before : take end w ≡ pattern_in w
+    pattern-before = ap (λ (n : ℕ). take n w) (sym (ended f))
+
+    pub book-behind : take (length w - (end + 1)) (drop (end + 1) w) ≡ book_in w
+    book-behind = take_all (length w - (end + 1)) (drop (end + 1) w) (rw length-drop (omega arith)) ∙ ap (λ (n : ℕ). drop n w) (add-one end ∙ ap suc (sym (ended f)))
+
+  module _ (f : o ≡ None) where
+    pub pattern-whole : w ≡ pattern_in w
+    pattern-whole = sym (take_all (pattern_end w) w (not-ended f))
+
+    pub book-nothing : [] ≡ book_in w
+    book-nothing = let h : length w ≤ suc (pattern_end w) = omega (arith, not-ended f) in sym (drop_of_length-le w h)
 
 -- The whole.
 pub last-counted : (c : Case) (book pattern before : List ℕ) {m : ℕ} {o : Outcome} → m ≡ last_macro (read_book book) → o ≡ book_result c book pattern m before → o ≡ last_result c book pattern before
@@ -85,27 +100,9 @@ pub answer-long : (w work : List ℕ) → 8192 < length w → stopped InputTooLo
 unfolding program_result
 answer-long w work h = rw (lt-ltb 8192 (length w) h) refl
 
--- the book: the input from a place on
-abbrev pub book_from : List ℕ → ℕ → List ℕ
-book_from w start = take (length w - start) (drop start w)
-
--- an input that is not too long, where its pattern ends, and where its book starts
-module _ (w : List ℕ) {end start : ℕ} (h : length w ≤ 8192) (e : end ≡ pattern_end w) (f : start ≡ min (end + 1) (length w)) where
-  pub answer-book : (before after : List ℕ) (r : BookCount) → outcome r after ≡ last_result Case.Sensitive (book_from w start) (take end w) before → outcome r after ≡ program_result w before
-  unfolding program_result
-  answer-book before after r k =
-      let book : book_from w start ≡ drop (suc (pattern_end w)) w = take_all (length w - start) (drop start w) (rw length-drop (omega arith)) ∙ ap (λ (n : ℕ). drop n w) f ∙ behind (end + 1) ∙ ap (λ (n : ℕ). drop n w) (add-one end ∙ ap suc e) in
-      rw (le-ltb 8192 (length w) h) (k ∙ rw (book, e) refl)
-    where
-      behind : (n : ℕ) → drop (min n (length w)) w ≡ drop n w
-      behind n = go (ltb n (length w)) refl
-        where
-          go : (b : Bool) → ltb n (length w) ≡ b → drop (min n (length w)) w ≡ drop n w
-          go true i = let l = ltb-true n (length w) i in let same : min n (length w) ≡ n = omega arith in rw same refl
-          go false i =
-              let l = ltb-false n (length w) i in
-              let same : min n (length w) ≡ length w = omega arith in
-              rw same (drop-length w ∙ sym (drop_of_length-le w l))
+pub answer-book : (w before after : List ℕ) (r : BookCount) → length w ≤ 8192 → outcome r after ≡ last_result Case.Sensitive (book_in w) (pattern_in w) before → outcome r after ≡ program_result w before
+unfolding program_result
+answer-book w before after r h k = rw (le-ltb 8192 (length w) h) k
 
 -- What is told does not rest on the work words afterwards.
 module _ (r : BookCount) (after : List ℕ) where
@@ -123,7 +120,3 @@ module _ (r : BookCount) (after : List ℕ) where
   pub macro-told : (c : Case) (book pattern : List ℕ) (m : ℕ) → outcome r after ≡ book_result c book pattern m (replicate most_words 0) → told_by r ≡ macro_answer c book pattern m
   unfolding macro_answer
   macro-told c book pattern m e = told_of_lem e
-
-  pub last-told : (c : Case) (book pattern : List ℕ) → outcome r after ≡ last_result c book pattern (replicate most_words 0) → told_by r ≡ last_answer c book pattern
-  unfolding last_answer
-  last-told c book pattern e = told_of_lem e

@@ -1,5 +1,5 @@
 -- Laws of the definitions, which the proofs of functions cite.
-pub mod NamedLaws
+pub mod AskedLaws
 pub mod InputLaws
 pub mod ReadLaws
 pub mod Demands

@@ -4,40 +4,53 @@ use native.Mathlib.Omega.{arith}
 use mathlib.Core.Path.{◌≡◌, refl, sym, ap, ◌∙◌}
 use mathlib.Core.Bool.{Bool, true, false}
 use mathlib.Core.List.{List}
+use Rattle.std.specs.Prelude.{Option, None, Some, option_map}
 use lib.Dec.{leb}
 use lib.ListN.{length, take, length-take, replicate}
 use lib.Seq.{take_all, length-take-le}
 use borrow.Author.Tests.{leb-true, leb-false}
 use Rattle.letters.specs.declared.Case.{Case}
-use Rattle.command.specs.declared.buffer.PatternInput.{PatternInput}
 use Rattle.book.proofs.Prefix.{version-prefix, book-prefix}
+use Rattle.book.specs.Reading.{read_book}
+use Rattle.pattern.specs.Reader.{read_pattern}
 use Rattle.pattern.proofs.Accepts.{pattern-prefix}
 use Rattle.counter.specs.declared.counting.BookCount.{BookCount}
-use Rattle.command.specs.declared.counts.NamedCount.{NamedCount}
+use Rattle.counter.specs.Answers.{outcome}
+use Rattle.counter.specs.Counting.{book_result, most_words}
+use Rattle.command.specs.declared.asked.Asked.{Asked}
+use Rattle.command.specs.declared.input.TheConstants.{READ}
 use Rattle.command.specs.Buffers.{ReadFrom}
 use Rattle.command.specs.Input.{told_by, last_result, program_result, program_answer, macro_answer, last_answer}
 use Rattle.decimals.specs.Decimals.{decimal}
-use Rattle.command.specs.Named.{told_named, named_answer}
-use Rattle.command.specs.Reads.{ProgramAnswers, LastAnswers, NamedAnswers}
-use Rattle.command.proofs.InputLaws.{answer-long}
+use Rattle.command.specs.Asked.{asked_number, named_answer, asked_answer}
+use Rattle.command.specs.Reads.{ProgramAnswers}
+use Rattle.command.proofs.InputLaws.{answer-long, program-told, macro-told}
+use Rattle.command.proofs.AskedLaws.{asked-told, asked_none}
 
--- all of a buffer
-pub read_whole : (buffer : List ℕ) (n : ℕ) → length buffer ≤ n → buffer ≡ take n buffer
-read_whole buffer n h = sym (take_all n buffer h)
-
--- What was read of an input: itself, where that is less than the buffer holds, and a first part of it where the buffer is full.
-module _ (buffer : List ℕ) (n : ℕ) (w : List ℕ) (e : ReadFrom buffer n w) where
-  pub read-less : n < length buffer → take n buffer ≡ w
+-- What was read of an input: itself, where that has fewer bytes than are read, and a first part of it where as many were read.
+module _ (n : ℕ) (part w : List ℕ) (e : ReadFrom n part w) where
+  pub read-less : length part < n → part ≡ w
   read-less h =
-      let long : min (length buffer) (length w) ≡ n = sym (length-take (length buffer) w) ∙ sym (ap length e) ∙ length-take-le n buffer (omega arith) in
-      e ∙ take_all (length buffer) w (omega arith)
+      let all : take n part ≡ part = take_all n part (omega arith) in
+      let long : min n (length w) ≡ length part = sym (length-take n w) ∙ sym (ap length e) ∙ ap length all in
+      sym all ∙ e ∙ take_all n w (omega arith)
 
-  pub read-full : length buffer ≤ n → buffer ≡ take (length buffer) w
-  read-full h = sym (take_all n buffer h) ∙ e
+  pub read-full : length part ≡ n → part ≡ take n w
+  read-full h = sym (take_all n part (omega arith)) ∙ e
 
--- each part that was read is that of an input, the part itself
-pub read-itself : (buffer : List ℕ) (n : ℕ) → ReadFrom buffer n (take n buffer)
-read-itself buffer n = sym (take_all (length buffer) (take n buffer) (rw (length-take n buffer) (omega arith)))
+-- each part is read from itself
+pub read-itself : (n : ℕ) (part : List ℕ) → ReadFrom n part part
+read-itself n part = refl
+
+-- what the first n bytes determine is the same of the part
+pub read-alike : {A : Type 0} (f : List ℕ → A) (n : ℕ) → ((w : List ℕ) → f (take n w) ≡ f w) → (part w : List ℕ) → ReadFrom n part w → f part ≡ f w
+read-alike f n prefix part w e = sym (prefix part) ∙ ap f e ∙ prefix w
+
+pub book-read : (part b : List ℕ) → ReadFrom 264200 part b → read_book part ≡ read_book b
+book-read = read-alike read_book 264200 (λ b. book-prefix 264200 b (omega arith))
+
+pub pattern-read : (part p : List ℕ) → ReadFrom 129 part p → read_pattern part ≡ read_pattern p
+pattern-read = read-alike read_pattern 129 (λ p. pattern-prefix 129 p (omega arith))
 
 -- `cuecount`'s input: 14 wherever it has over 8,192 bytes, and so wherever its first 8,193 have
 pub input-prefix : (n : ℕ) (w work : List ℕ) → 8193 ≤ n → program_result (take n w) work ≡ program_result w work
@@ -64,33 +77,23 @@ module _ (c : Case) (b p : List ℕ) where
   unfolding named_answer
   named-prefix text = rw (macro-prefix (decimal text)) refl
 
+  pub asked-prefix : (a : Asked) → asked_answer c (take 264200 b) (take 129 p) a ≡ asked_answer c b p a
+  asked-prefix Asked.Last = ap Some last-prefix
+  asked-prefix (Asked.Named text) = named-prefix text.now
+
 -- what the functions answer
-program-prefix : (w : List ℕ) → program_answer (take 8193 w) ≡ program_answer w
+pub answers-read : (input after : List ℕ) (r : BookCount) → outcome r after ≡ program_result input (replicate 4096 0) → (w : List ℕ) → ReadFrom 8193 input w → told_by r ≡ program_answer w
 unfolding program_answer
-program-prefix w = rw (input-prefix 8193 w (replicate 4096 0) (omega arith)) refl
+answers-read input after r e w read = program-told r after input e ∙ read-alike program_answer 8193 (λ v. rw (input-prefix 8193 v (replicate 4096 0) (omega arith)) refl) input w read
 
-pub answers-read : (input part : List ℕ) (n : ℕ) (r : BookCount) → length input ≡ 8193 → part ≡ take n input → told_by r ≡ program_answer part → ProgramAnswers input n r
+module _ (book pattern : List ℕ) (c : Case) (a : Asked) {o : Option ℕ} (e : o ≡ asked_number a book) where
+  pub counts-read : {m : ℕ} (after : List ℕ) (r : BookCount) → o ≡ Some m → outcome r after ≡ book_result c book pattern m (replicate most_words 0) → (b p : List ℕ) → ReadFrom 264200 book b → ReadFrom 129 pattern p → option_map told_by (Some r) ≡ asked_answer c b p a
+  counts-read {m} after r f g b p h k = asked-told c book pattern a e f (macro-told r after c book pattern m g) ∙ sym (asked-prefix c book pattern a) ∙ rw (h, k) (asked-prefix c b p a)
+
+  pub counts_none : o ≡ None → (b p : List ℕ) → ReadFrom 264200 book b → ReadFrom 129 pattern p → option_map told_by None ≡ asked_answer c b p a
+  counts_none f b p h k = asked_none c book pattern a e f ∙ sym (asked-prefix c book pattern a) ∙ rw (h, k) (asked-prefix c b p a)
+
+-- what it promises, for those who go on from it
+pub program-answers : (input : List ℕ) (r : BookCount) → ProgramAnswers input r → (w : List ℕ) → ReadFrom READ input w → told_by r ≡ program_answer w
 unfolding ProgramAnswers
-answers-read input part n r long is e w read = rw (e, is, read, long) (program-prefix w)
-
-module _ (book bytes : List ℕ) (n : ℕ) (pattern text : List ℕ) (a : PatternInput) (long : length book ≡ 264200) (wide : length pattern ≡ 129) (is : bytes ≡ take n book) (same : text ≡ take a.bytes pattern) where
-  pub last-read : (r : BookCount) → told_by r ≡ last_answer a.case bytes text → LastAnswers book n pattern a r
-  unfolding LastAnswers
-  last-read r e b p f g = rw (e, is, same, f, g, long, wide) (last-prefix a.case b p)
-
-  pub named-read : (number : List ℕ) (r : NamedCount) → told_named r ≡ named_answer a.case bytes text number → NamedAnswers book n pattern a number r
-  unfolding NamedAnswers
-  named-read number r e b p f g = rw (e, is, same, f, g, long, wide) (named-prefix a.case b p number)
-
--- what they promise, for those who go on from it
-pub program-answers : (input : List ℕ) (n : ℕ) (r : BookCount) → ProgramAnswers input n r → (w : List ℕ) → ReadFrom input n w → told_by r ≡ program_answer w
-unfolding ProgramAnswers
-program-answers input n r a = a
-
-pub last-answers : (book : List ℕ) (n : ℕ) (pattern : List ℕ) (a : PatternInput) (r : BookCount) → LastAnswers book n pattern a r → (b p : List ℕ) → ReadFrom book n b → ReadFrom pattern a.bytes p → told_by r ≡ last_answer a.case b p
-unfolding LastAnswers
-last-answers book n pattern a r h = h
-
-pub named-answers : (book : List ℕ) (n : ℕ) (pattern : List ℕ) (a : PatternInput) (text : List ℕ) (r : NamedCount) → NamedAnswers book n pattern a text r → (b p : List ℕ) → ReadFrom book n b → ReadFrom pattern a.bytes p → told_named r ≡ named_answer a.case b p text
-unfolding NamedAnswers
-named-answers book n pattern a text r h = h
+program-answers input r a = a

@@ -1,7 +1,7 @@
--- What was read of an input that may be longer than the buffer for it.
-use Rattle.std.specs.Prelude.{ℕ, ◌≡◌, List, length, take}
+-- What was read of an input that may be longer than what is read.
+use Rattle.std.specs.Prelude.{ℕ, ◌≡◌, List, take}
 
--- The first n bytes of the buffer were read of an input: it begins with them, and where they are fewer than the buffer holds, it is just
--- them (`read-less`).
-abbrev pub ReadFrom : List ℕ → ℕ → List ℕ → Type 0
-ReadFrom buffer n input = take n buffer ≡ take (length buffer) input
+-- An input of which this was read, where no more bytes are read than the limit: it begins as that does, so far, and where that has fewer
+-- bytes, it is just that (`read-less`).
+abbrev pub ReadFrom : ℕ → List ℕ → List ℕ → Type 0
+ReadFrom limit part input = take limit part ≡ take limit input

@@ -1,5 +1,5 @@
 -- What the programs answer to their input.
 pub mod Buffers
 pub mod Input
-pub mod Named
+pub mod Asked
 pub mod Reads

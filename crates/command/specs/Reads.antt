@@ -1,20 +1,25 @@
--- What functions answer to every input that was read into their buffers.
-use Rattle.std.specs.Prelude.{ℕ, ◌≡◌, List}
+-- What functions answer to every input of which something was read.
+use Rattle.std.specs.Prelude.{ℕ, ◌≡◌, Option, option_map, List}
+use Rattle.letters.specs.declared.Case.{Case}
 use Rattle.counter.specs.declared.counting.BookCount.{BookCount}
-use Rattle.command.specs.declared.buffer.PatternInput.{PatternInput}
-use Rattle.command.specs.declared.counts.NamedCount.{NamedCount}
+use Rattle.command.specs.declared.asked.Asked.{Asked}
+use Rattle.command.specs.declared.buffer.TheConstants.{BOOK_READ, PATTERN_READ}
+use Rattle.command.specs.declared.input.TheConstants.{READ}
+use Rattle.command.specs.Asked.{asked_answer}
 use Rattle.command.specs.Buffers.{ReadFrom}
-use Rattle.command.specs.Input.{told_by, program_answer, last_answer}
-use Rattle.command.specs.Named.{told_named, named_answer}
+use Rattle.command.specs.Input.{told_by, program_answer}
 
--- `cuecount`, of n bytes that were read
-unfoldable pub ProgramAnswers : List ℕ → ℕ → BookCount → Type 0
-ProgramAnswers input n r = (w : List ℕ) → ReadFrom input n w → told_by r ≡ program_answer w
+-- a book, and a pattern
+abbrev pub BookFrom : List ℕ → List ℕ → Type 0
+BookFrom part b = ReadFrom BOOK_READ part b
 
--- the count of the last macro, of a book of which n bytes were read and a pattern as it is asked for
-unfoldable pub LastAnswers : List ℕ → ℕ → List ℕ → PatternInput → BookCount → Type 0
-LastAnswers book n pattern a r = (b p : List ℕ) → ReadFrom book n b → ReadFrom pattern a.bytes p → told_by r ≡ last_answer a.case b p
+abbrev pub PatternFrom : List ℕ → List ℕ → Type 0
+PatternFrom part p = ReadFrom PATTERN_READ part p
 
--- the same of the macro that a text names
-unfoldable pub NamedAnswers : List ℕ → ℕ → List ℕ → PatternInput → List ℕ → NamedCount → Type 0
-NamedAnswers book n pattern a text r = (b p : List ℕ) → ReadFrom book n b → ReadFrom pattern a.bytes p → told_named r ≡ named_answer a.case b p text
+-- `cuecount`
+unfoldable pub ProgramAnswers : List ℕ → BookCount → Type 0
+ProgramAnswers input r = (w : List ℕ) → ReadFrom READ input w → told_by r ≡ program_answer w
+
+-- the count of the macro that is asked for
+unfoldable pub CountsAsked : List ℕ → List ℕ → Case → Asked → Option BookCount → Type 0
+CountsAsked book pattern c asked r = (b p : List ℕ) → BookFrom book b → PatternFrom pattern p → option_map told_by r ≡ asked_answer c b p asked

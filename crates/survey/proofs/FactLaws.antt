@@ -23,11 +23,12 @@ use Rattle.book.proofs.MacroItems.{items-sound, items-few, decoded-length}
 use Rattle.book.proofs.Prefix.{book-prefix}
 use Rattle.book.proofs.Refusals.{BookNumber, book-refusals}
 use Rattle.book.proofs.Sizes.{longest-read}
-use Rattle.command.specs.Buffers.{ReadFrom}
-use Rattle.survey.specs.declared.facts.Surveyed.{Surveyed}
+use Rattle.command.proofs.ReadLaws.{read-alike}
+use Rattle.survey.specs.declared.facts.Facts.{Facts}
+use Rattle.std.specs.Prelude.{Result, Ok, Err}
 use Rattle.survey.specs.Facts.{item_count, survey_figures, survey_for, survey_result, Surveys}
 
--- The sum so far.
+-- no sum wraps: a book has fewer than 65,536 macros
 pub record Summed (b offsets : List ℕ) (n i sum : ℕ) : Type 0 where
   pub inside : i ≤ n
   pub sums : sum ≡ sum_below i (λ i. (items_from b offsets i).count)
@@ -37,9 +38,9 @@ module _ (b offsets : List ℕ) where
   pub summed-none : (n : ℕ) → Summed b offsets n 0 0
   summed-none n = record { inside = omega arith; sums = sym (sum-none (λ i. (items_from b offsets i).count)); small = omega arith }
 
-  pub summed-more : {n i sum : ℕ} {r : Items} → Summed b offsets n i sum → i < n → r ≡ items_from b offsets i → Summed b offsets n (i + 1) (sum + r.count)
-  summed-more {n} {i} {sum} {r} s h e =
-      let count : r.count ≡ (items_from b offsets i).count = ap (λ (x : Items). x.count) e in
+  pub summed-more : {n i j sum : ℕ} {r : Items} → Summed b offsets n i sum → i < n → j ≡ i → r ≡ items_from b offsets j → Summed b offsets n (i + 1) (sum + r.count)
+  summed-more {n} {i} {j} {sum} {r} s h f e =
+      let count : r.count ≡ (items_from b offsets i).count = ap (λ (x : Items). x.count) (e ∙ ap (λ (k : ℕ). items_from b offsets k) f) in
       record {
         inside = omega arith;
         sums = rw (sum_more i (λ i. (items_from b offsets i).count), ← s.sums, count) refl;
@@ -47,9 +48,9 @@ module _ (b offsets : List ℕ) where
       }
 
   -- no sum wraps: a book has fewer than 65,536 macros
-  pub summed-fits : {n i sum : ℕ} {r : Items} → Summed b offsets n i sum → i < n → Fits w16 n → r ≡ items_from b offsets i → Fits w64 (sum + r.count)
-  summed-fits {n} {i} {sum} {r} s h w e =
-      let few : r.count ≤ 64 = rw e (items-few b offsets i) in
+  pub summed-fits : {n i j sum : ℕ} {r : Items} → Summed b offsets n i sum → i < n → Fits w16 n → j ≡ i → r ≡ items_from b offsets j → Fits w64 (sum + r.count)
+  summed-fits {n} {i} {j} {sum} {r} s h w f e =
+      let few : r.count ≤ 64 = rw e (items-few b offsets j) in
       let small : n < 65536 = w.fits in
       record { fits = omega (arith, s.small) }
 
@@ -64,24 +65,6 @@ items-counted b = sum-ext (length (macros_in b)) (λ i. (items_from b (layout b)
     each : (i : ℕ) → i < length (macros_in b) → (items_from b (layout b).offsets i).count ≡ length (get_or (macros_in b) i [])
     each i h = sym (decoded-length (items_from b (layout b).offsets i)) ∙ ap length (items-sound b i h)
 
--- What is answered, by the layout.
-module _ (b : List ℕ) (l : Layout) (figures : layout_figures l ≡ book_layout b) where
-  e : l ≡ layout b
-  e = layout-figures b figures
-
-  pub facts-refused : {r : Refusal} → l.answer ≡ Checked.Refused r → survey_figures (Surveyed.Refused r) ≡ survey_result b
-  unfolding survey_result
-  facts-refused f = rw (layout-refused b e f) refl
-
-  pub facts-sound : {n version items bytes : ℕ} → l.answer ≡ Checked.Sound n → version ≡ version_in b → items ≡ sum_below n (λ i. (items_from b l.offsets i).count) → bytes ≡ length b
-      → survey_figures (Surveyed.Sound (record { version = version; macros = n; items = items; bytes = bytes })) ≡ survey_result b
-  unfolding survey_result
-  facts-sound {n} f v i s =
-      let many : n ≡ length (macros_in b) = layout-count b e f in
-      let table : l.offsets ≡ (layout b).offsets = ap (λ (x : Layout). x.offsets) e in
-      let counted : sum_below n (λ i. (items_from b l.offsets i).count) ≡ item_count (macros_in b) = rw (many, table) (items-counted b) in
-      rw (layout-sound b e f, v, i ∙ counted, s, many) refl
-
 -- A book of any length is said to hold what its first 264,200 bytes hold.
 pub survey-prefix : (b : List ℕ) → survey_result (take 264200 b) ≡ survey_result b
 unfolding survey_result
@@ -91,14 +74,27 @@ survey-prefix b = rw (book-prefix 264200 b (omega arith)) (go (read_book b) refl
     go (got ms rest) e = let short : length b ≤ 264200 = omega (arith, longest-read b ms rest e) in rw (take_all 264200 b short) refl
     go (refused r) e = refl
 
-pub survey-read : (book bytes : List ℕ) (n : ℕ) (r : Surveyed) → length book ≡ 264200 → bytes ≡ take n book → survey_figures r ≡ survey_result bytes → Surveys book n r
+pub survey-read : (book : List ℕ) (r : Result Facts Refusal) → survey_figures r ≡ survey_result book → Surveys book r
 unfolding Surveys
-survey-read book bytes n r long is e b f = rw (e, is, f, long) (survey-prefix b)
+survey-read book r e b read = e ∙ read-alike survey_result 264200 survey-prefix book b read
 
--- what it promises, for those who go on from it
-pub survey-answers : (book : List ℕ) (n : ℕ) (r : Surveyed) → Surveys book n r → (b : List ℕ) → ReadFrom book n b → survey_figures r ≡ survey_result b
-unfolding Surveys
-survey-answers book n r a = a
+-- What is answered, by the layout.
+module _ (b : List ℕ) (l : Layout) (figures : layout_figures l ≡ book_layout b) where
+  e : l ≡ layout b
+  e = layout-figures b figures
+
+  pub facts-refused : {r : Refusal} → l.answer ≡ Checked.Refused r → Surveys b (Err r)
+  unfolding survey_result
+  facts-refused {r} f = survey-read b (Err r) (rw (layout-refused b e f) refl)
+
+  pub facts-sound : {n version items bytes : ℕ} → l.answer ≡ Checked.Sound n → version ≡ version_in b → items ≡ sum_below n (λ i. (items_from b l.offsets i).count) → bytes ≡ length b
+      → Surveys b (Ok (record { version = version; macros = n; items = items; bytes = bytes }))
+  unfolding survey_result
+  facts-sound {n} {version} {items} {bytes} f v i s =
+      let many : n ≡ length (macros_in b) = layout-count b e f in
+      let table : l.offsets ≡ (layout b).offsets = ap (λ (x : Layout). x.offsets) e in
+      let counted : sum_below n (λ i. (items_from b l.offsets i).count) ≡ item_count (macros_in b) = rw (many, table) (items-counted b) in
+      survey-read b (Ok (record { version = version; macros = n; items = items; bytes = bytes })) (rw (layout-sound b e f, v, i ∙ counted, s, many) refl)
 
 -- What the command is refused for where it says what a book holds: 1 to 6 and 20.
 pub survey-refusals : (b : List ℕ) → BookNumber (survey_result b).refusal

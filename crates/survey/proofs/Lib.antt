@@ -1,5 +1,4 @@
 -- Laws of the definitions, which the proofs of functions cite.
-pub mod ReadWhole
 pub mod FactLaws
 pub mod ReachLaws
 pub mod DepthLaws

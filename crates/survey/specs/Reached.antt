@@ -1,25 +1,16 @@
--- The reach list of the macro that a command names, or of the last one.
-use Rattle.std.specs.Prelude.{ℕ, ◌≡◌, true, false, List, length}
+-- The reach list of the macro that a command asks for.
+use Rattle.std.specs.Prelude.{ℕ, ◌≡◌, Option, List, length}
 use Rattle.refusal.specs.Figures.{Figures}
-use Rattle.book.specs.Reading.{read_book}
+use Rattle.reach.specs.declared.listing.Reached.{Reached}
 use Rattle.reach.specs.Answer.{ReachAnswer, require_entries, reached_figures}
-use Rattle.decimals.specs.Decimals.{is_number, decimal}
-use Rattle.command.specs.Buffers.{ReadFrom}
-use Rattle.command.specs.Input.{last_macro}
-use Rattle.survey.specs.declared.reached.NamedReach.{NamedReach}
+use Rattle.command.specs.declared.asked.Asked.{Asked}
+use Rattle.command.specs.Asked.{AskedFor}
+use Rattle.command.specs.Reads.{BookFrom}
 
 -- the reach list of macro m of a book, into a list that held `before`: the figures of the answer, and the list after it
 abbrev pub ReachedIn : List ℕ → ℕ → Figures ℕ → List ℕ → List ℕ → Type 0
 ReachedIn b m f before after = ReachAnswer (require_entries m (length before) b) m f before after
 
--- that of the last macro, in every book of which n bytes were read
-unfoldable pub LastReached : List ℕ → ℕ → Figures ℕ → List ℕ → List ℕ → Type 0
-LastReached book n f before after = (b : List ℕ) → ReadFrom book n b → ReachedIn b (last_macro (read_book b)) f before after
-
--- that of the macro which a text names, if it names one; else the list is left as it was
-abbrev pub ReachedBy : List ℕ → List ℕ → NamedReach → List ℕ → List ℕ → Type 0
-ReachedBy b text (NamedReach.Reach r) before after = (is_number text ≡ true) × ReachedIn b (decimal text) (reached_figures r) before after
-ReachedBy b text NamedReach.NoNumber before after = (is_number text ≡ false) × (after ≡ before)
-
-unfoldable pub NamedReached : List ℕ → ℕ → List ℕ → NamedReach → List ℕ → List ℕ → Type 0
-NamedReached book n text r before after = (b : List ℕ) → ReadFrom book n b → ReachedBy b text r before after
+-- that of the macro that is asked for, in every book of which this was read; where none is answered, the list is left as it was
+unfoldable pub ReachesAsked : List ℕ → Asked → Option Reached → List ℕ → List ℕ → Type 0
+ReachesAsked book a r before after = (b : List ℕ) → BookFrom book b → AskedFor a b (λ m r. ReachedIn b m (reached_figures r) before after) (after ≡ before) r

@@ -5,6 +5,6 @@ mod depths;
 mod facts;
 mod reached;
 
-pub use depths::{KeyText, NamedDepth, depth_last, depth_named, key_in};
-pub use facts::{Facts, Surveyed, survey};
-pub use reached::{LIST, NamedReach, reach_last, reach_named};
+pub use depths::{depth_asked, key_in};
+pub use facts::{Facts, survey};
+pub use reached::{LIST, reach_asked};

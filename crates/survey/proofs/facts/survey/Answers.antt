@@ -1,7 +1,10 @@
--- `facts::survey`: what is said of the part that was read is said of the whole.
+-- `facts::survey`: what the layout says of the book, and the sum of its items.
 use borrow.Author.Rules.{rules}
-use Rattle.survey.proofs.FactLaws.{survey-read}
+use Rattle.survey.proofs.FactLaws.{facts-refused, facts-sound}
 use Rattle.survey.proofs.facts.survey.Goals as goal
 
-pub returns : goal.returns
-returns c = search (survey-read, rules)
+pub returns-in-Refused : goal.returns-in-Refused
+returns-in-Refused c = search (facts-refused, rules)
+
+pub returns-in-Sound : goal.returns-in-Sound
+returns-in-Sound c = search (facts-sound, rules)
