@@ -23,6 +23,7 @@ use Rattle.book.proofs.MacroItems.{items-sound, items-few, decoded-length}
 use Rattle.book.proofs.Prefix.{book-prefix}
 use Rattle.book.proofs.Refusals.{BookNumber, book-refusals}
 use Rattle.book.proofs.Sizes.{longest-read}
+use Rattle.command.specs.Reads.{BookFrom}
 use Rattle.command.proofs.ReadLaws.{read-alike}
 use Rattle.survey.specs.declared.facts.Facts.{Facts}
 use Rattle.std.specs.Prelude.{Result, Ok, Err}
@@ -95,6 +96,11 @@ module _ (b : List ℕ) (l : Layout) (figures : layout_figures l ≡ book_layout
       let table : l.offsets ≡ (layout b).offsets = ap (λ (x : Layout). x.offsets) e in
       let counted : sum_below n (λ i. (items_from b l.offsets i).count) ≡ item_count (macros_in b) = rw (many, table) (items-counted b) in
       survey-read b (Ok (record { version = version; macros = n; items = items; bytes = bytes })) (rw (layout-sound b e f, v, i ∙ counted, s, many) refl)
+
+-- what it promises, for those who go on from it
+pub survey-answers : (book : List ℕ) (r : Result Facts Refusal) → Surveys book r → (b : List ℕ) → BookFrom book b → survey_figures r ≡ survey_result b
+unfolding Surveys
+survey-answers book r a = a
 
 -- What the command is refused for where it says what a book holds: 1 to 6 and 20.
 pub survey-refusals : (b : List ℕ) → BookNumber (survey_result b).refusal
