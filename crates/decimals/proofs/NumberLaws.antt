@@ -3,37 +3,25 @@ use Prim.Native.Nat.{ℕ, suc, ◌+◌, ◌-◌, ◌*◌, ◌^◌, ◌<◌, ◌�
 use native.Mathlib.Nat.{pow-succ', mul_assoc, mul_comm, zero-mul, zero-add, add-mul, add_assoc}
 use native.Mathlib.Omega.{arith}
 use native.Mathlib.Numerals.{add-one}
+use Rattle.std.proofs.lemmas.Grind.{common_steps}
 use mathlib.Core.Path.{◌≡◌, refl, sym, ap, ◌∙◌}
-use mathlib.Core.Bool.{Bool, true, false, not, cond, ◌&&◌}
+use mathlib.Core.Bool.{Bool, true, false, not, ◌&&◌}
 use Rattle.std.specs.Prelude.{Option, None, Some}
 use mathlib.Core.List.{List, [], ◌∷◌}
 use lib.Dec.{leb, eqb}
 use lib.ListN.{length, get_or, drop, drop_of_length-le}
 use lib.Seq.{drop-cons}
-use borrow.Author.Tests.{leb-true, leb-false, eqb-true, eqb-false, not-true, not-false}
+use borrow.Author.Tests.{leb-true, leb-false, eqb-false, not-true, not-false}
 use Rattle.decimals.specs.Decimals.{is_digit, all_digits, is_number, decimal, number_in}
-use Rattle.runs.proofs.Tests.{clash, either}
-
-never : {A : Type 0} → false ≡ true → A
-never e = clash (ap (λ (b : Bool). cond b 1 0) e)
 
 -- Digits.
 pub digit-least : {c : ℕ} {b : Bool} → b ≡ is_digit c → not b ≡ false → 48 ≤ c
 unfolding is_digit
-digit-least {c} {b} e t = go (leb 48 c) refl (sym e ∙ not-false b t)
-  where
-    go : (x : Bool) → leb 48 c ≡ x → x && leb c 57 ≡ true → 48 ≤ c
-    go true l h = leb-true 48 c l
-    go false l h = never h
+digit-least {c} {b} e t = grind (arith, common_steps)
 
 pub digit-most : {c : ℕ} {b : Bool} → b ≡ is_digit c → not b ≡ false → c ≤ 57
 unfolding is_digit
-digit-most {c} {b} e t = go (leb 48 c) (leb c 57) refl (sym e ∙ not-false b t)
-  where
-    go : (x y : Bool) → leb c 57 ≡ y → x && y ≡ true → c ≤ 57
-    go true true l h = leb-true c 57 l
-    go true false l h = never h
-    go false y l h = never h
+digit-most {c} {b} e t = grind (arith, common_steps)
 
 -- the number that digits write behind others that write v, as it is made digit by digit
 unfoldable pub number_from : ℕ → List ℕ → ℕ
@@ -68,16 +56,14 @@ number-capped v w = go (leb v 1024) refl
 
 -- A text with no byte is no number.
 pub empty-text : (w : List ℕ) {b : Bool} → b ≡ eqb (length w) 0 → b ≡ true → is_number w ≡ false
-empty-text [] e f = refl
-empty-text (c ∷ w) e f = absurd (omega (arith, eqb-true (length (c ∷ w)) 0 (sym e ∙ f)))
+empty-text w e f = grind arith
 
 pub some-text : (w : List ℕ) {b : Bool} → b ≡ eqb (length w) 0 → b ≡ false → 1 ≤ length w
 some-text w e f = omega (arith, eqb-false (length w) 0 (sym e ∙ f))
 
 -- where there is a byte, a number is digits
 is-number : (w : List ℕ) → 1 ≤ length w → is_number w ≡ all_digits w
-is-number [] h = absurd (omega (arith, h))
-is-number (c ∷ w) h = refl
+is-number w h = grind arith
 
 -- The bytes before `at` are digits.
 pub record Digits (w : List ℕ) (at : ℕ) : Type 0 where
@@ -141,20 +127,12 @@ module _ {w : List ℕ} {at n : ℕ} (x : Written w at n) where
 module _ (w : List ℕ) {a : Option ℕ} (e : a ≡ number_in w) where
   pub number-value : {n : ℕ} → a ≡ Some n → (is_number w ≡ true) × (n ≡ min (decimal w) 1024)
   unfolding number_in
-  number-value {n} f = go (is_number w) (sym f ∙ e)
-    where
-      go : (b : Bool) → Some n ≡ cond b (Some (min (decimal w) 1024)) None → (b ≡ true) × (n ≡ min (decimal w) 1024)
-      go true h = (refl, cc)
-      go false h = clash (cc)
+  number-value {n} f = grind arith
 
   pub number-none : a ≡ None → is_number w ≡ false
   unfolding number_in
-  number-none f = go (is_number w) (sym f ∙ e)
-    where
-      go : (b : Bool) → None ≡ cond b (Some (min (decimal w) 1024)) None → b ≡ false
-      go true h = clash (cc)
-      go false h = refl
+  number-none f = grind arith
 
 -- The number that is told stands for all from 1,024 on: what is the same of those is so of the number of the text.
 pub number_small : (P : ℕ → Type 0) → ((m n : ℕ) → 1024 ≤ m → 1024 ≤ n → P m → P n) → (n : ℕ) → P (min n 1024) → P n
-number_small P alike n p = either 1024 n (λ h. alike (min n 1024) n (omega arith) (omega arith) p) (λ h. let same : min n 1024 ≡ n = omega arith in rw same at p)
+number_small P alike n p = grind arith

@@ -28,15 +28,7 @@ ten-grows (suc k) = omega (arith, ten-more k, ten-grows k)
 
 -- the fewest digits of a number, by those of its tenth
 fewer : (j n : ℕ) → IsDigitCount 10 1 n (suc (suc j)) → IsDigitCount 10 1 (n / 10) (suc j)
-fewer j n (some, small, large) =
-    (omega arith, omega (arith, ten-more (suc j)), low j (large (omega arith)))
-  where
-    low : (i : ℕ) → 10 ^ (suc (suc i) - 1) ≤ n → 1 < suc i → 10 ^ (suc i - 1) ≤ n / 10
-    low i h l =
-        let one : suc (suc i) - 1 ≡ suc i = omega arith in
-        let less : suc i - 1 ≡ i = omega arith in
-        let more : 10 ^ suc i ≤ n = rw one at h in
-        rw less (omega (arith, ten-more i))
+fewer j n w = grind arith
 
 -- those digits are the numeral
 digits-numeral : (k f n : ℕ) → IsDigitCount 10 1 n k → k ≤ f → last_digits 10 k n ≡ numeral_to f n

@@ -47,11 +47,7 @@ put-length out at w = go (leb (at + length w) (length out)) refl
 -- a text's end is no further than its length behind its start
 pub place-near : (out : List ℕ) (at : ℕ) (w : List ℕ) → place_after out at w ≤ at + length w
 unfolding place_after
-place-near out at w = go (leb (at + length w) (length out))
-  where
-    go : (b : Bool) → cond b (at + length w) at ≤ at + length w
-    go true = omega arith
-    go false = omega arith
+place-near out at w = grind arith
 
 -- A text at the front of a buffer that held `old`, and the place behind it.
 pub record Put (old w new : List ℕ) (at : ℕ) : Type 0 where

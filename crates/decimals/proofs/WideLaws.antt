@@ -5,12 +5,10 @@ use mathlib.Core.Path.{◌≡◌, refl, sym, ap, ◌∙◌}
 use mathlib.Core.Bool.{Bool, true, false, not, cond}
 use Rattle.std.specs.Prelude.{None, Some}
 use mathlib.Core.List.{List}
-use lib.Dec.{leb}
 use lib.ListN.{length, get_or, drop, drop_of_length-le}
-use borrow.Author.Tests.{leb-true, leb-false, le-leb, lt-leb}
+use borrow.Author.Tests.{le-leb, lt-leb}
 use Rattle.decimals.specs.Decimals.{is_digit, is_number, decimal, wide_in, wide_step}
 use Rattle.decimals.proofs.NumberLaws.{number_from, number-zero, number-grows, Digits, digits_none, rest, digits-more, digits-all}
-use Rattle.runs.proofs.Tests.{clash}
 
 abbrev most : ℕ
 most = 2 ^ 64 - 1
@@ -19,19 +17,11 @@ most = 2 ^ 64 - 1
 module _ (n d : ℕ) where
   step-told : {r : ℕ} → Some r ≡ wide_step n d → (r ≡ 10 * n + d) × (10 * n + d ≤ most)
   unfolding wide_step
-  step-told {r} e = go (leb (10 * n + d) most) refl e
-    where
-      go : (b : Bool) → leb (10 * n + d) most ≡ b → Some r ≡ cond b (Some (10 * n + d)) None → (r ≡ 10 * n + d) × (10 * n + d ≤ most)
-      go true g f = (cc, leb-true (10 * n + d) most g)
-      go false g f = clash (cc)
+  step-told {r} e = grind arith
 
   step-unfit : None ≡ wide_step n d → most < 10 * n + d
   unfolding wide_step
-  step-unfit e = go (leb (10 * n + d) most) refl e
-    where
-      go : (b : Bool) → leb (10 * n + d) most ≡ b → None ≡ cond b (Some (10 * n + d)) None → most < 10 * n + d
-      go true g f = clash (cc)
-      go false g f = leb-false (10 * n + d) most g
+  step-unfit e = grind arith
 
 -- The bytes before `at` are digits, and write n.
 pub record Wrote (w : List ℕ) (at n : ℕ) : Type 0 where

@@ -3,9 +3,9 @@ use Prim.Native.Nat.{ℕ, zero, suc, ◌+◌, ◌*◌, ◌<◌, ◌≤◌}
 use native.Mathlib.Omega.{arith}
 use native.Mathlib.Nat.{mul-le-mul_left}
 use mathlib.Core.Path.{◌≡◌, refl, sym, ap, ◌∙◌}
-use lib.Dec.{leb, eqb}
-use borrow.Author.Tests.{leb-true, le-leb, ne_eqb}
-use Rattle.runs.proofs.Tests.{by-test, either}
+use lib.Dec.{eqb}
+use borrow.Author.Tests.{le-leb, ne_eqb}
+use Rattle.runs.proofs.Tests.{either}
 use Rattle.extents.specs.Capped.{most, capped}
 
 pub capped_small : (n : ℕ) → n ≤ most → capped n ≡ n
@@ -14,7 +14,7 @@ capped_small n h = rw (le-leb n most h) refl
 
 pub capped-large : (n : ℕ) → most ≤ n → capped n ≡ most
 unfolding capped
-capped-large n h = by-test (leb n most) (λ e. rw e (let same : n ≡ most = omega (arith, leb-true n most e) in same)) (λ e. rw e refl)
+capped-large n h = grind arith
 
 -- what is below the largest is the number itself
 pub capped-below : (n : ℕ) → capped n < most → capped n ≡ n

@@ -2,10 +2,9 @@
 use Prim.Native.Nat.{ℕ, ◌+◌, ◌-◌, ◌<◌, ◌≤◌}
 use native.Mathlib.Omega.{arith}
 use mathlib.Core.Path.{◌≡◌, refl, sym, ◌∙◌}
-use mathlib.Core.Logic.{inl, inr}
 use mathlib.Core.Bool.{Bool, true, false, not, xor, beq, or_comm, and-false}
 use lib.Dec.{leb, eqb}
-use borrow.Author.Tests.{leb-true, le-leb, lt-leb, ne_eqb}
+use borrow.Author.Tests.{leb-true, le-leb, lt-leb}
 use Rattle.letters.specs.declared.Case.{Case}
 use Rattle.letters.specs.Letters.{is_upper, is_lower, other_case, folded, SameLetter}
 use Rattle.runs.specs.Keys.{line_key}
@@ -27,10 +26,7 @@ no_other k h g = rw (h, g) refl
 -- a test that differs from another, as the code of `in_set` has it
 pub unlike : (a b : Bool) → not (beq a b) ≡ xor b a
 unfolding xor
-unlike true true = refl
-unlike true false = refl
-unlike false true = refl
-unlike false false = refl
+unlike a b = grind arith
 
 -- without the choice a set is as it is
 pub folded-sensitive : (X : ℕ → Bool) (k : ℕ) → folded Case.Sensitive X k ≡ X k
@@ -40,15 +36,12 @@ folded-sensitive X k = refl
 -- what is in a set stays in it
 pub folded_more : (c : Case) (X : ℕ → Bool) (k : ℕ) → X k ≡ true → folded c X k ≡ true
 unfolding folded
-folded_more Case.Sensitive X k h = h
-folded_more Case.Ignored X k h = rw h refl
+folded_more c X k h = grind arith
 
 -- the set of all, and that of none
 pub folded-constant : (c : Case) (b : Bool) (k : ℕ) → folded c (λ j. b) k ≡ b
 unfolding folded
-folded-constant Case.Sensitive b k = refl
-folded-constant Case.Ignored true k = refl
-folded-constant Case.Ignored false k = refl
+folded-constant c b k = grind arith
 
 -- The other case of a number: it has the number as its own other case, is a key of a line if the number is, and none below 65 has another.
 pub record Other (j k : ℕ) : Type 0 where
@@ -57,17 +50,9 @@ pub record Other (j k : ℕ) : Type 0 where
   pub small : (n : ℕ) → n < 65 → eqb n k ≡ eqb n j
   pub byte : j < 256 → k < 256
 
--- a number from 65 to 255 is a key of a line, and none of the smaller ones
-in-line : (k : ℕ) → 64 < k → k < 256 → line_key k ≡ true
-in-line k g h = rw (le-leb 1 k (omega arith), le-leb k 255 (omega arith), ne_eqb k 10 (omega arith)) refl
-
-no-small : (n k : ℕ) → n < 65 → 64 < k → eqb n k ≡ false
-no-small n k h g = ne_eqb n k (omega arith)
-
 -- two letters
 letters : (j k : ℕ) → 64 < j → 64 < k → j < 256 → k < 256 → other_case k ≡ j → Other j k
-letters j k a b c d e =
-    record { back = e; key = in-line k b d ∙ sym (in-line j a c); small = λ n h. no-small n k h b ∙ sym (no-small n j h a); byte = λ h. d }
+letters j k a b c d e = grind arith
 
 pub other : (k : ℕ) → Other k (other_case k)
 other k = go (is_upper k) refl (is_lower k) refl
@@ -101,5 +86,4 @@ folded-other X k = rw (other k).back (or_comm (X (other_case k)) (X k))
 
 -- a test that is alike for both letters is alike for the same letter
 pub letter-test : (X : ℕ → Bool) → ((k : ℕ) → X (other_case k) ≡ X k) → (j k : ℕ) → SameLetter j k → X k ≡ X j
-letter-test X f j k (inl e) = rw e refl
-letter-test X f j k (inr e) = rw e (f j)
+letter-test X f j k e = grind arith

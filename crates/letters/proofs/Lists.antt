@@ -1,4 +1,5 @@
 -- Lists that are in a relation entry by entry.
+use native.Mathlib.Omega.{arith}
 use Prim.Native.Nat.{ℕ, ◌<◌}
 use mathlib.Core.Path.{◌≡◌, refl, sym, ap}
 use mathlib.Core.Logic.{inl, inr}
@@ -6,7 +7,6 @@ use mathlib.Core.List.{List, [], ◌∷◌, ◌++◌}
 use lib.Dec.{eqb}
 use Rattle.letters.specs.Letters.{SameLetter, Each, SameLetters}
 use Rattle.letters.proofs.Laws.{other, letter-test}
-use Rattle.runs.proofs.Tests.{clash}
 use Rattle.runs.specs.Keys.{member}
 
 module _ {A : Type 0} (R : A → A → Type 0) where
@@ -27,15 +27,11 @@ module _ {A : Type 0} (R : A → A → Type 0) where
 
   -- nothing stands against nothing
   pub each_none : (u v : List A) → u ≡ [] → Each R u v → v ≡ []
-  each_none [] [] h e = refl
-  each_none (j ∷ u) (k ∷ v) h e = clash (cc)
-  each_none [] (k ∷ v) h e = elim e [ ]
-  each_none (j ∷ u) [] h e = elim e [ ]
+  each_none u v h e = grind arith
 
   -- one entry stands against one
   pub each-one : (j : A) (v : List A) → Each R (j ∷ []) v → (k : A) × (v ≡ k ∷ []) × R j k
-  each-one j (k ∷ v) (r, e) = (k, ap (λ (l : List A). k ∷ l) (each_none [] v refl e), r)
-  each-one j [] x' = elim x' [ ]
+  each-one j v e = grind arith
 
   pub each-refl : ((k : A) → R k k) → (w : List A) → Each R w w
   each-refl f [] = tt

@@ -8,17 +8,14 @@ use mathlib.Core.Bool.{Bool, true, false, cond, ◌&&◌, ◌||◌}
 use lib.Dec.{eqb, eqb-zero-suc, eqb-suc-zero, eqb-suc-suc}
 use lib.Pow.{pow-add, pow-lt, pow_pos, pow_mono, mod-pow-add}
 use lib.Bits.{bit_and, bit_or, and_step, or_step, or_lt, and_mask}
-use borrow.Author.Tests.{eqb-true, eqb-false}
 use Rattle.stateset.specs.Set.{bit, word}
 
 -- the digits of a sum of a double and a digit
 half : (a : ℕ) (b : Bool) → (a * 2 + cond b 1 0) / 2 ≡ a
-half a true = omega arith
-half a false = omega arith
+half a b = grind arith
 
 odd : (a : ℕ) (b : Bool) → eqb ((a * 2 + cond b 1 0) % 2) 1 ≡ b
-odd a true = let e : (a * 2 + 1) % 2 ≡ 1 = omega arith in rw e
-odd a false = let e : (a * 2 + 0) % 2 ≡ 0 = omega arith in rw e
+odd a b = grind arith
 
 -- nothing
 -- the lowest digit, and the others
@@ -66,8 +63,7 @@ word_lt (suc s) X = rw (pow-suc 2 s) (go (X zero) (word_lt s (λ p. X (suc p))))
 
 -- a digit is told by whether it is 1
 pub digit : (d : ℕ) (b : Bool) → d < 2 → eqb d 1 ≡ b → d ≡ cond b 1 0
-digit d true h e = eqb-true d 1 e
-digit d false h e = omega (arith, eqb-false d 1 e)
+digit d b h e = grind arith
 
 -- a number below the width's power is the word of its digits
 pub word-unique : (s w : ℕ) (X : ℕ → Bool) → w < 2 ^ s → ((p : ℕ) → p < s → bit w p ≡ X p) → w ≡ word s X
@@ -82,27 +78,12 @@ word-unique (suc s) w X h e =
 pub word-ext : (s : ℕ) (X Y : ℕ → Bool) → ((p : ℕ) → p < s → X p ≡ Y p) → word s X ≡ word s Y
 word-ext s X Y e = word-unique s (word s X) Y (word_lt s X) (λ p h. bit_word s X p h ∙ e p h)
 
-large : {n : ℕ} → suc (suc n) < 2 → ⊥
-large h = omega arith
-
 -- two digits
 max-or : (m n : ℕ) → m < 2 → n < 2 → eqb (max m n) 1 ≡ (eqb m 1 || eqb n 1)
-max-or zero zero g h = refl
-max-or zero (suc zero) g h = refl
-max-or zero (suc (suc n)) g h = absurd (large h)
-max-or (suc zero) zero g h = refl
-max-or (suc zero) (suc zero) g h = refl
-max-or (suc zero) (suc (suc n)) g h = absurd (large h)
-max-or (suc (suc m)) n g h = absurd (large g)
+max-or m n g h = grind arith
 
 min-and : (m n : ℕ) → m < 2 → n < 2 → eqb (min m n) 1 ≡ (eqb m 1 && eqb n 1)
-min-and zero zero g h = refl
-min-and zero (suc zero) g h = refl
-min-and zero (suc (suc n)) g h = absurd (large h)
-min-and (suc zero) zero g h = refl
-min-and (suc zero) (suc zero) g h = refl
-min-and (suc zero) (suc (suc n)) g h = absurd (large h)
-min-and (suc (suc m)) n g h = absurd (large g)
+min-and m n g h = grind arith
 
 -- union and intersection, digit by digit
 pub bit-or : (a b p : ℕ) → bit (bit_or a b) p ≡ (bit a p || bit b p)

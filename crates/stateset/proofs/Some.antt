@@ -142,10 +142,7 @@ any-and zero X y = refl
 any-and (suc n) X y = spread (any_below n X) (X n) y ∙ ap (λ (b : Bool). b || (X n && y)) (any-and n X y)
   where
     spread : (a b y : Bool) → ((a || b) && y) ≡ ((a && y) || (b && y))
-    spread true b true = refl
-    spread true true false = refl
-    spread true false false = refl
-    spread false b y = refl
+    spread a b y = grind arith
 
 -- one of two tests
 pub any-or : (n : ℕ) (X Y : ℕ → Bool) → any_below n (λ k. X k || Y k) ≡ (any_below n X || any_below n Y)
@@ -154,7 +151,4 @@ any-or zero X Y = refl
 any-or (suc n) X Y = ap (λ (b : Bool). b || (X n || Y n)) (any-or n X Y) ∙ four (any_below n X) (any_below n Y) (X n) (Y n)
   where
     four : (a b c d : Bool) → ((a || b) || (c || d)) ≡ ((a || c) || (b || d))
-    four true b c d = refl
-    four false true true d = refl
-    four false true false d = refl
-    four false false c d = refl
+    four a b c d = grind arith
