@@ -19,6 +19,7 @@ use Rattle.refusal.specs.declared.Refusal.{Refusal}
 use Rattle.counter.specs.declared.counting.Count.{Count}
 use Rattle.counter.specs.Answers.{outcome}
 use Rattle.counter.specs.Counting.{book_result, most_words}
+use Rattle.command.specs.declared.input.TheConstants.{READ}
 use Rattle.command.specs.declared.asked.Asked.{Asked}
 use Rattle.command.specs.Buffers.{ReadFrom}
 use Rattle.command.specs.Input.{told_by, last_result, program_result, program_answer, macro_answer, last_answer}
@@ -95,6 +96,6 @@ module _ (book pattern : List ℕ) (c : Case) (a : Asked) {o : Option ℕ} (e : 
   counts_none f b p h k = asked_none c book pattern a e f ∙ sym (asked-prefix c book pattern a) ∙ rw (h, k) (asked-prefix c b p a)
 
 -- what it promises, for those who go on from it
-pub program-answers : (input : List ℕ) (r : Result Count Refusal) → ProgramAnswers input r → (w : List ℕ) → ReadFrom 8193 input w → told_by r ≡ program_answer w
+pub program-answers : (input : List ℕ) (r : Result Count Refusal) → ProgramAnswers input r → (w : List ℕ) → ReadFrom READ input w → told_by r ≡ program_answer w
 unfolding ProgramAnswers
 program-answers input r a = a

@@ -12,9 +12,9 @@ use borrow.Author.Tests.{ne_eqb, ltb-true, lt-ltb, le-ltb}
 use Rattle.refusal.specs.declared.Refusal.{Refusal}
 use Rattle.refusal.specs.declared.Refusal.TheVariants.{NoSuchMacro, NoSuchLine, LineNumberOverflow, BufferTooShort}
 use Rattle.refusal.specs.Number.{number}
+use Rattle.refusal.proofs.Number.{number-injective, number-positive}
 use Rattle.refusal.specs.contracts.Refusal.{the_type}
 use denote.Enum.Bare.{sameb, differs_true, differs_false}
-use Rattle.refusal.proofs.Number.{number-injective, number-positive}
 use Rattle.runs.specs.Kept.{over}
 use Rattle.runs.proofs.Tests.{clash, either}
 use Rattle.book.specs.Format.{Macro}
@@ -27,22 +27,19 @@ use Rattle.letters.specs.declared.Case.{Case}
 use Rattle.pattern.specs.Form.{Pattern}
 use Rattle.pattern.specs.Meaning.{query}
 use Rattle.pattern.specs.Reader as reader
-use Rattle.pattern.proofs.Accepts.{pattern-refusals, pattern-prefix}
-use Rattle.std.specs.Prelude.{Option, None, Some}
-use Rattle.decimals.specs.Decimals.{decimal, number_in}
-use Rattle.decimals.proofs.NumberLaws.{number-value, number-none, number_small}
+use Rattle.pattern.proofs.Accepts.{pattern-refusals}
 use Rattle.extents.specs.Capped.{most}
 use Rattle.find.specs.declared.finding.FoundLine.{FoundLine}
 use Rattle.find.specs.Lines.{Sought, missing, found, kth_line}
 use Rattle.find.specs.Answer as finding
 use Rattle.find.proofs.Readings as laws
-use Rattle.command.specs.Buffers.{ReadFrom}
-use Rattle.command.specs.Input.{last_macro}
-use Rattle.survey.proofs.ReadWhole.{whole-read}
-use Rattle.display.specs.declared.asked.LineInput.{LineInput}
+use Rattle.command.specs.declared.asked.Asked.{Asked}
+use Rattle.command.specs.Asked.{asked_number}
+use Rattle.command.proofs.AskedLaws.{asked-some, asked-nothing}
+use Rattle.command.proofs.ReadLaws.{book-read, pattern-read}
+use Rattle.std.specs.Prelude.{Option, None, Some, Result, Ok, Err}
 use Rattle.display.specs.declared.asked.LineAnswer.{LineAnswer}
-use Rattle.display.specs.declared.asked.NamedLineAnswer.{NamedLineAnswer}
-use Rattle.display.specs.Asked.{Told, shown, long, refused, told_of, line_result, line_answer, told_by, unwritten, Answers, LastLine, NamedLine}
+use Rattle.display.specs.Asked.{Told, shown, long, refused, told_of, line_result, line_answer, told_by, unwritten, Answers, LinesAsked}
 
 -- By the line.
 told-missing : told_of missing ≡ refused (number NoSuchLine)
@@ -133,33 +130,33 @@ module _ {r : ℕ} (x : finding.Location) (h : r ≡ 17) where
 
 -- by the code's test whether it is that the buffer is too short
 module _ (q : Refusal) {b : Bool} (g : b ≡ not (sameb the_type q BufferTooShort)) where
-  pub told-other : (x : finding.Location) → b ≡ true → told_by (LineAnswer.Refused q) [] ≡ unwritten (number q) x
+  pub told-other : (x : finding.Location) → b ≡ true → told_by (Err q) [] ≡ unwritten (number q) x
   told-other x t = sym (unwritten-other (number q) x (λ h. differs_true the_type q BufferTooShort (sym g ∙ t) (number-injective q BufferTooShort h)))
 
   module _ (t : b ≡ false) (a : FoundLine) (w : List ℕ) {x : finding.Location} (e : finding.placed a w ≡ x) where
     short : number q ≡ 17
     short = ap number (differs_false the_type (search) q BufferTooShort (sym g ∙ t))
 
-    pub told-place : {n l : ℕ} → a ≡ FoundLine.Line n l → told_by (LineAnswer.Long n l) [] ≡ unwritten (number q) x
+    pub told-place : {n l : ℕ} → a ≡ FoundLine.Line n l → told_by (Ok (LineAnswer.Long n l)) [] ≡ unwritten (number q) x
     told-place {n} {l} f = rw (← e, f) (sym (unwritten-line (finding.placed (FoundLine.Line n l) w) short refl))
 
-    pub told_none : {o : Refusal} → a ≡ FoundLine.Refused o → told_by (LineAnswer.Refused o) [] ≡ unwritten (number q) x
+    pub told_none : {o : Refusal} → a ≡ FoundLine.Refused o → told_by (Err o) [] ≡ unwritten (number q) x
     told_none {o} f = rw (← e, f) (sym (unwritten-refused (finding.nowhere o w) short (number-positive o)))
 
 -- What the code answers, by what it has been answered.
 module _ (before after w : List ℕ) (x : finding.Location) where
-  shown_by : (t : Told) (n l : ℕ) → Seen before t (finding.finished n l w after) x → Answers t before after (LineAnswer.Shown n l)
+  shown_by : (t : Told) (n l : ℕ) → Seen before t (finding.finished n l w after) x → Answers t before after (Ok (LineAnswer.Shown n l))
   shown_by (shown i j keys) n l (e, f, g, k, h) = record { told = rw (f, g, k, h, take-append_seam keys (drop (length keys) before)) refl; buffer = h }
   shown_by (long i j) n l (e, f, g, h, k) = absurd (omega (arith, e))
   shown_by (refused r) n l (e, f, g, h) = absurd (omega (arith, e, f))
 
   -- what shows no keys tells the same, whatever the buffer holds
-  told-alike : (r : LineAnswer) (t : Told) → ((n i : ℕ) (l : List ℕ) → t ≡ shown n i l → ⊥) → told_by r [] ≡ t → told_by r after ≡ t
-  told-alike (LineAnswer.Shown n l) t h v = absurd (h n l (take l []) (sym v))
-  told-alike (LineAnswer.Long n l) t h v = v
-  told-alike (LineAnswer.Refused u) t h v = v
+  told-alike : (r : Result LineAnswer Refusal) (t : Told) → ((n i : ℕ) (l : List ℕ) → t ≡ shown n i l → ⊥) → told_by r [] ≡ t → told_by r after ≡ t
+  told-alike (Ok (LineAnswer.Shown n l)) t h v = absurd (h n l (take l []) (sym v))
+  told-alike (Ok (LineAnswer.Long n l)) t h v = v
+  told-alike (Err u) t h v = v
 
-  unwritten-by : (t : Told) (q : Refusal) (r : LineAnswer) → told_by r [] ≡ unwritten (number q) x → Seen before t (finding.stopped q w after) x → Answers t before after r
+  unwritten-by : (t : Told) (q : Refusal) (r : Result LineAnswer Refusal) → told_by r [] ≡ unwritten (number q) x → Seen before t (finding.stopped q w after) x → Answers t before after r
   unwritten-by (shown i j keys) q r told (e, f, g, k, h) = absurd (omega (arith, e, number-positive q))
   unwritten-by (long i j) q r told (e, f, g, h, k) = record { told = told-alike r (long i j) (λ n i l v. clash (cc)) (told ∙ unwritten-line x e g ∙ rw (h, k) refl); buffer = f }
   unwritten-by (refused i) q r told (e, f, g, h) = record { told = told-alike r (refused i) (λ n i l v. clash (cc)) (told ∙ unwritten-other (number q) x (λ s. g (sym e ∙ s)) ∙ ap refused e); buffer = h }
@@ -170,12 +167,12 @@ module _ (c : Case) (b p : List ℕ) (m k : ℕ) (before w after : List ℕ) (a 
   seen : (space : List ℕ) → length space ≡ finding.most_words → Seen before (line_answer c b p m k) (finding.outcome a w after) (finding.locate_result c (read_book b) (reader.read_pattern p) m k space)
   seen space room = rw e (answer-seen c b p m k before wide (replicate finding.most_words 0) space (length-replicate {A = ℕ} finding.most_words 0) room)
 
-  pub found-shown : {n l : ℕ} → a ≡ FoundLine.Line n l → Answers (line_answer c b p m k) before after (LineAnswer.Shown n l)
+  pub found-shown : {n l : ℕ} → a ≡ FoundLine.Line n l → Answers (line_answer c b p m k) before after (Ok (LineAnswer.Shown n l))
   found-shown {n} {l} f =
       shown_by before after w (finding.locate_result c (read_book b) (reader.read_pattern p) m k (replicate finding.most_words 0)) (line_answer c b p m k) n l
       (rw f at (seen (replicate finding.most_words 0) (length-replicate {A = ℕ} finding.most_words 0)))
 
-  pub found-unwritten : {q : Refusal} (r : LineAnswer) → a ≡ FoundLine.Refused q → length w ≡ finding.most_words → told_by r [] ≡ unwritten (number q) (finding.locate_result c (read_book b) (reader.read_pattern p) m k w) → Answers (line_answer c b p m k) before after r
+  pub found-unwritten : {q : Refusal} (r : Result LineAnswer Refusal) → a ≡ FoundLine.Refused q → length w ≡ finding.most_words → told_by r [] ≡ unwritten (number q) (finding.locate_result c (read_book b) (reader.read_pattern p) m k w) → Answers (line_answer c b p m k) before after r
   found-unwritten {q} r f room told = unwritten-by before after w (finding.locate_result c (read_book b) (reader.read_pattern p) m k w) (line_answer c b p m k) q r told (rw f at (seen w room))
 
 -- No book has a macro from 1,024 on: all such numbers are refused alike.
@@ -190,28 +187,14 @@ line-beyond c b p m n k g h = go (read_book b) refl (reader.read_pattern p)
         rw (line-accepted c m k ms rest t, line-accepted c n k ms rest t, le-ltb m (length ms) (omega arith), le-ltb n (length ms) (omega arith)) refl
 
 -- A first part of the book and of the pattern is enough.
-module _ (book bytes : List ℕ) (n : ℕ) (pattern given : List ℕ) (a : LineInput) (long : length book ≡ 264200) (wide : length pattern ≡ 129) (is : bytes ≡ take n book) (same : given ≡ take a.bytes pattern) where
-  whole : (b p : List ℕ) → ReadFrom book n b → ReadFrom pattern a.bytes p → (m : ℕ) → line_answer a.case bytes given m a.k ≡ line_answer a.case b p m a.k
-  whole b p f g m = rw (whole-read book bytes n long is b f, same, g, wide, pattern-prefix 129 p (omega arith)) refl
+module _ (book pattern : List ℕ) (c : Case) (k : ℕ) (a : Asked) {o : Option ℕ} (e : o ≡ asked_number a book) (before after : List ℕ) where
+  pub lines-read : {m : ℕ} (r : Result LineAnswer Refusal) → o ≡ Some m → Answers (line_answer c book pattern m k) before after r → LinesAsked book pattern c k a before after (Some r)
+  unfolding LinesAsked
+  lines-read {m} r f w b p g h =
+      let same : read_book book ≡ read_book b = book-read book b g in
+      let whole : line_answer c book pattern m k ≡ line_answer c b p m k = rw (same, pattern-read pattern p h) refl in
+      asked-some book b same (λ m r. Answers (line_answer c b p m k) before after r) (after ≡ before) a e r (λ i j x y z. rw (← line-beyond c b p i j k x y) z) f (subst (λ (t : Told). Answers t before after r) whole w)
 
-  -- the last macro
-  pub last_line_lem : (m : ℕ) (before after : List ℕ) (r : LineAnswer) → m ≡ last_macro (read_book bytes) → Answers (line_answer a.case bytes given m a.k) before after r → LastLine book n pattern a before after r
-  unfolding LastLine
-  last_line_lem m before after r e w b p f g =
-      let last : m ≡ last_macro (read_book b) = e ∙ ap last_macro (whole-read book bytes n long is b f) in
-      subst (λ (t : Told). Answers t before after r) (ap (λ (i : ℕ). line_answer a.case bytes given i a.k) last ∙ whole b p f g (last_macro (read_book b))) w
-
-  -- the macro that a text names
-  module _ (text : List ℕ) {v : Option ℕ} (e : v ≡ number_in text) where
-    pub named-line : (m : ℕ) (before after : List ℕ) (r : LineAnswer) → v ≡ Some m → Answers (line_answer a.case bytes given m a.k) before after r → NamedLine book n pattern a text before after (NamedLineAnswer.Answer r)
-    unfolding NamedLine
-    named-line m before after r f w b p g h =
-        let told = number-value text e f in (
-          told.0,
-          number_small (λ i. Answers (line_answer a.case b p i a.k) before after r) (λ i j x y z. rw (← line-beyond a.case b p i j a.k x y) z) (decimal text)
-              (subst (λ (t : Told). Answers t before after r) (whole b p g h m ∙ ap (λ (i : ℕ). line_answer a.case b p i a.k) told.1) w),
-        )
-
-pub no_line : (book : List ℕ) (n : ℕ) (pattern : List ℕ) (a : LineInput) (text line : List ℕ) {v : Option ℕ} → v ≡ number_in text → v ≡ None → NamedLine book n pattern a text line line NamedLineAnswer.NoNumber
-unfolding NamedLine
-no_line book n pattern a text line e f b p g h = (number-none text e f, refl)
+  pub lines_none : o ≡ None → after ≡ before → LinesAsked book pattern c k a before after None
+  unfolding LinesAsked
+  lines_none f same b p g h = asked-nothing book b (book-read book b g) (λ m r. Answers (line_answer c b p m k) before after r) (after ≡ before) a e f same

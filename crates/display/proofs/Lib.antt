@@ -2,6 +2,5 @@
 pub mod AskedLaws
 pub mod ShownLaws
 pub mod TextLaws
-pub mod ReplyLaws
 pub mod Refusals
 pub mod Examples

@@ -5,7 +5,7 @@ use native.Mathlib.Omega.{arith}
 use mathlib.Core.Path.{◌≡◌, sym, subst}
 use mathlib.Core.Logic.{◌⊎◌, inl, inr, ⊎_elim}
 use mathlib.Core.List.{List}
-use lib.ListN.{take, replicate, length-replicate}
+use lib.ListN.{replicate, length-replicate}
 use Rattle.refusal.specs.declared.Refusal.{Refusal}
 use Rattle.refusal.specs.Number.{number}
 use Rattle.book.specs.Reading.{read_book}
@@ -15,10 +15,10 @@ use Rattle.find.specs.Answer as finding
 use Rattle.find.proofs.Refusals.{FindRefusal, find-refusals-most}
 use Rattle.command.specs.Input.{last_macro}
 use Rattle.command.proofs.ReadLaws.{read-itself}
-use Rattle.display.specs.declared.asked.LineInput.{LineInput}
-use Rattle.display.specs.declared.asked.LineAnswer.{LineAnswer}
-use Rattle.display.specs.declared.asked.NamedLineAnswer.{NamedLineAnswer}
-use Rattle.display.specs.Asked.{refused, line_answer, LastLine, NamedLine}
+use Rattle.command.specs.declared.asked.Asked.{Asked}
+use Rattle.std.specs.Prelude.{Some, Err}
+use Rattle.std.proofs.Common.{Bor}
+use Rattle.display.specs.Asked.{refused, line_answer, LinesAsked}
 use Rattle.display.proofs.AskedLaws.{answer-seen}
 
 abbrev pub LineRefusal : ℕ → Type 0
@@ -36,17 +36,11 @@ line-refusals c b p m k r e =
     go : (r ≡ 17 → ⊥) → FindRefusal 10 r → LineRefusal r
     go n = ⊎_elim inl (⊎_elim (λ h. inr (inl h)) (⊎_elim (λ h. inr (inr (inl h))) (⊎_elim (λ h. absurd (n h)) (λ h. inr (inr (inr h))))))
 
-module _ (book : List ℕ) (n : ℕ) (pattern : List ℕ) (a : LineInput) (before after : List ℕ) (q : Refusal) where
-  pub line-last-refusals : LastLine book n pattern a before after (LineAnswer.Refused q) → LineRefusal (number q)
-  unfolding LastLine
-  line-last-refusals w =
-      let b = take n book in
-      let p = take a.bytes pattern in
-      line-refusals a.case b p (last_macro (read_book b)) a.k (number q) (sym (w b p (read-itself book n) (read-itself pattern a.bytes)).told)
+module _ (book pattern : List ℕ) (c : Case) (k : ℕ) (before after : List ℕ) (q : Refusal) where
+  pub line-last-refusals : LinesAsked book pattern c k Asked.Last before after (Some (Err q)) → LineRefusal (number q)
+  unfolding LinesAsked
+  line-last-refusals w = line-refusals c book pattern (last_macro (read_book book)) k (number q) (sym (w book pattern (read-itself 264200 book) (read-itself 129 pattern)).told)
 
-  pub line-named-refusals : (text : List ℕ) → NamedLine book n pattern a text before after (NamedLineAnswer.Answer (LineAnswer.Refused q)) → LineRefusal (number q)
-  unfolding NamedLine
-  line-named-refusals text w =
-      let b = take n book in
-      let p = take a.bytes pattern in
-      line-refusals a.case b p (decimal text) a.k (number q) (sym (w b p (read-itself book n) (read-itself pattern a.bytes)).1.told)
+  pub line-named-refusals : (text : Bor (List ℕ)) → LinesAsked book pattern c k (Asked.Named text) before after (Some (Err q)) → LineRefusal (number q)
+  unfolding LinesAsked
+  line-named-refusals text w = line-refusals c book pattern (decimal text.now) k (number q) (sym (w book pattern (read-itself 264200 book) (read-itself 129 pattern)).1.told)

@@ -7,7 +7,7 @@ use mathlib.Core.Bool.{Bool, true, false, cond, ◌||◌}
 use mathlib.Core.List.{List, [], ◌∷◌, ◌++◌, append-nil, append_assoc}
 use lib.Dec.{eqb, ltb}
 use lib.ListN.{length, get_or, take, length-append}
-use lib.Seq.{take-suc, length-take-le, paste-zero}
+use lib.Seq.{take_all, take-suc, length-take-le, paste-zero}
 use borrow.Author.Tests.{eq-eqb, ne_eqb, lt-ltb, le-ltb}
 use Rattle.decimals.specs.Texts.{put_at, place_after}
 use Rattle.decimals.proofs.TextLaws.{put-copied, place-copied, put_both, place-both, put-length}
@@ -84,8 +84,8 @@ shown-short [] = omega arith
 shown-short (k ∷ w) = rw (length-append (shown_key k) (shown_keys w)) (omega (arith, key-short k, shown-short w))
 
 -- The first i keys, from a place on.
-pub record Showing (old : List ℕ) (at : ℕ) (keys : List ℕ) (n : ℕ) (new : List ℕ) (place i : ℕ) : Type 0 where
-  pub inside : i ≤ n
+pub record Showing (old : List ℕ) (at : ℕ) (keys : List ℕ) (new : List ℕ) (place i : ℕ) : Type 0 where
+  pub room : at + 4 * length keys ≤ length old
   pub long : length new ≡ length old
   pub put : new ≡ put_at old at (shown_keys (take i keys))
   pub behind : place ≡ place_after old at (shown_keys (take i keys))
@@ -96,25 +96,29 @@ put-none old at h = put-copied old at [] h (omega arith) (paste-zero old at [])
 place_none : (old : List ℕ) (at : ℕ) → at ≤ length old → at ≡ place_after old at []
 place_none old at h = (let none : at ≡ at + 0 = omega arith in none) ∙ place-copied old at [] h (omega arith)
 
-pub showing-none : (old : List ℕ) (at : ℕ) (keys : List ℕ) (n : ℕ) → at + 4 * n ≤ length old → Showing old at keys n old at 0
+pub showing-none : (old : List ℕ) (at : ℕ) (keys : List ℕ) → at + 4 * length keys ≤ length old → Showing old at keys old at 0
 unfolding shown_keys
-showing-none old at keys n h = record { inside = omega arith; long = refl; put = put-none old at (omega arith); behind = place_none old at (omega arith) }
+showing-none old at keys h = record { room = h; long = refl; put = put-none old at (omega arith); behind = place_none old at (omega arith) }
 
-module _ {old : List ℕ} {at : ℕ} {keys : List ℕ} {n : ℕ} {new : List ℕ} {place i : ℕ} (x : Showing old at keys n new place i) where
-  pub showing-more : at + 4 * n ≤ length old → n ≤ length keys → i < n → {next : List ℕ} {then : ℕ} → next ≡ put_at new place (shown_key (get_or keys i 0)) → then ≡ place_after new place (shown_key (get_or keys i 0)) → Showing old at keys n next then (i + 1)
-  showing-more room few h {next} {then} e f =
+module _ {old : List ℕ} {at : ℕ} {keys : List ℕ} {new : List ℕ} {place i : ℕ} (x : Showing old at keys new place i) where
+  pub showing-more : i < length keys → {next : List ℕ} {then : ℕ} → next ≡ put_at new place (shown_key (get_or keys i 0)) → then ≡ place_after new place (shown_key (get_or keys i 0)) → Showing old at keys next then (i + 1)
+  showing-more h {next} {then} e f =
       let one : take (i + 1) keys ≡ take i keys ++ (get_or keys i 0 ∷ []) = ap (λ (k : ℕ). take k keys) (add-one i) ∙ take-suc keys i 0 (omega arith) in
       let more : shown_keys (take (i + 1) keys) ≡ shown_keys (take i keys) ++ shown_key (get_or keys i 0) = ap shown_keys one ∙ shown-more (take i keys) (get_or keys i 0) in
-      let fits : at + (length (shown_keys (take i keys)) + length (shown_key (get_or keys i 0))) ≤ length old = omega (arith, shown-short (take i keys), length-take-le i keys (omega arith), key-short (get_or keys i 0)) in
+      let fits : at + (length (shown_keys (take i keys)) + length (shown_key (get_or keys i 0))) ≤ length old = omega (arith, x.room, shown-short (take i keys), length-take-le i keys (omega arith), key-short (get_or keys i 0)) in
       record {
-        inside = omega arith;
+        room = x.room;
         long = ap length e ∙ put-length new place (shown_key (get_or keys i 0)) ∙ x.long;
         put = put_both old at (shown_keys (take i keys)) (shown_key (get_or keys i 0)) fits x.put x.behind e ∙ ap (put_at old at) (sym more);
         behind = place-both old at (shown_keys (take i keys)) (shown_key (get_or keys i 0)) fits x.put x.behind f ∙ ap (place_after old at) (sym more);
       }
 
-  pub showing-put : n ≤ i → new ≡ put_at old at (shown_keys (take n keys))
-  showing-put h = let all : i ≡ n = omega (arith, x.inside) in rw all at x.put
+  module _ (h : length keys ≤ i) where
+    all : shown_keys (take i keys) ≡ shown_keys keys
+    all = ap shown_keys (take_all i keys h)
 
-  pub showing-behind : n ≤ i → place ≡ place_after old at (shown_keys (take n keys))
-  showing-behind h = let all : i ≡ n = omega (arith, x.inside) in rw all at x.behind
+    pub showing-put : new ≡ put_at old at (shown_keys keys)
+    showing-put = x.put ∙ ap (put_at old at) all
+
+    pub showing-behind : place ≡ place_after old at (shown_keys keys)
+    showing-behind = x.behind ∙ ap (place_after old at) all

@@ -12,6 +12,7 @@ use Rattle.decimals.specs.Decimals.{numeral}
 use Rattle.decimals.specs.Texts.{ascii, put_at, place_after}
 use Rattle.decimals.proofs.TextLaws.{Put, put-nothing, put-more, place-near, put-length}
 use Rattle.output.specs.Lines.{Line, ending, refused_text}
+use Rattle.std.specs.Prelude.{Result, Err}
 use Rattle.display.specs.declared.asked.LineAnswer.{LineAnswer}
 use Rattle.display.specs.Shown.{shown_keys}
 use Rattle.display.specs.Asked.{told_by}
@@ -60,21 +61,8 @@ module _ (old : List ℕ) (wide : length old ≡ 262208) (n : ℕ) (short : leng
         let few : length (shown_keys (take r keys)) ≤ 4 * 65536 = omega (arith, shown-short (take r keys), length-take r keys, s) in
         rw (← same) (line_of (four old (numeral n) e f (ascii ":") g h (shown_keys (take r keys)) x y ending (omega (arith, wide, short, few)) p q))
 
--- `refused R`
-pub refused-put : (old : List ℕ) (n r : ℕ) {a b c : List ℕ} {i j k : ℕ} → length old ≡ 262208 → n ≡ r → length (numeral n) ≤ 20
-    → a ≡ put_at old 0 (ascii "refused ") → i ≡ place_after old 0 (ascii "refused ") → b ≡ put_at a i (numeral n) → j ≡ place_after a i (numeral n) → c ≡ put_at b j ending → k ≡ place_after b j ending → Line (refused_text r) old c k
-refused-put old n r wide same short e f g h x y = rw (← same) (line_of (three old (ascii "refused ") e f (numeral n) g h ending x y (omega (arith, wide, short))))
-
 -- By the answer's case.
-module _ {found : LineAnswer} (keys : List ℕ) {old new : List ℕ} {k : ℕ} where
-  pub answer-shown : {n l : ℕ} → found ≡ LineAnswer.Shown n l → Line (shown_text n (take l keys)) old new k → Line (line_text (told_by found keys)) old new k
+module _ {found : Result LineAnswer Refusal} (keys : List ℕ) {old new : List ℕ} {k : ℕ} where
+  pub answer-refused : {r : Refusal} → found ≡ Err r → 29 ≤ length old → (29 ≤ length old → Line (refused_text (number r)) old new k) → Line (line_text (told_by found keys)) old new k
   unfolding line_text
-  answer-shown e x = rw e x
-
-  pub answer-long : {n l : ℕ} → found ≡ LineAnswer.Long n l → Line (long_text n l) old new k → Line (line_text (told_by found keys)) old new k
-  unfolding line_text
-  answer-long e x = rw e x
-
-  pub answer-refused : {r : Refusal} → found ≡ LineAnswer.Refused r → Line (refused_text (number r)) old new k → Line (line_text (told_by found keys)) old new k
-  unfolding line_text
-  answer-refused e x = rw e x
+  answer-refused e wide x = rw e (x wide)

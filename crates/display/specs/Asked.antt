@@ -1,5 +1,6 @@
 -- Document 02, S-3, for the command: what is told of a line. Of one that is longer than the command's buffer, its number and its length (`docs/DECISIONS.md`, 119).
-use Rattle.std.specs.Prelude.{ℕ, ◌≡◌, true, false, cond, List, [], eqb, ltb, length, take}
+use Rattle.std.specs.Prelude.{ℕ, ◌≡◌, cond, Option, Result, Ok, Err, List, [], eqb, ltb, length, take}
+use Rattle.refusal.specs.declared.Refusal.{Refusal}
 use Rattle.refusal.specs.declared.Refusal.TheVariants.{NoSuchLine, LineNumberOverflow, BufferTooShort}
 use Rattle.refusal.specs.Number.{number}
 use Rattle.runs.specs.Kept.{over}
@@ -10,16 +11,14 @@ use Rattle.book.specs.Steps.{answer_by}
 use Rattle.letters.specs.declared.Case.{Case}
 use Rattle.pattern.specs.Meaning.{query}
 use Rattle.pattern.specs.Reader as reader
-use Rattle.decimals.specs.Decimals.{is_number, decimal}
 use Rattle.counter.specs.Front.{front}
 use Rattle.extents.specs.Capped.{most}
 use Rattle.find.specs.Lines.{Sought, missing, found, kth_line}
 use Rattle.find.specs.Answer as finding
-use Rattle.command.specs.Buffers.{ReadFrom}
-use Rattle.command.specs.Input.{last_macro}
-use Rattle.display.specs.declared.asked.LineInput.{LineInput}
+use Rattle.command.specs.declared.asked.Asked.{Asked}
+use Rattle.command.specs.Asked.{AskedFor}
+use Rattle.command.specs.Reads.{BookFrom, PatternFrom}
 use Rattle.display.specs.declared.asked.LineAnswer.{LineAnswer}
-use Rattle.display.specs.declared.asked.NamedLineAnswer.{NamedLineAnswer}
 
 -- a line's number, how many keys it has, and the keys; its number and how many keys it has; or the refusal's number
 pub data Told : Type 0 where
@@ -40,10 +39,10 @@ abbrev pub line_answer : Case → List ℕ → List ℕ → ℕ → ℕ → Told
 line_answer c b p m k = line_result c (read_book b) (reader.read_pattern p) m k
 
 -- what an answer tells, with the buffer after it
-abbrev pub told_by : LineAnswer → List ℕ → Told
-told_by (LineAnswer.Shown n l) line = shown n l (take l line)
-told_by (LineAnswer.Long n l) line = long n l
-told_by (LineAnswer.Refused r) line = refused (number r)
+abbrev pub told_by : Result LineAnswer Refusal → List ℕ → Told
+told_by (Ok (LineAnswer.Shown n l)) line = shown n l (take l line)
+told_by (Ok (LineAnswer.Long n l)) line = long n l
+told_by (Err r) line = refused (number r)
 
 -- what private functions promise each other: what is told where `find_line` refuses a line, by where `locate_line` finds it
 abbrev pub place_told : finding.Location → Told
@@ -59,19 +58,12 @@ keys_of (long n l) = []
 keys_of (refused r) = []
 
 -- an answer tells this, and the buffer has just the shown keys at its front
-pub record Answers (t : Told) (before after : List ℕ) (r : LineAnswer) : Type 0 where
+pub record Answers (t : Told) (before after : List ℕ) (r : Result LineAnswer Refusal) : Type 0 where
   pub told : told_by r after ≡ t
   pub buffer : after ≡ over (keys_of t) before
 
--- the line of the last macro, in every book of which n bytes were read, under every pattern of which the given bytes were
-unfoldable pub LastLine : List ℕ → ℕ → List ℕ → LineInput → List ℕ → List ℕ → LineAnswer → Type 0
-LastLine book n pattern a before after r =
-    (b p : List ℕ) → ReadFrom book n b → ReadFrom pattern a.bytes p → Answers (line_answer a.case b p (last_macro (read_book b)) a.k) before after r
-
--- the same of the macro which a text names, if it names one
-abbrev pub LineBy : List ℕ → List ℕ → LineInput → List ℕ → List ℕ → List ℕ → NamedLineAnswer → Type 0
-LineBy b p a text before after (NamedLineAnswer.Answer r) = (is_number text ≡ true) × Answers (line_answer a.case b p (decimal text) a.k) before after r
-LineBy b p a text before after NamedLineAnswer.NoNumber = (is_number text ≡ false) × (after ≡ before)
-
-unfoldable pub NamedLine : List ℕ → ℕ → List ℕ → LineInput → List ℕ → List ℕ → List ℕ → NamedLineAnswer → Type 0
-NamedLine book n pattern a text before after r = (b p : List ℕ) → ReadFrom book n b → ReadFrom pattern a.bytes p → LineBy b p a text before after r
+-- the line of the macro that is asked for, in every book and under every pattern of which this was read; where none is told, the buffer is left
+-- as it was
+unfoldable pub LinesAsked : List ℕ → List ℕ → Case → ℕ → Asked → List ℕ → List ℕ → Option (Result LineAnswer Refusal) → Type 0
+LinesAsked book pattern c k a before after r =
+    (b p : List ℕ) → BookFrom book b → PatternFrom pattern p → AskedFor a b (λ m r. Answers (line_answer c b p m k) before after r) (after ≡ before) r

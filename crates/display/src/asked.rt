@@ -4,10 +4,9 @@ ghost use Rattle.refusal.specs.Number.{number};
 ghost use Rattle.book.specs.Reading.{read_book};
 ghost use Rattle.pattern.specs.Reader.{read_pattern};
 ghost use Rattle.find.specs.Answer.{locate_result};
-ghost use Rattle.display.specs.Asked.{Answers, LastLine, NamedLine, line_answer, told_by, unwritten};
+ghost use Rattle.display.specs.Asked.{Answers, LinesAsked, line_answer, told_by, unwritten};
 
-use command::{BOOK_READ, PATTERN_READ, last_macro, read_part};
-use decimals::number_in;
+use command::Asked;
 use find::{FoundLine, MOST_WORDS, find_line, locate_line};
 use letters::Case;
 use refusal::Refusal;
@@ -15,100 +14,63 @@ use refusal::Refusal;
 // The bytes of the buffer that the command lends: longer lines are not shown.
 pub const BUFFER: usize = 65536;
 
-// How many bytes of a pattern were read, whether case is ignored, and which of the matching lines is asked for, from 1.
-#[derive(Clone, Copy)]
-pub struct LineInput {
-    pub bytes: usize,
-    pub case: Case,
-    pub k: u64,
-}
-
-// A line's number and how many keys it has, which stand at the front of the buffer; the same of a line that is longer than the buffer; or
-// why it is refused.
+// A line's number and how many keys it has: of one whose keys stand at the front of the buffer, or of one that is longer than the buffer.
 #[derive(Clone, Copy)]
 pub enum LineAnswer {
     Shown(u64, u64),
     Long(u64, u64),
-    Refused(Refusal),
-}
-
-// The same for the macro that a text names; or the text is no number.
-#[derive(Clone, Copy)]
-pub enum NamedLineAnswer {
-    Answer(LineAnswer),
-    NoNumber,
 }
 
 // What is told where no line is written: where the line is, if the buffer is too short for it.
 fn unwritten_in(
     book: &[u8],
     pattern: &[u8],
-    asked: LineInput,
+    case: Case,
     m: usize,
+    k: u64,
     r: Refusal,
     work: &mut [u64; MOST_WORDS],
-) -> LineAnswer
-    ensures { told_by result [] ≡ unwritten (number r) (locate_result asked.case (read_book book.now) (read_pattern pattern.now) m asked.k work.old) }
+) -> Result<LineAnswer, Refusal>
+    ensures { told_by result [] ≡ unwritten (number r) (locate_result case (read_book book.now) (read_pattern pattern.now) m k work.old) }
 {
     if r != Refusal::BufferTooShort {
-        return LineAnswer::Refused(r);
+        return Err(r);
     }
-    let case = asked.case;
-    match locate_line(book, pattern, case, m, asked.k, work) {
-        FoundLine::Line(number, keys) => LineAnswer::Long(number, keys),
-        FoundLine::Refused(other) => LineAnswer::Refused(other),
+    match locate_line(book, pattern, case, m, k, work) {
+        FoundLine::Line(number, keys) => Ok(LineAnswer::Long(number, keys)),
+        FoundLine::Refused(other) => Err(other),
     }
 }
 
-// The k-th matching line of macro m's run, with work words for every book.
+// The k-th matching line of macro m's run, from 1, with work words for every book.
 fn line_in(
     book: &[u8],
     pattern: &[u8],
-    asked: LineInput,
+    case: Case,
     m: usize,
+    k: u64,
     line: &mut [u8; BUFFER],
-) -> LineAnswer
-    ensures { Answers (line_answer asked.case book.now pattern.now m asked.k) line.old line.new result }
+) -> Result<LineAnswer, Refusal>
+    ensures { Answers (line_answer case book.now pattern.now m k) line.old line.new result }
 {
-    let case = asked.case;
     let mut work = [0; MOST_WORDS];
-    match find_line(book, pattern, case, m, asked.k, &mut work, line) {
-        FoundLine::Line(number, keys) => LineAnswer::Shown(number, keys),
-        FoundLine::Refused(r) => unwritten_in(book, pattern, asked, m, r, &mut work),
+    match find_line(book, pattern, case, m, k, &mut work, line) {
+        FoundLine::Line(number, keys) => Ok(LineAnswer::Shown(number, keys)),
+        FoundLine::Refused(r) => unwritten_in(book, pattern, case, m, k, r, &mut work),
     }
 }
 
-// The line of the macro that a text names, in every book of which these n bytes were read, under every pattern of which the given bytes
-// were.
-pub(crate) fn line_named(
-    book: &[u8; BOOK_READ],
-    n: usize,
-    pattern: &[u8; PATTERN_READ],
-    asked: LineInput,
-    text: &[u8],
+// That of the macro that is asked for, in every book and under every pattern of which this was read; none if the macro's text is no number.
+pub(crate) fn line_asked(
+    book: &[u8],
+    pattern: &[u8],
+    case: Case,
+    k: u64,
+    asked: Asked,
     line: &mut [u8; BUFFER],
-) -> NamedLineAnswer
-    ensures { NamedLine book.now n pattern.now asked text.now line.old line.new result }
+) -> Option<Result<LineAnswer, Refusal>>
+    ensures { LinesAsked book.now pattern.now case k asked.entry line.old line.new result }
 {
-    let bytes = read_part(book, n);
-    let given = read_part(pattern, asked.bytes);
-    match number_in(text) {
-        Some(m) => NamedLineAnswer::Answer(line_in(bytes, given, asked, m, line)),
-        None => NamedLineAnswer::NoNumber,
-    }
-}
-
-// The same of the last macro.
-pub(crate) fn line_last(
-    book: &[u8; BOOK_READ],
-    n: usize,
-    pattern: &[u8; PATTERN_READ],
-    asked: LineInput,
-    line: &mut [u8; BUFFER],
-) -> LineAnswer
-    ensures { LastLine book.now n pattern.now asked line.old line.new result }
-{
-    let bytes = read_part(book, n);
-    let given = read_part(pattern, asked.bytes);
-    line_in(bytes, given, asked, last_macro(bytes), line)
+    let m = asked.number_in(book)?;
+    Some(line_in(book, pattern, case, m, k, line))
 }

@@ -1,5 +1,5 @@
 // Keys shown so that a terminal is safe.
-ghost use Rattle.std.specs.Prelude.{◌≡◌, ◌+◌, ◌*◌, ◌<◌, ◌≤◌, length, take};
+ghost use Rattle.std.specs.Prelude.{◌≡◌, ◌+◌, ◌*◌, ◌<◌, ◌≤◌, length};
 ghost use Rattle.decimals.specs.Texts.{place_after, put_at};
 ghost use Rattle.display.specs.Shown.{code_text, hex_digit, shown_key, shown_keys};
 
@@ -37,18 +37,15 @@ fn put_key(out: &mut [u8], at: usize, key: u8) -> usize
     put_text(out, at, &text)
 }
 
-// The first n keys, from a place on; answers the place behind them.
-pub(crate) fn put_keys(out: &mut [u8], at: usize, keys: &[u8], n: usize) -> usize
-    requires room { at + 4 * n ≤ length out.old }
-    requires there { n ≤ length keys.now }
-    ensures buffer { out.new ≡ put_at out.old at (shown_keys (take n keys.now)) }
-    ensures place { result ≡ place_after out.old at (shown_keys (take n keys.now)) }
+// Keys, from a place on; answers the place behind them.
+pub(crate) fn put_keys(out: &mut [u8], at: usize, keys: &[u8]) -> usize
+    requires { at + 4 * length keys.now ≤ length out.old }
+    ensures buffer { out.new ≡ put_at out.old at (shown_keys keys.now) }
+    ensures place { result ≡ place_after out.old at (shown_keys keys.now) }
 {
     let mut place = at;
-    let mut i = 0;
-    while i < n {
-        place = put_key(out, place, keys[i]);
-        i += 1;
+    for &key in keys {
+        place = put_key(out, place, key);
     }
     place
 }

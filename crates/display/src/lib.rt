@@ -6,6 +6,6 @@ mod keys;
 mod reply;
 mod text;
 
-pub use asked::{BUFFER, LineAnswer, LineInput, NamedLineAnswer};
-pub use reply::{LineReply, NamedLineReply, line_last_reply, line_named_reply};
-pub use text::{SHOWN, write_shown};
+pub use asked::{BUFFER, LineAnswer};
+pub use reply::line_reply;
+pub use text::SHOWN;

@@ -1,26 +1,17 @@
 // The line of an answer, in a buffer.
-ghost use Rattle.std.specs.Prelude.{◌≡◌, ◌≤◌, min, take};
-ghost use Rattle.refusal.specs.Number.{number};
-ghost use Rattle.output.specs.Lines.{Line, refused_text};
+ghost use Rattle.std.specs.Prelude.{take};
+ghost use Rattle.output.specs.Lines.{Line};
 ghost use Rattle.display.specs.Asked.{told_by};
 ghost use Rattle.display.specs.Lines.{line_text, long_text, shown_text};
 
 use crate::asked::{BUFFER, LineAnswer};
 use crate::keys::put_keys;
 use decimals::{put_number, put_text};
-use output::write_front;
-use refusal::{Refusal, code};
+use output::refused_line;
+use refusal::Refusal;
 
 // Room for the line of a full buffer: four bytes a key, the number, `:` and LF.
 pub const SHOWN: usize = 4 * BUFFER + 64;
-
-// No more keys than the buffer has.
-fn shown_keys(keys: u64) -> usize
-    ensures first { result ≡ min keys 65536 }
-    ensures few { result ≤ 65536 }
-{
-    if keys < 65536 { keys as usize } else { BUFFER }
-}
 
 // `N:TEXT` and LF.
 fn shown_line(number: u64, keys: u64, line: &[u8; BUFFER], out: &mut [u8; SHOWN]) -> usize
@@ -28,7 +19,9 @@ fn shown_line(number: u64, keys: u64, line: &[u8; BUFFER], out: &mut [u8; SHOWN]
 {
     let behind = put_number(out, 0, number);
     let place = put_text(out, behind, b":");
-    let at = put_keys(out, place, line, shown_keys(keys));
+    // No more keys than the buffer has.
+    let n = keys.min(BUFFER as u64) as usize;
+    let at = put_keys(out, place, &line[..n]);
     put_text(out, at, b"\n")
 }
 
@@ -42,26 +35,17 @@ fn long_line(number: u64, keys: u64, out: &mut [u8; SHOWN]) -> usize
     put_text(out, at, b"\n")
 }
 
-// `refused R` and LF.
-fn refused_line(r: Refusal, out: &mut [u8; SHOWN]) -> usize
-    ensures { Line (refused_text (number r)) out.old out.new result }
-{
-    let behind = put_text(out, 0, b"refused ");
-    let at = put_number(out, behind, code(r) as u64);
-    put_text(out, at, b"\n")
-}
-
 // The line of an answer, at the front of a buffer; answers its length.
-pub(crate) fn line_text(found: LineAnswer, line: &[u8; BUFFER], out: &mut [u8; SHOWN]) -> usize
+pub(crate) fn line_text(
+    found: Result<LineAnswer, Refusal>,
+    line: &[u8; BUFFER],
+    out: &mut [u8; SHOWN],
+) -> usize
     ensures { Line (line_text (told_by found line.now)) out.old out.new result }
 {
     match found {
-        LineAnswer::Shown(number, keys) => shown_line(number, keys, line, out),
-        LineAnswer::Long(number, keys) => long_line(number, keys, out),
-        LineAnswer::Refused(r) => refused_line(r, out),
+        Ok(LineAnswer::Shown(number, keys)) => shown_line(number, keys, line, out),
+        Ok(LineAnswer::Long(number, keys)) => long_line(number, keys, out),
+        Err(r) => refused_line(r, out),
     }
-}
-
-pub fn write_shown(rt: &HostRuntime, out: &[u8; SHOWN], n: usize) -> bool {
-    write_front(rt, out, n)
 }

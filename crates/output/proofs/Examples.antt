@@ -7,7 +7,7 @@ use Rattle.decimals.specs.Texts.{ascii}
 use Rattle.counter.specs.declared.counting.BookCount.{BookCount}
 use Rattle.command.specs.Input.{told_by, program_answer}
 use Rattle.command.proofs.PaperRuns.{example, example-told}
-use Rattle.survey.specs.declared.facts.Surveyed.{Surveyed}
+use Rattle.std.specs.Prelude.{Ok}
 use Rattle.survey.specs.Facts.{survey_figures}
 use Rattle.output.specs.Lines.{count_line, survey_line, list_text}
 
@@ -20,7 +20,7 @@ refused-line : count_line (told_by (BookCount.Refused Refusal.CountOverflow)) �
 unfolding count_line numeral numeral_to
 refused-line = refl
 
-sound-line : survey_line (survey_figures (Surveyed.Sound (record { version = 1; macros = 1024; items = 65536; bytes = 133127 }))) ≡ ascii "sound version 1 macros 1024 items 65536 bytes 133127\n"
+sound-line : survey_line (survey_figures (Ok (record { version = 1; macros = 1024; items = 65536; bytes = 133127 }))) ≡ ascii "sound version 1 macros 1024 items 65536 bytes 133127\n"
 unfolding survey_line numeral numeral_to
 sound-line = refl
 

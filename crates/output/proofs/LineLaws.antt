@@ -1,26 +1,26 @@
 -- Laws of the lines that the programs print.
-use Prim.Native.Nat.{ℕ, ◌+◌, ◌-◌, ◌*◌, ◌<◌, ◌≤◌}
+use Prim.Native.Nat.{ℕ, ◌+◌, ◌-◌, ◌*◌, ◌<◌, ◌≤◌, min}
 use native.Mathlib.Omega.{arith}
 use native.Mathlib.Numerals.{add-one}
-use mathlib.Core.Path.{◌≡◌, sym, ap, ◌∙◌}
-use mathlib.Core.Bool.{false}
+use mathlib.Core.Path.{◌≡◌, refl, sym, ap, subst, ◌∙◌}
+use mathlib.Core.Bool.{Bool, true, false}
 use mathlib.Core.List.{List, [], ◌∷◌, ◌++◌, append_assoc, append-nil}
-use lib.Dec.{eqb}
+use lib.Dec.{eqb, leb}
 use lib.ListN.{length, get_or, take, drop, length-append, length-drop}
 use lib.Seq.{take_all, take-suc}
-use borrow.Author.Tests.{ne_eqb}
+use borrow.Author.Tests.{ne_eqb, leb-true, leb-false}
 use Rattle.refusal.specs.declared.Refusal.{Refusal}
 use Rattle.refusal.specs.Number.{number}
 use Rattle.refusal.proofs.Number.{number-positive}
 use Rattle.counter.specs.declared.counting.BookCount.{BookCount}
 use Rattle.command.specs.Input.{told_by}
 use Rattle.decimals.specs.Decimals.{numeral}
-use Rattle.decimals.specs.Texts.{put_at, place_after}
+use Rattle.decimals.specs.Texts.{ascii, put_at, place_after}
 use Rattle.decimals.proofs.TextLaws.{Put, put-nothing, put-more, put_both, place-both, put-length, place-near}
 use Rattle.reach.specs.declared.listing.Reached.{Reached}
 use Rattle.reach.specs.Answer.{reached_figures}
 use Rattle.survey.specs.declared.facts.Facts.{Facts}
-use Rattle.survey.specs.declared.facts.Surveyed.{Surveyed}
+use Rattle.std.specs.Prelude.{Result, Ok, Err}
 use Rattle.survey.specs.Facts.{survey_figures}
 use Rattle.output.specs.Lines.{field, ending, lines_text, refused_text, count_line, sound_text, facts_text, survey_line, list_text, reach_text, Line}
 
@@ -55,9 +55,10 @@ module _ (old u : List ℕ) {a : List ℕ} {i : ℕ} (e : a ≡ put_at old 0 u) 
       three-put l = put-more (two-put (omega arith)) w (rw (length-append u v) l) x y
 
 -- `refused R`
-pub refused-put : (old : List ℕ) (n r : ℕ) {a b : List ℕ} {i j : ℕ} → 29 ≤ length old → n ≡ r → length (numeral n) ≤ 20
-    → a ≡ put_at old 0 (field "refused " n) → i ≡ place_after old 0 (field "refused " n) → b ≡ put_at a i ending → j ≡ place_after a i ending → Line (refused_text r) old b j
-refused-put old n r wide same short e f g h = rw (← same) (line_of (two-put old (field "refused " n) e f ending g h (omega arith)))
+pub refused-put : (old : List ℕ) (n r : ℕ) {a b c : List ℕ} {i j k : ℕ} → n ≡ r → length (numeral n) ≤ 20
+    → a ≡ put_at old 0 (ascii "refused ") → i ≡ place_after old 0 (ascii "refused ") → b ≡ put_at a i (numeral n) → j ≡ place_after a i (numeral n)
+    → c ≡ put_at b j ending → k ≡ place_after b j ending → 29 ≤ length old → Line (refused_text r) old c k
+refused-put old n r same short e f g h x y wide = rw (← same) (line_of (three-put old (ascii "refused ") e f (numeral n) g h ending x y (omega arith)))
 
 -- `lines N steps S`
 pub lines-put : (old : List ℕ) (n k : ℕ) {a b c : List ℕ} {i j l : ℕ} → length old ≡ 128 → length (numeral n) ≤ 20 → length (numeral k) ≤ 20
@@ -90,25 +91,29 @@ pub count-lines : (lines steps : ℕ) {old new : List ℕ} {n : ℕ} {c : BookCo
 unfolding count_line
 count-lines lines steps e l = rw e l
 
-pub count-refused : (r : Refusal) {old new : List ℕ} {n : ℕ} {c : BookCount} → c ≡ BookCount.Refused r → Line (refused_text (number r)) old new n → Line (count_line (told_by c)) old new n
+pub count-refused : (r : Refusal) {old new : List ℕ} {n : ℕ} {c : BookCount} → c ≡ BookCount.Refused r → 29 ≤ length old → (29 ≤ length old → Line (refused_text (number r)) old new n) → Line (count_line (told_by c)) old new n
 unfolding count_line
-count-refused r e l = rw (e, refusal-told r) l
+count-refused r e wide l = rw (e, refusal-told r) (l wide)
 
-pub survey-facts : (f : Facts) {old new : List ℕ} {n : ℕ} {s : Surveyed} → s ≡ Surveyed.Sound f → Line (facts_text f) old new n → Line (survey_line (survey_figures s)) old new n
+pub survey-facts : (f : Facts) {old new : List ℕ} {n : ℕ} {s : Result Facts Refusal} → s ≡ Ok f → Line (facts_text f) old new n → Line (survey_line (survey_figures s)) old new n
 unfolding survey_line
 survey-facts f e l = rw e l
 
-pub survey-refused : (r : Refusal) {old new : List ℕ} {n : ℕ} {s : Surveyed} → s ≡ Surveyed.Refused r → Line (refused_text (number r)) old new n → Line (survey_line (survey_figures s)) old new n
+pub survey-refused : (r : Refusal) {old new : List ℕ} {n : ℕ} {s : Result Facts Refusal} → s ≡ Err r → 29 ≤ length old → (29 ≤ length old → Line (refused_text (number r)) old new n) → Line (survey_line (survey_figures s)) old new n
 unfolding survey_line
-survey-refused r e l = rw (e, refusal-told r) l
+survey-refused r e wide l = rw (e, refusal-told r) (l wide)
 
-pub reach-listed : (n : ℕ) (list : List ℕ) {old new : List ℕ} {k : ℕ} {r : Reached} → r ≡ Reached.Written n → Line (list_text (take n list)) old new k → Line (reach_text (reached_figures r) list) old new k
+pub reach-listed : (n : ℕ) (list : List ℕ) {old new : List ℕ} {k i : ℕ} {r : Reached} → r ≡ Reached.Written n → length list ≡ 1024 → i ≡ min n 1024 → Line (list_text (take i list)) old new k → Line (reach_text (reached_figures r) list) old new k
 unfolding reach_text
-reach-listed n list e l = rw e l
+reach-listed n list {old} {new} {k} e long f l = rw e (subst (λ (v : List ℕ). Line (list_text v) old new k) (ap (λ (j : ℕ). take j list) f ∙ all (leb n 1024) refl) l)
+  where
+    all : (b : Bool) → leb n 1024 ≡ b → take (min n 1024) list ≡ take n list
+    all true g = let h = leb-true n 1024 g in let same : min n 1024 ≡ n = omega arith in rw same refl
+    all false g = let h = leb-false n 1024 g in take_all (min n 1024) list (omega arith) ∙ sym (take_all n list (omega arith))
 
-pub reach-refused : (q : Refusal) (list : List ℕ) {old new : List ℕ} {k : ℕ} {r : Reached} → r ≡ Reached.Refused q → Line (refused_text (number q)) old new k → Line (reach_text (reached_figures r) list) old new k
+pub reach-refused : (q : Refusal) (list : List ℕ) {old new : List ℕ} {k : ℕ} {r : Reached} → r ≡ Reached.Refused q → 29 ≤ length old → (29 ≤ length old → Line (refused_text (number q)) old new k) → Line (reach_text (reached_figures r) list) old new k
 unfolding reach_text
-reach-refused q list e l = rw (e, refusal-told q) l
+reach-refused q list e wide l = rw (e, refusal-told q) (l wide)
 
 -- The lines of a list.
 list-more : (js : List ℕ) (j : ℕ) → list_text (js ++ (j ∷ [])) ≡ list_text js ++ (numeral j ++ ending)
@@ -126,32 +131,30 @@ module _ (out : List ℕ) (at n : ℕ) (room : at + 21 ≤ length out) (short : 
     entry_place g = place-both out at (numeral n) ending (omega arith) e f g
 
 -- the first i entries are put, each in 21 bytes at the most
-pub record Listed (list : List ℕ) (n : ℕ) (old new : List ℕ) (at i : ℕ) : Type 0 where
-  pub asked : i ≤ n
-  pub all : length list ≡ 1024
+pub record Listed (list : List ℕ) (old new : List ℕ) (at i : ℕ) : Type 0 where
+  pub all : length list ≤ 1024
   pub wide : length old ≡ 21504
   pub long : length new ≡ 21504
   pub text : Put old (list_text (take i list)) new at
   pub few : at ≤ i * 21
 
-pub listed-none : (list : List ℕ) (n : ℕ) (old : List ℕ) → length list ≡ 1024 → length old ≡ 21504 → Listed list n old old 0 0
+pub listed-none : (list old : List ℕ) → length list ≤ 1024 → length old ≡ 21504 → Listed list old old 0 0
 unfolding list_text
-listed-none list n old all wide = record { asked = omega arith; all = all; wide = wide; long = wide; text = put-nothing old; few = omega arith }
+listed-none list old all wide = record { all = all; wide = wide; long = wide; text = put-nothing old; few = omega arith }
 
-module _ {list : List ℕ} {n : ℕ} {old new : List ℕ} {at i : ℕ} (c : Listed list n old new at i) where
-  pub listed-room : i < 1024 → at + 21 ≤ length new
-  listed-room h = omega (arith, c.few, c.long)
+module _ {list : List ℕ} {old new : List ℕ} {at i : ℕ} (c : Listed list old new at i) where
+  pub listed-room : i < length list → at + 21 ≤ length new
+  listed-room h = omega (arith, c.few, c.long, c.all)
 
-  pub listed_more : {end : List ℕ} {next : ℕ} → i < 1024 → i < n → length (numeral (get_or list i 0)) ≤ 20
-      → end ≡ put_at new at (numeral (get_or list i 0) ++ ending) → next ≡ place_after new at (numeral (get_or list i 0) ++ ending) → Listed list n old end next (i + 1)
-  listed_more {end} {next} inside more short e f =
+  pub listed_more : {end : List ℕ} {next : ℕ} → i < length list → length (numeral (get_or list i 0)) ≤ 20
+      → end ≡ put_at new at (numeral (get_or list i 0) ++ ending) → next ≡ place_after new at (numeral (get_or list i 0) ++ ending) → Listed list old end next (i + 1)
+  listed_more {end} {next} inside short e f =
       let j = get_or list i 0 in
       let before = list_text (take i list) in
       let size : length (numeral j ++ ending) ≡ length (numeral j) + 1 = length-append (numeral j) ending in
-      let grown : list_text (take (i + 1) list) ≡ before ++ (numeral j ++ ending) = rw (add-one i, take-suc list i 0 (omega (arith, c.all))) (list-more (take i list) j) in
-      let on = put-more c.text (numeral j ++ ending) (omega (arith, c.few, c.wide, c.text.place)) e f in
+      let grown : list_text (take (i + 1) list) ≡ before ++ (numeral j ++ ending) = rw (add-one i, take-suc list i 0 (omega arith)) (list-more (take i list) j) in
+      let on = put-more c.text (numeral j ++ ending) (omega (arith, c.few, c.wide, c.text.place, c.all)) e f in
       record {
-        asked = omega arith;
         all = c.all;
         wide = c.wide;
         long = ap length e ∙ put-length new at (numeral j ++ ending) ∙ c.long;
@@ -159,11 +162,5 @@ module _ {list : List ℕ} {n : ℕ} {old new : List ℕ} {at i : ℕ} (c : List
         few = omega (arith, c.few, c.text.place, on.place, length-append before (numeral j ++ ending));
       }
 
-  -- as many as were asked for, or all that there are
-  pub listed-asked : n ≤ i → Line (list_text (take n list)) old new at
-  listed-asked h = let same : i ≡ n = omega (arith, c.asked) in rw (← same) (line_of c.text)
-
-  pub listed-all : 1024 ≤ i → Line (list_text (take n list)) old new at
-  listed-all h =
-      let whole : take n list ≡ take i list = take_all n list (omega (arith, c.asked, c.all)) ∙ sym (take_all i list (omega (arith, c.all))) in
-      rw whole (line_of c.text)
+  pub listed-all : length list ≤ i → Line (list_text list) old new at
+  listed-all h = let whole : take i list ≡ list = take_all i list h in subst (λ (v : List ℕ). Line (list_text v) old new at) whole (line_of c.text)

@@ -101,6 +101,6 @@ depth-lines end lowest f g {old} {new} {n} e l =
     (subst (λ (z : ℤ). Line (depths_text z lowest) old new n) (to_z-of_z w64 end (record { sfits = f }))
     (subst (λ (z : ℤ). Line (depths_text (read end) z) old new n) (to_z-of_z w64 lowest (record { sfits = g })) l))
 
-pub depth-refused : (r : Refusal) {old new : List ℕ} {n : ℕ} {d : DepthReport} → d ≡ DepthReport.Refused r → Line (refused_text (number r)) old new n → Line (depth_line (depth_told d)) old new n
+pub depth-refused : (r : Refusal) {old new : List ℕ} {n : ℕ} {d : DepthReport} → d ≡ DepthReport.Refused r → 29 ≤ length old → (29 ≤ length old → Line (refused_text (number r)) old new n) → Line (depth_line (depth_told d)) old new n
 unfolding depth_line
-depth-refused r e l = rw (e, refusal-told r) l
+depth-refused r e wide l = rw (e, refusal-told r) (l wide)

@@ -5,7 +5,8 @@ ghost use Rattle.output.specs.Lines.{Line, facts_text, sound_text, survey_line};
 
 use crate::line::{LINE, put_field, refused_line};
 use decimals::put_text;
-use survey::{Facts, Surveyed};
+use refusal::Refusal;
+use survey::Facts;
 
 // `sound version V macros M`.
 fn sound_start(f: Facts, out: &mut [u8; LINE]) -> usize
@@ -27,11 +28,11 @@ fn facts_line(f: Facts, out: &mut [u8; LINE]) -> usize
 }
 
 // The line of what a book holds, at the front of a buffer; answers its length.
-pub fn survey_line(s: Surveyed, out: &mut [u8; LINE]) -> usize
+pub fn survey_line(s: Result<Facts, Refusal>, out: &mut [u8; LINE]) -> usize
     ensures { Line (survey_line (survey_figures s)) out.old out.new result }
 {
     match s {
-        Surveyed::Sound(f) => facts_line(f, out),
-        Surveyed::Refused(r) => refused_line(r, out),
+        Ok(f) => facts_line(f, out),
+        Err(r) => refused_line(r, out),
     }
 }

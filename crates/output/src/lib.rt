@@ -9,6 +9,6 @@ mod writing;
 
 pub use depths::depth_line;
 pub use facts::survey_line;
-pub use line::{LINE, count_line};
+pub use line::{LINE, count_line, refused_line};
 pub use list::{LISTING, reached_lines};
-pub use writing::{write_front, write_line, write_lines};
+pub use writing::write_front;

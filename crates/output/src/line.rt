@@ -25,12 +25,12 @@ pub(crate) fn put_field(out: &mut [u8], at: usize, name: &[u8], n: u64) -> usize
     put_number(out, behind, n)
 }
 
-// `refused R` and LF, at the front of a buffer with room for it.
-pub(crate) fn refused_line(r: Refusal, out: &mut [u8]) -> usize
-    requires { 29 ≤ length out.old }
-    ensures { Line (refused_text (number r)) out.old out.new result }
+// `refused R` and LF, at the front of a buffer that has room for it; answers its length.
+pub fn refused_line(r: Refusal, out: &mut [u8]) -> usize
+    ensures { 29 ≤ length out.old → Line (refused_text (number r)) out.old out.new result }
 {
-    let at = put_field(out, 0, b"refused ", code(r) as u64);
+    let behind = put_text(out, 0, b"refused ");
+    let at = put_number(out, behind, code(r) as u64);
     put_text(out, at, b"\n")
 }
 
@@ -43,7 +43,8 @@ fn lines_line(lines: u64, steps: u64, out: &mut [u8; LINE]) -> usize
     put_text(out, at, b"\n")
 }
 
-// The line of a count, at the front of a buffer; answers its length.
+// The line of a count, at the front of a buffer; answers its length. The buffer stays an array of its own, of which the contract says what all
+// of it holds afterwards.
 pub fn count_line(c: BookCount, out: &mut [u8; LINE]) -> usize
     ensures { Line (count_line (told_by c)) out.old out.new result }
 {

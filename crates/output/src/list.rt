@@ -1,5 +1,5 @@
 // The lines of a reach list.
-ghost use Rattle.std.specs.Prelude.{◌≡◌, ◌++◌, ◌+◌, ◌≤◌, length, take};
+ghost use Rattle.std.specs.Prelude.{◌≡◌, ◌++◌, ◌+◌, ◌≤◌, length};
 ghost use Rattle.decimals.specs.Decimals.{numeral};
 ghost use Rattle.decimals.specs.Texts.{place_after, put_at};
 ghost use Rattle.reach.specs.Answer.{reached_figures};
@@ -23,20 +23,15 @@ fn put_entry(out: &mut [u8], at: usize, n: u16) -> usize
     put_text(out, behind, b"\n")
 }
 
-// The first n entries of a list, one a line.
-fn put_entries(list: &[u16], n: usize, out: &mut [u8]) -> usize
-    requires list_len { length list.now ≡ 1024 }
-    requires out_len { length out.old ≡ 21504 }
-    ensures { Line (list_text (take n list.now)) out.old out.new result }
+// The entries of a list, one a line.
+fn put_entries(list: &[u16], out: &mut [u8]) -> usize
+    requires few { length list.now ≤ 1024 }
+    requires room { length out.old ≡ 21504 }
+    ensures { Line (list_text list.now) out.old out.new result }
 {
     let mut at = 0;
-    let mut i = 0;
-    while i < 1024 {
-        if n <= i {
-            break;
-        }
-        at = put_entry(out, at, list[i]);
-        i += 1;
+    for &n in list {
+        at = put_entry(out, at, n);
     }
     at
 }
@@ -46,7 +41,7 @@ pub fn reached_lines(found: Reached, list: &[u16; 1024], out: &mut [u8; LISTING]
     ensures { Line (reach_text (reached_figures found) list.now) out.old out.new result }
 {
     match found {
-        Reached::Written(n) => put_entries(list, n, out),
+        Reached::Written(n) => put_entries(&list[..n.min(list.len())], out),
         Reached::Refused(r) => refused_line(r, out),
     }
 }

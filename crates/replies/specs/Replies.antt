@@ -1,89 +1,57 @@
 -- What a program prints for what was read: for every input of which that was read, the line of its answer stands in the buffer.
-use Rattle.std.specs.Prelude.{ℕ, ◌≡◌, List}
-use Rattle.std.proofs.Math.Option.{Option, none, some}
+use Rattle.std.specs.Prelude.{ℕ, ◌≡◌, Option, None, Some, option_map, Result, List}
+use Rattle.refusal.specs.declared.Refusal.{Refusal}
+use Rattle.letters.specs.declared.Case.{Case}
+use Rattle.counter.specs.declared.counting.BookCount.{BookCount}
 use Rattle.depth.specs.declared.unmatched.Delimiters.{Delimiters}
+use Rattle.depth.specs.declared.reporting.DepthReport.{DepthReport}
+use Rattle.reach.specs.declared.listing.Reached.{Reached}
 use Rattle.reach.specs.Answer.{reached_figures}
-use Rattle.command.specs.declared.buffer.PatternInput.{PatternInput}
+use Rattle.command.specs.declared.asked.Asked.{Asked}
+use Rattle.command.specs.declared.input.TheConstants.{READ}
 use Rattle.command.specs.Buffers.{ReadFrom}
-use Rattle.command.specs.Input.{Told, told_by, program_answer, last_answer}
-use Rattle.command.specs.Named.{told_named, named_answer}
-use Rattle.survey.specs.declared.reached.NamedReach.{NamedReach}
-use Rattle.survey.specs.declared.depths.NamedDepth.{NamedDepth}
-use Rattle.survey.specs.Depths.{depth_told, LastDepths, NamedDepths}
+use Rattle.command.specs.Input.{told_by, program_answer}
+use Rattle.command.specs.Reads.{BookFrom, CountsAsked}
+use Rattle.survey.specs.declared.facts.Facts.{Facts}
+use Rattle.survey.specs.Depths.{depth_told, DepthsAsked}
 use Rattle.survey.specs.Facts.{survey_figures, survey_result}
-use Rattle.survey.specs.Reached.{LastReached, NamedReached}
+use Rattle.survey.specs.Reached.{ReachesAsked}
 use Rattle.output.specs.Lines.{Line, count_line, survey_line, reach_text, depth_line}
-use Rattle.replies.specs.declared.books.SurveyReply.{SurveyReply}
-use Rattle.replies.specs.declared.counts.CountReply.{CountReply}
-use Rattle.replies.specs.declared.counts.NamedReply.{NamedReply}
-use Rattle.replies.specs.declared.depths.DepthReply.{DepthReply}
-use Rattle.replies.specs.declared.depths.NamedDepthReply.{NamedDepthReply}
-use Rattle.replies.specs.declared.reaching.ReachReply.{ReachReply}
-use Rattle.replies.specs.declared.reaching.NamedReachReply.{NamedReachReply}
+use Rattle.replies.specs.declared.printed.Reply.{Reply}
 
--- nothing was printed
-pub record NothingPrinted (before after : List ℕ) (n : ℕ) : Type 0 where
-  pub same : after ≡ before
-  pub long : n ≡ 0
-
--- `cuecount`, of n bytes that were read
-unfoldable pub ProgramReplies : List ℕ → ℕ → List ℕ → List ℕ → ℕ → Type 0
-ProgramReplies input n before after length = (w : List ℕ) → ReadFrom input n w → Line (count_line (program_answer w)) before after length
-
--- the line of a count, and the count itself
-pub record CountPrinted (t : Told) (before after : List ℕ) (r : CountReply) : Type 0 where
-  pub line : Line (count_line t) before after r.length
-  pub count : told_by r.count ≡ t
-
--- the count of the last macro, of a book of which n bytes were read and a pattern as it is asked for
-unfoldable pub LastReplies : List ℕ → ℕ → List ℕ → PatternInput → List ℕ → List ℕ → CountReply → Type 0
-LastReplies book n pattern a before after r =
-    (b p : List ℕ) → ReadFrom book n b → ReadFrom pattern a.bytes p → CountPrinted (last_answer a.case b p) before after r
-
--- the line of what is told, if anything is
-abbrev pub LineIf : Option Told → List ℕ → List ℕ → ℕ → Type 0
-LineIf (some t) before after n = Line (count_line t) before after n
-LineIf none before after n = NothingPrinted before after n
-
-pub record NamedPrinted (t : Option Told) (before after : List ℕ) (r : NamedReply) : Type 0 where
-  pub line : LineIf t before after r.length
-  pub count : told_named r.count ≡ t
-
--- the same of the macro that a text names
-unfoldable pub NamedReplies : List ℕ → ℕ → List ℕ → PatternInput → List ℕ → List ℕ → List ℕ → NamedReply → Type 0
-NamedReplies book n pattern a text before after r =
-    (b p : List ℕ) → ReadFrom book n b → ReadFrom pattern a.bytes p → NamedPrinted (named_answer a.case b p text) before after r
+-- `cuecount`, of every input of which this was read
+unfoldable pub ProgramReplies : List ℕ → List ℕ → List ℕ → ℕ → Type 0
+ProgramReplies input before after length = (w : List ℕ) → ReadFrom READ input w → Line (count_line (program_answer w)) before after length
 
 -- what a book holds
-pub record SurveyPrinted (b before after : List ℕ) (r : SurveyReply) : Type 0 where
+pub record SurveyPrinted (b before after : List ℕ) (r : Reply (Result Facts Refusal)) : Type 0 where
   pub line : Line (survey_line (survey_result b)) before after r.length
   pub found : survey_figures r.found ≡ survey_result b
 
-unfoldable pub SurveyReplies : List ℕ → ℕ → List ℕ → List ℕ → SurveyReply → Type 0
-SurveyReplies book n before after r = (b : List ℕ) → ReadFrom book n b → SurveyPrinted b before after r
+unfoldable pub SurveyReplies : List ℕ → List ℕ → List ℕ → Reply (Result Facts Refusal) → Type 0
+SurveyReplies book before after r = (b : List ℕ) → BookFrom book b → SurveyPrinted b before after r
 
--- The lines of a reach list, in the order that it has.
-pub record LastReachReplies (book : List ℕ) (n : ℕ) (listed list before after : List ℕ) (r : ReachReply) : Type 0 where
-  pub reached : LastReached book n (reached_figures r.found) listed list
-  pub lines : Line (reach_text (reached_figures r.found) list) before after r.length
+-- the text of what is told stands in the buffer; where nothing is told, the buffer is left as it was
+abbrev pub PrintedIf : {T : Type 0} → (T → List ℕ) → List ℕ → List ℕ → Option (Reply T) → Type 0
+PrintedIf text before after (Some r) = Line (text r.found) before after r.length
+PrintedIf text before after None = after ≡ before
 
-abbrev pub LinesIf : NamedReach → List ℕ → List ℕ → List ℕ → ℕ → Type 0
-LinesIf (NamedReach.Reach found) list before after n = Line (reach_text (reached_figures found) list) before after n
-LinesIf NamedReach.NoNumber list before after n = NothingPrinted before after n
+abbrev pub found_in : {T : Type 0} → Option (Reply T) → Option T
+found_in r = option_map (λ r. r.found) r
 
-pub record NamedReachReplies (book : List ℕ) (n : ℕ) (text listed list before after : List ℕ) (r : NamedReachReply) : Type 0 where
-  pub reached : NamedReached book n text r.found listed list
-  pub lines : LinesIf r.found list before after r.length
+-- What a function that is asked for a macro answers, and its text.
+pub record Printed {T : Type 0} (Answers : Option T → Type 0) (text : T → List ℕ) (before after : List ℕ) (r : Option (Reply T)) : Type 0 where
+  pub answers : Answers (found_in r)
+  pub printed : PrintedIf text before after r
 
--- The line of a run's depths.
-pub record LastDepthReplies (book : List ℕ) (n : ℕ) (keys : Delimiters) (before after : List ℕ) (r : DepthReply) : Type 0 where
-  pub depths : LastDepths book n keys r.found
-  pub line : Line (depth_line (depth_told r.found)) before after r.length
+-- the line of a count
+abbrev pub CountReplies : List ℕ → List ℕ → Case → Asked → List ℕ → List ℕ → Option (Reply BookCount) → Type 0
+CountReplies book pattern c a before after r = Printed (CountsAsked book pattern c a) (λ found. count_line (told_by found)) before after r
 
-abbrev pub DepthLineIf : NamedDepth → List ℕ → List ℕ → ℕ → Type 0
-DepthLineIf (NamedDepth.Depth found) before after n = Line (depth_line (depth_told found)) before after n
-DepthLineIf NamedDepth.NoNumber before after n = NothingPrinted before after n
+-- the line of a run's depths
+abbrev pub DepthReplies : List ℕ → Delimiters → Asked → List ℕ → List ℕ → Option (Reply DepthReport) → Type 0
+DepthReplies book keys a before after r = Printed (DepthsAsked book keys a) (λ found. depth_line (depth_told found)) before after r
 
-pub record NamedDepthReplies (book : List ℕ) (n : ℕ) (keys : Delimiters) (text before after : List ℕ) (r : NamedDepthReply) : Type 0 where
-  pub depths : NamedDepths book n keys text r.found
-  pub line : DepthLineIf r.found before after r.length
+-- the lines of a reach list, in the order that it has
+abbrev pub ReachReplies : List ℕ → Asked → List ℕ → List ℕ → List ℕ → List ℕ → Option (Reply Reached) → Type 0
+ReachReplies book a listed list before after r = Printed (λ found. ReachesAsked book a found listed list) (λ found. reach_text (reached_figures found) list) before after r

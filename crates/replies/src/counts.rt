@@ -1,65 +1,29 @@
-// Counts: of `cuecount`'s input, and of the macro that a command names or the last one.
-ghost use Rattle.replies.specs.Replies.{LastReplies, NamedReplies, ProgramReplies};
+// Counts: of `cuecount`'s input, and of the macro that a command asks for.
+ghost use Rattle.replies.specs.Replies.{CountReplies, ProgramReplies};
 
-use command::{
-    BOOK_READ, NamedCount, PATTERN_READ, PatternInput, READ, answer, count_last, count_named,
-};
-use counter::BookCount;
+use crate::printed::Reply;
+use command::{Asked, answer, count_asked};
+use counter::{BookCount, Case};
 use output::{LINE, count_line};
 
-// The length of the line, and the count that it tells.
-#[derive(Clone, Copy)]
-pub struct CountReply {
-    pub length: usize,
-    pub count: BookCount,
-}
-
-// The same where a text names the macro; a text that is no number has no line.
-#[derive(Clone, Copy)]
-pub struct NamedReply {
-    pub length: usize,
-    pub count: NamedCount,
-}
-
-// `cuecount`: the line for every input of which these n bytes were read. Answers its length.
-pub fn program_reply(input: &[u8; READ], n: usize, out: &mut [u8; LINE]) -> usize
-    ensures { ProgramReplies input.now n out.old out.new result }
+// `cuecount`: the line for every input of which this was read. Answers its length.
+pub fn program_reply(input: &[u8], out: &mut [u8; LINE]) -> usize
+    ensures { ProgramReplies input.now out.old out.new result }
 {
-    count_line(answer(input, n), out)
+    count_line(answer(input), out)
 }
 
-// The line for the last macro.
-pub fn last_reply(
-    book: &[u8; BOOK_READ],
-    n: usize,
-    pattern: &[u8; PATTERN_READ],
-    given: PatternInput,
+// The line for the macro that is asked for, in every book and under every pattern of which this was read; none if the macro's text is no number.
+pub fn count_reply(
+    book: &[u8],
+    pattern: &[u8],
+    case: Case,
+    asked: Asked,
     out: &mut [u8; LINE],
-) -> CountReply
-    ensures { LastReplies book.now n pattern.now given out.old out.new result }
+) -> Option<Reply<BookCount>>
+    ensures { CountReplies book.now pattern.now case asked.entry out.old out.new result }
 {
-    let count = count_last(book, n, pattern, given);
-    let length = count_line(count, out);
-    CountReply { length, count }
-}
-
-// The line for the macro that a text names.
-pub fn named_reply(
-    book: &[u8; BOOK_READ],
-    n: usize,
-    pattern: &[u8; PATTERN_READ],
-    given: PatternInput,
-    text: &[u8],
-    out: &mut [u8; LINE],
-) -> NamedReply
-    ensures { NamedReplies book.now n pattern.now given text.now out.old out.new result }
-{
-    let count = count_named(book, n, pattern, given, text);
-    match count {
-        NamedCount::Count(c) => {
-            let length = count_line(c, out);
-            NamedReply { length, count }
-        }
-        NamedCount::NoNumber => NamedReply { length: 0, count },
-    }
+    let found = count_asked(book, pattern, case, asked)?;
+    let length = count_line(found, out);
+    Some(Reply { length, found })
 }

@@ -22,6 +22,7 @@ use Rattle.book.proofs.MacroItems.{items-sound, decoded-few}
 use Rattle.book.proofs.Prefix.{book-prefix}
 use Rattle.book.proofs.Refusals.{BookNumber, book-refusals}
 use Rattle.book.proofs.Sizes.{longest-read}
+use Rattle.command.specs.Reads.{BookFrom}
 use Rattle.command.proofs.ReadLaws.{read-alike}
 use Rattle.survey.specs.declared.facts.Facts.{Facts}
 use Rattle.std.specs.Prelude.{Result, Ok, Err}
@@ -76,6 +77,11 @@ survey-prefix b = rw (book-prefix 264200 b (omega arith)) (go (read_book b) refl
 pub survey-read : (book : List ℕ) (r : Result Facts Refusal) → survey_figures r ≡ survey_result book → Surveys book r
 unfolding Surveys
 survey-read book r e b read = e ∙ read-alike survey_result 264200 survey-prefix book b read
+
+-- what it promises, for those who go on from it
+pub survey-answers : (book : List ℕ) (r : Result Facts Refusal) → Surveys book r → (b : List ℕ) → BookFrom book b → survey_figures r ≡ survey_result b
+unfolding Surveys
+survey-answers book r a = a
 
 -- What is answered, by what `open` answers.
 module _ (b : List ℕ) where

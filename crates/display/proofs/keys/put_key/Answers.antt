@@ -8,9 +8,5 @@ returns-then-key-eq92 c = record { buffer = search (slash-put); place = search (
 pub returns-then-key : goal.returns-then-key
 returns-then-key c = record { buffer = search (shown-code); place = search (shown-code-place) }
 
--- LOST slice-aggregate-put-text-2
--- slice-aggregate-put-text-2 : tie.Need-slice-aggregate-put-text-2
--- slice-aggregate-put-text-2 c = search rules
-
 pub returns : goal.returns
 returns c = record { buffer = search (shown-plain); place = search (shown-plain-place) }

@@ -1,22 +1,13 @@
--- `keys::put_keys`: the first i keys are shown.
-use native.Mathlib.Omega.{arith}
+-- `keys::put_keys`: the first keys are shown.
+use borrow.Author.Rules.{rules}
 use Rattle.display.proofs.ShownLaws.{showing-none, showing-more, showing-put, showing-behind}
 use Rattle.display.proofs.keys.put_keys.Goals as goal
 
-pub loop-i-init : goal.loop-i-init
-loop-i-init c = search (showing-none)
+pub loop-key-init : goal.loop-key-init
+loop-key-init c = search (showing-none, rules)
 
-pub bounds-keys-i : goal.bounds-keys-i
-bounds-keys-i c = omega arith
-
-pub overflow_add-i : goal.overflow_add-i
-overflow_add-i c = omega arith
-
-pub loop-i-smaller : goal.loop-i-smaller
-loop-i-smaller c = omega arith
-
-pub loop-i-preserved : goal.loop-i-preserved
-loop-i-preserved c = search (showing-more)
+pub loop-key-preserved : goal.loop-key-preserved
+loop-key-preserved c = search (showing-more, rules)
 
 pub returns : goal.returns
-returns c = record { buffer = search (showing-put); place = search (showing-behind) }
+returns c = record { buffer = search (showing-put, rules); place = search (showing-behind, rules) }

@@ -1,18 +1,11 @@
 -- `text::shown_line`.
 use Rattle.display.proofs.TextLaws.{keys-room, shown-put}
 use borrow.Author.Rules.{rules}
+use lib.ListN.{length-take}
 use Rattle.display.proofs.text.shown_line.Goals as goal
 
--- LOST slice-aggregate-put-text
--- slice-aggregate-put-text : tie.Need-slice-aggregate-put-text
--- slice-aggregate-put-text c = search rules
-
 pub put_keys-at-requires : goal.put_keys-at-requires
-put_keys-at-requires c = record { room = search (keys-room); there = search rules }
-
--- LOST slice-aggregate-put-text-2
--- slice-aggregate-put-text-2 : tie.Need-slice-aggregate-put-text-2
--- slice-aggregate-put-text-2 c = search rules
+put_keys-at-requires c = simp length-take (search (keys-room, rules))
 
 pub returns : goal.returns
 returns c = search (shown-put)

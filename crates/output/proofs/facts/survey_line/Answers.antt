@@ -1,9 +1,10 @@
 -- `facts::survey_line`: by the case of the answer.
+use borrow.Author.Rules.{rules}
 use Rattle.output.proofs.LineLaws.{survey-facts, survey-refused}
 use Rattle.output.proofs.facts.survey_line.Goals as goal
 
-pub returns-in-Sound : goal.returns-in-Sound
-returns-in-Sound c = search (survey-facts)
+pub returns-in-Ok : goal.returns-in-Ok
+returns-in-Ok c = search (survey-facts)
 
-pub returns-in-Refused : goal.returns-in-Refused
-returns-in-Refused c = search (survey-refused)
+pub returns-in-Err : goal.returns-in-Err
+returns-in-Err c = survey-refused _ c.in-Err.is (search rules) c.refused_line.ensures

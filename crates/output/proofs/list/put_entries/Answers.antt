@@ -1,21 +1,18 @@
--- `list::put_entries`: the first i entries are put.
+-- `list::put_entries`: the first entries are put.
 use borrow.Author.Rules.{rules}
-use Rattle.output.proofs.LineLaws.{listed-none, listed-room, listed_more, listed-asked, listed-all}
+use Rattle.output.proofs.LineLaws.{listed-none, listed-room, listed_more, listed-all}
 use Rattle.output.proofs.list.put_entries.Goals as goal
 
-pub loop-i-init : goal.loop-i-init
-loop-i-init c = search (listed-none)
+pub loop-n-init : goal.loop-n-init
+loop-n-init c = search (listed-none, rules)
 
 pub put_entry-at-requires : goal.put_entry-at-requires
-put_entry-at-requires c = search (listed-room)
+put_entry-at-requires c = search (listed-room, rules)
 
-pub loop-i-preserved : goal.loop-i-preserved
-loop-i-preserved c =
+pub loop-n-preserved : goal.loop-n-preserved
+loop-n-preserved c =
     let r = c.put_entry-at.ensures in
-    listed_more c.loop-i.invariant (search rules) (search rules) r.short r.buffer r.place
+    listed_more c.loop-n.invariant (search rules) r.short r.buffer r.place
 
-pub returns-after-loop-i : goal.returns-after-loop-i
-returns-after-loop-i c = search (listed-all)
-
-pub returns-then-n-i : goal.returns-then-n-i
-returns-then-n-i c = search (listed-asked)
+pub returns : goal.returns
+returns c = search (listed-all, rules)
