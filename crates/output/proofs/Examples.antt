@@ -4,7 +4,8 @@ use mathlib.Core.List.{[], ◌∷◌}
 use Rattle.refusal.specs.declared.Refusal.{Refusal}
 use Rattle.decimals.specs.Decimals.{numeral_to, numeral}
 use Rattle.decimals.specs.Texts.{ascii}
-use Rattle.counter.specs.declared.counting.BookCount.{BookCount}
+use Rattle.std.specs.Prelude.{Result, Ok, Err}
+use Rattle.counter.specs.declared.counting.Count.{Count}
 use Rattle.command.specs.Input.{told_by, program_answer}
 use Rattle.command.proofs.PaperRuns.{example, example-told}
 use Rattle.std.specs.Prelude.{Ok}
@@ -16,7 +17,7 @@ pub paper-line : count_line (program_answer example) ≡ ascii "lines 2 steps 17
 unfolding count_line numeral numeral_to
 paper-line = rw example-told refl
 
-refused-line : count_line (told_by (BookCount.Refused Refusal.CountOverflow)) ≡ ascii "refused 12\n"
+refused-line : count_line (told_by (Err Refusal.CountOverflow)) ≡ ascii "refused 12\n"
 unfolding count_line numeral numeral_to
 refused-line = refl
 

@@ -12,15 +12,14 @@ use borrow.Author.Tests.{ne_eqb, leb-true, leb-false}
 use Rattle.refusal.specs.declared.Refusal.{Refusal}
 use Rattle.refusal.specs.Number.{number}
 use Rattle.refusal.proofs.Number.{number-positive}
-use Rattle.counter.specs.declared.counting.BookCount.{BookCount}
+use Rattle.std.specs.Prelude.{Result, Ok, Err}
+use Rattle.counter.specs.declared.counting.Count.{Count}
 use Rattle.command.specs.Input.{told_by}
 use Rattle.decimals.specs.Decimals.{numeral}
 use Rattle.decimals.specs.Texts.{ascii, put_at, place_after}
 use Rattle.decimals.proofs.TextLaws.{Put, put-nothing, put-more, put_both, place-both, put-length, place-near}
-use Rattle.reach.specs.declared.listing.Reached.{Reached}
 use Rattle.reach.specs.Answer.{reached_figures}
 use Rattle.survey.specs.declared.facts.Facts.{Facts}
-use Rattle.std.specs.Prelude.{Result, Ok, Err}
 use Rattle.survey.specs.Facts.{survey_figures}
 use Rattle.output.specs.Lines.{field, ending, lines_text, refused_text, count_line, sound_text, facts_text, survey_line, list_text, reach_text, Line}
 
@@ -87,11 +86,11 @@ facts-put old f wide short small start near e g h x y z =
 pub refusal-told : (r : Refusal) → eqb (number r) 0 ≡ false
 refusal-told r = ne_eqb (number r) 0 (omega (arith, number-positive r))
 
-pub count-lines : (lines steps : ℕ) {old new : List ℕ} {n : ℕ} {c : BookCount} → c ≡ BookCount.Lines lines steps → Line (lines_text lines steps) old new n → Line (count_line (told_by c)) old new n
+pub count-lines : (k : Count) {old new : List ℕ} {n : ℕ} {c : Result Count Refusal} → c ≡ Ok k → Line (lines_text k.lines k.steps) old new n → Line (count_line (told_by c)) old new n
 unfolding count_line
-count-lines lines steps e l = rw e l
+count-lines k e l = rw e l
 
-pub count-refused : (r : Refusal) {old new : List ℕ} {n : ℕ} {c : BookCount} → c ≡ BookCount.Refused r → 29 ≤ length old → (29 ≤ length old → Line (refused_text (number r)) old new n) → Line (count_line (told_by c)) old new n
+pub count-refused : (r : Refusal) {old new : List ℕ} {n : ℕ} {c : Result Count Refusal} → c ≡ Err r → 29 ≤ length old → (29 ≤ length old → Line (refused_text (number r)) old new n) → Line (count_line (told_by c)) old new n
 unfolding count_line
 count-refused r e wide l = rw (e, refusal-told r) (l wide)
 
@@ -103,7 +102,7 @@ pub survey-refused : (r : Refusal) {old new : List ℕ} {n : ℕ} {s : Result Fa
 unfolding survey_line
 survey-refused r e wide l = rw (e, refusal-told r) (l wide)
 
-pub reach-listed : (n : ℕ) (list : List ℕ) {old new : List ℕ} {k i : ℕ} {r : Reached} → r ≡ Reached.Written n → length list ≡ 1024 → i ≡ min n 1024 → Line (list_text (take i list)) old new k → Line (reach_text (reached_figures r) list) old new k
+pub reach-listed : (n : ℕ) (list : List ℕ) {old new : List ℕ} {k i : ℕ} {r : Result ℕ Refusal} → r ≡ Ok n → length list ≡ 1024 → i ≡ min n 1024 → Line (list_text (take i list)) old new k → Line (reach_text (reached_figures r) list) old new k
 unfolding reach_text
 reach-listed n list {old} {new} {k} e long f l = rw e (subst (λ (v : List ℕ). Line (list_text v) old new k) (ap (λ (j : ℕ). take j list) f ∙ all (leb n 1024) refl) l)
   where
@@ -111,7 +110,7 @@ reach-listed n list {old} {new} {k} e long f l = rw e (subst (λ (v : List ℕ).
     all true g = let h = leb-true n 1024 g in let same : min n 1024 ≡ n = omega arith in rw same refl
     all false g = let h = leb-false n 1024 g in take_all (min n 1024) list (omega arith) ∙ sym (take_all n list (omega arith))
 
-pub reach-refused : (q : Refusal) (list : List ℕ) {old new : List ℕ} {k : ℕ} {r : Reached} → r ≡ Reached.Refused q → 29 ≤ length old → (29 ≤ length old → Line (refused_text (number q)) old new k) → Line (reach_text (reached_figures r) list) old new k
+pub reach-refused : (q : Refusal) (list : List ℕ) {old new : List ℕ} {k : ℕ} {r : Result ℕ Refusal} → r ≡ Err q → 29 ≤ length old → (29 ≤ length old → Line (refused_text (number q)) old new k) → Line (reach_text (reached_figures r) list) old new k
 unfolding reach_text
 reach-refused q list e wide l = rw (e, refusal-told q) (l wide)
 

@@ -16,7 +16,8 @@ use Rattle.decimals.specs.Decimals.{numeral}
 use Rattle.decimals.specs.Texts.{ascii, put_at, place_after}
 use Rattle.decimals.proofs.TextLaws.{put_both, place-both, put-length, place-near}
 use Rattle.decimals.proofs.WholeLaws.{read, when-negative, when-other}
-use Rattle.depth.specs.declared.reporting.DepthReport.{DepthReport}
+use Rattle.std.specs.Prelude.{Result, Ok, Err}
+use Rattle.depth.specs.declared.reporting.Depths.{Depths}
 use Rattle.survey.specs.Depths.{depth_told}
 use Rattle.output.specs.Lines.{ending, refused_text, sign_text, whole_text, depths_text, depth_line, Line}
 use Rattle.output.proofs.LineLaws.{line_of, three-put, refusal-told}
@@ -94,13 +95,13 @@ depths-put old end lowest f g {a} {b} {c} {i} {j} {l} wide short small e h x y u
     (line_of (three-put old (ascii "end " ++ whole_text (read end)) e h (ascii " lowest " ++ whole_text (read lowest)) x y ending u v (omega arith))))
 
 -- By the answer's case.
-pub depth-lines : (end lowest : ℤ) → mag end < 2 ^ 63 → mag lowest < 2 ^ 63 → {old new : List ℕ} {n : ℕ} {d : DepthReport} → d ≡ DepthReport.Depths end lowest → Line (depths_text (read end) (read lowest)) old new n → Line (depth_line (depth_told d)) old new n
+pub depth-lines : (k : Depths) → mag k.end < 2 ^ 63 → mag k.lowest < 2 ^ 63 → {old new : List ℕ} {n : ℕ} {d : Result Depths Refusal} → d ≡ Ok k → Line (depths_text (read k.end) (read k.lowest)) old new n → Line (depth_line (depth_told d)) old new n
 unfolding depth_line
-depth-lines end lowest f g {old} {new} {n} e l =
+depth-lines k f g {old} {new} {n} e l =
     rw e
-    (subst (λ (z : ℤ). Line (depths_text z lowest) old new n) (to_z-of_z w64 end (record { sfits = f }))
-    (subst (λ (z : ℤ). Line (depths_text (read end) z) old new n) (to_z-of_z w64 lowest (record { sfits = g })) l))
+    (subst (λ (z : ℤ). Line (depths_text z k.lowest) old new n) (to_z-of_z w64 k.end (record { sfits = f }))
+    (subst (λ (z : ℤ). Line (depths_text (read k.end) z) old new n) (to_z-of_z w64 k.lowest (record { sfits = g })) l))
 
-pub depth-refused : (r : Refusal) {old new : List ℕ} {n : ℕ} {d : DepthReport} → d ≡ DepthReport.Refused r → 29 ≤ length old → (29 ≤ length old → Line (refused_text (number r)) old new n) → Line (depth_line (depth_told d)) old new n
+pub depth-refused : (r : Refusal) {old new : List ℕ} {n : ℕ} {d : Result Depths Refusal} → d ≡ Err r → 29 ≤ length old → (29 ≤ length old → Line (refused_text (number r)) old new n) → Line (depth_line (depth_told d)) old new n
 unfolding depth_line
 depth-refused r e wide l = rw (e, refusal-told r) (l wide)

@@ -6,7 +6,8 @@ ghost use Rattle.output.specs.Lines.{Line, depth_line, depths_text, whole_text};
 
 use crate::line::{LINE, put_field, refused_line};
 use decimals::{put_number, put_text, size};
-use depth::DepthReport;
+use depth::Depths;
+use refusal::Refusal;
 
 // A name and a whole number, from a place on; answers the place behind them.
 fn put_whole(out: &mut [u8], at: usize, name: &[u8], z: i64) -> usize
@@ -33,11 +34,11 @@ fn depths_line(end: i64, lowest: i64, out: &mut [u8; LINE]) -> usize
 }
 
 // The line of a run's depths, at the front of a buffer; answers its length.
-pub fn depth_line(d: DepthReport, out: &mut [u8; LINE]) -> usize
+pub fn depth_line(d: Result<Depths, Refusal>, out: &mut [u8; LINE]) -> usize
     ensures { Line (depth_line (depth_told d)) out.old out.new result }
 {
     match d {
-        DepthReport::Depths(end, lowest) => depths_line(end, lowest, out),
-        DepthReport::Refused(r) => refused_line(r, out),
+        Ok(d) => depths_line(d.end, d.lowest, out),
+        Err(r) => refused_line(r, out),
     }
 }

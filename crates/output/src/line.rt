@@ -6,7 +6,7 @@ ghost use Rattle.decimals.specs.Texts.{place_after, put_at};
 ghost use Rattle.command.specs.Input.{told_by};
 ghost use Rattle.output.specs.Lines.{Line, count_line, lines_text, refused_text};
 
-use counter::BookCount;
+use counter::Count;
 use decimals::{put_number, put_text};
 use refusal::{Refusal, code};
 
@@ -45,11 +45,11 @@ fn lines_line(lines: u64, steps: u64, out: &mut [u8; LINE]) -> usize
 
 // The line of a count, at the front of a buffer; answers its length. The buffer stays an array of its own, of which the contract says what all
 // of it holds afterwards.
-pub fn count_line(c: BookCount, out: &mut [u8; LINE]) -> usize
+pub fn count_line(c: Result<Count, Refusal>, out: &mut [u8; LINE]) -> usize
     ensures { Line (count_line (told_by c)) out.old out.new result }
 {
     match c {
-        BookCount::Lines(lines, steps) => lines_line(lines, steps, out),
-        BookCount::Refused(r) => refused_line(r, out),
+        Ok(c) => lines_line(c.lines, c.steps, out),
+        Err(r) => refused_line(r, out),
     }
 }

@@ -7,7 +7,7 @@ ghost use Rattle.output.specs.Lines.{Line, ending, list_text, reach_text};
 
 use crate::line::refused_line;
 use decimals::{put_number, put_text};
-use reach::Reached;
+use refusal::Refusal;
 
 // Room for the lines of 1,024 numbers of at most 20 digits.
 pub const LISTING: usize = 1024 * 21;
@@ -37,11 +37,15 @@ fn put_entries(list: &[u16], out: &mut [u8]) -> usize
 }
 
 // The lines of a reach list, or of its refusal, at the front of a buffer; answers their length.
-pub fn reached_lines(found: Reached, list: &[u16; 1024], out: &mut [u8; LISTING]) -> usize
+pub fn reached_lines(
+    found: Result<usize, Refusal>,
+    list: &[u16; 1024],
+    out: &mut [u8; LISTING],
+) -> usize
     ensures { Line (reach_text (reached_figures found) list.now) out.old out.new result }
 {
     match found {
-        Reached::Written(n) => put_entries(&list[..n.min(list.len())], out),
-        Reached::Refused(r) => refused_line(r, out),
+        Ok(n) => put_entries(&list[..n.min(list.len())], out),
+        Err(r) => refused_line(r, out),
     }
 }

@@ -3,7 +3,8 @@ use Prim.Native.Nat.{ℕ}
 use mathlib.Core.List.{List}
 use Rattle.std.specs.Prelude.{Result}
 use Rattle.refusal.specs.declared.Refusal.{Refusal}
-use Rattle.counter.specs.declared.counting.BookCount.{BookCount}
+use Rattle.std.specs.Prelude.{Result, Ok, Err}
+use Rattle.counter.specs.declared.counting.Count.{Count}
 use Rattle.command.specs.Input.{told_by}
 use Rattle.command.specs.Reads.{ProgramAnswers}
 use Rattle.command.proofs.ReadLaws.{program-answers}
@@ -13,7 +14,7 @@ use Rattle.survey.proofs.FactLaws.{survey-answers}
 use Rattle.output.specs.Lines.{Line, count_line, survey_line}
 use Rattle.replies.specs.Replies.{ProgramReplies, SurveyReplies}
 
-pub program-replies : (input : List ℕ) (c : BookCount) {before after : List ℕ} {length : ℕ} → ProgramAnswers input c → Line (count_line (told_by c)) before after length → ProgramReplies input before after length
+pub program-replies : (input : List ℕ) (c : Result Count Refusal) {before after : List ℕ} {length : ℕ} → ProgramAnswers input c → Line (count_line (told_by c)) before after length → ProgramReplies input before after length
 unfolding ProgramReplies
 program-replies input c a l w read = rw (← program-answers input c a w read) l
 

@@ -2,10 +2,10 @@
 use Rattle.std.specs.Prelude.{ℕ, ◌≡◌, Option, None, Some, option_map, Result, List}
 use Rattle.refusal.specs.declared.Refusal.{Refusal}
 use Rattle.letters.specs.declared.Case.{Case}
-use Rattle.counter.specs.declared.counting.BookCount.{BookCount}
+use Rattle.std.specs.Prelude.{Result, Ok, Err}
+use Rattle.counter.specs.declared.counting.Count.{Count}
 use Rattle.depth.specs.declared.unmatched.Delimiters.{Delimiters}
-use Rattle.depth.specs.declared.reporting.DepthReport.{DepthReport}
-use Rattle.reach.specs.declared.listing.Reached.{Reached}
+use Rattle.depth.specs.declared.reporting.Depths.{Depths}
 use Rattle.reach.specs.Answer.{reached_figures}
 use Rattle.command.specs.declared.asked.Asked.{Asked}
 use Rattle.command.specs.declared.input.TheConstants.{READ}
@@ -45,13 +45,13 @@ pub record Printed {T : Type 0} (Answers : Option T → Type 0) (text : T → Li
   pub printed : PrintedIf text before after r
 
 -- the line of a count
-abbrev pub CountReplies : List ℕ → List ℕ → Case → Asked → List ℕ → List ℕ → Option (Reply BookCount) → Type 0
+abbrev pub CountReplies : List ℕ → List ℕ → Case → Asked → List ℕ → List ℕ → Option (Reply (Result Count Refusal)) → Type 0
 CountReplies book pattern c a before after r = Printed (CountsAsked book pattern c a) (λ found. count_line (told_by found)) before after r
 
 -- the line of a run's depths
-abbrev pub DepthReplies : List ℕ → Delimiters → Asked → List ℕ → List ℕ → Option (Reply DepthReport) → Type 0
+abbrev pub DepthReplies : List ℕ → Delimiters → Asked → List ℕ → List ℕ → Option (Reply (Result Depths Refusal)) → Type 0
 DepthReplies book keys a before after r = Printed (DepthsAsked book keys a) (λ found. depth_line (depth_told found)) before after r
 
 -- the lines of a reach list, in the order that it has
-abbrev pub ReachReplies : List ℕ → Asked → List ℕ → List ℕ → List ℕ → List ℕ → Option (Reply Reached) → Type 0
+abbrev pub ReachReplies : List ℕ → Asked → List ℕ → List ℕ → List ℕ → List ℕ → Option (Reply (Result ℕ Refusal)) → Type 0
 ReachReplies book a listed list before after r = Printed (λ found. ReachesAsked book a found listed list) (λ found. reach_text (reached_figures found) list) before after r

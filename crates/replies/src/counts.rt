@@ -3,8 +3,9 @@ ghost use Rattle.replies.specs.Replies.{CountReplies, ProgramReplies};
 
 use crate::printed::Reply;
 use command::{Asked, answer, count_asked};
-use counter::{BookCount, Case};
+use counter::{Case, Count};
 use output::{LINE, count_line};
+use refusal::Refusal;
 
 // `cuecount`: the line for every input of which this was read. Answers its length.
 pub fn program_reply(input: &[u8], out: &mut [u8; LINE]) -> usize
@@ -20,7 +21,7 @@ pub fn count_reply(
     case: Case,
     asked: Asked,
     out: &mut [u8; LINE],
-) -> Option<Reply<BookCount>>
+) -> Option<Reply<Result<Count, Refusal>>>
     ensures { CountReplies book.now pattern.now case asked.entry out.old out.new result }
 {
     let found = count_asked(book, pattern, case, asked)?;

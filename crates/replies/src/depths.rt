@@ -3,8 +3,9 @@ ghost use Rattle.replies.specs.Replies.{DepthReplies};
 
 use crate::printed::Reply;
 use command::Asked;
-use depth::{Delimiters, DepthReport};
+use depth::{Delimiters, Depths};
 use output::{LINE, depth_line};
+use refusal::Refusal;
 use survey::depth_asked;
 
 // The line for every book of which this was read; none if the macro's text is no number.
@@ -13,7 +14,7 @@ pub fn depth_reply(
     keys: Delimiters,
     asked: Asked,
     out: &mut [u8; LINE],
-) -> Option<Reply<DepthReport>>
+) -> Option<Reply<Result<Depths, Refusal>>>
     ensures { DepthReplies book.now keys asked.entry out.old out.new result }
 {
     let found = depth_asked(book, keys, asked)?;

@@ -4,7 +4,7 @@ ghost use Rattle.replies.specs.Replies.{ReachReplies};
 use crate::printed::Reply;
 use command::Asked;
 use output::{LISTING, reached_lines};
-use reach::Reached;
+use refusal::Refusal;
 use survey::{LIST, reach_asked};
 
 // The lines for every book of which this was read; none if the macro's text is no number. The list is lent.
@@ -13,7 +13,7 @@ pub fn reach_reply(
     asked: Asked,
     list: &mut [u16; LIST],
     out: &mut [u8; LISTING],
-) -> Option<Reply<Reached>>
+) -> Option<Reply<Result<usize, Refusal>>>
     ensures { ReachReplies book.now asked.entry list.old list.new out.old out.new result }
 {
     let found = reach_asked(book, asked, list)?;

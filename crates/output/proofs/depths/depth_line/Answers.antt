@@ -3,8 +3,8 @@ use borrow.Author.Rules.{rules}
 use Rattle.output.proofs.WholeLaws.{depth-lines, depth-refused}
 use Rattle.output.proofs.depths.depth_line.Goals as goal
 
-pub returns-in-Depths : goal.returns-in-Depths
-returns-in-Depths c = search (depth-lines)
+pub returns-in-Ok : goal.returns-in-Ok
+returns-in-Ok c = search (depth-lines)
 
-pub returns-in-Refused : goal.returns-in-Refused
-returns-in-Refused c = depth-refused _ c.in-Refused.is (search rules) c.refused_line.ensures
+pub returns-in-Err : goal.returns-in-Err
+returns-in-Err c = depth-refused _ c.in-Err.is (search rules) c.refused_line.ensures

@@ -3,8 +3,8 @@ use borrow.Author.Rules.{rules}
 use Rattle.output.proofs.LineLaws.{count-lines, count-refused}
 use Rattle.output.proofs.line.count_line.Goals as goal
 
-pub returns-in-Lines : goal.returns-in-Lines
-returns-in-Lines c = search (count-lines)
+pub returns-in-Ok : goal.returns-in-Ok
+returns-in-Ok c = search (count-lines)
 
-pub returns-in-Refused : goal.returns-in-Refused
-returns-in-Refused c = count-refused _ c.in-Refused.is (search rules) c.refused_line.ensures
+pub returns-in-Err : goal.returns-in-Err
+returns-in-Err c = count-refused _ c.in-Err.is (search rules) c.refused_line.ensures
