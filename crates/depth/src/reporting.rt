@@ -46,7 +46,8 @@ fn of_macro(book: &Book, i: usize, keys: Delimiters, work: &[u64]) -> Unmatched
     all
 }
 
-// The words of macros 0 to m, in turn.
+// The words of macros 0 to m, in turn. The book, the keys and the work words stay parameters: in a struct, each method that passes them on
+// would have to promise that it keeps the loan of the words.
 fn fill(book: &Book, m: usize, keys: Delimiters, work: &mut [u64])
     requires { BookFits keys book.now.bytes.now book.now.offsets m work.old }
     ensures { work.new ≡ filled keys.opening keys.closing (macros_in book.now.bytes.now) m work.old }
