@@ -2,7 +2,7 @@
 ghost use Rattle.std.specs.Prelude.{◌≤◌, length};
 ghost use Rattle.find.specs.Answer.{most_words};
 
-use crate::numbers::{hash, hash_bytes, large, prepare, small};
+use crate::numbers::{hash, large, prepare, small};
 use crate::show::{named, refused, text};
 use counter::Case;
 use find::{FoundLine, MOST_WORDS, find_line};
@@ -23,17 +23,10 @@ struct Question {
     bytes: usize,
 }
 
-// The lowest byte of a number.
-fn low(i: usize) -> u8 {
-    (i % 256) as u8
-}
-
 // What the buffer holds before a call: no two neighbours alike, so that a byte that changes shows.
 fn fresh(buffer: &mut [u8]) {
-    let mut i = 0;
-    while i < buffer.len() {
-        buffer[i] = 255 - low(i);
-        i += 1;
+    for (i, byte) in buffer.iter_mut().enumerate() {
+        *byte = 255 - (i % 256) as u8;
     }
 }
 
@@ -65,7 +58,7 @@ fn find_in(
     fresh(buffer);
     let case = q.case;
     let answer = find_line(book, pattern, case, q.m, q.k, work, buffer);
-    print_line(rt, answer, hash_bytes(buffer), hash(work));
+    print_line(rt, answer, hash(buffer), hash(work));
 }
 
 // Lends the first words and bytes: the others are there because an array's length is fixed.

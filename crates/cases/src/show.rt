@@ -1,5 +1,5 @@
 // What is printed of an answer.
-use crate::numbers::{hash, hash_bytes};
+use crate::numbers::hash;
 use counter::{BookCount, Checked, Joined, LineTest, Report, RunCount};
 use refusal::{Refusal, code};
 
@@ -80,7 +80,7 @@ pub(crate) fn checked(rt: &HostRuntime, c: Checked) {
 pub(crate) fn body(rt: &HostRuntime, part: &[u8], number: u8) {
     if number == 0 {
         named(rt, "body ", part.len() as u64);
-        named(rt, " ", hash_bytes(part));
+        named(rt, " ", hash(part));
     } else {
         named(rt, "refused ", number as u64);
     }

@@ -16,10 +16,10 @@ use counter::Case;
 fn first(rt: &HostRuntime, bytes: &[u8]) -> usize
     ensures { result ≤ length bytes.now }
 {
-    if bytes.len() == 0 {
+    let Some(&kind) = bytes.first() else {
         return 0;
-    }
-    match bytes[0] {
+    };
+    match kind {
         b'L' => lines(rt, bytes, Case::Sensitive),
         b'l' => lines(rt, bytes, Case::Ignored),
         b'R' => runs(rt, bytes, Case::Sensitive),
@@ -39,13 +39,13 @@ fn first(rt: &HostRuntime, bytes: &[u8]) -> usize
 
 // Answers every case up to a damaged one, behind which it is not known where the next begins.
 pub(crate) fn all(rt: &HostRuntime, bytes: &[u8]) {
-    let mut at = 0;
-    while at < bytes.len() {
-        let size = first(rt, &bytes[at..]);
+    let mut rest = bytes;
+    while !rest.is_empty() {
+        let size = first(rt, rest);
         if size == 0 {
             show::text(rt, "bad case\n");
             return;
         }
-        at += size;
+        rest = &rest[size..];
     }
 }

@@ -4,16 +4,15 @@
 
 use command::READ;
 use files::read_standard;
-use output::{LINE, write_line};
+use output::{LINE, write_front};
 use replies::program_reply;
 
 fn main(rt: HostRuntime) {
     let mut space = [0; READ];
-    let read = read_standard(&rt, &mut space);
-    if read.failed {
+    let Some(n) = read_standard(&rt, &mut space) else {
         return;
-    }
+    };
     let mut out = [0; LINE];
-    let n = program_reply(&space, read.bytes, &mut out);
-    write_line(&rt, &out, n);
+    let length = program_reply(&space[..n], &mut out);
+    write_front(&rt, &out, length);
 }

@@ -5,4 +5,4 @@ mod failure;
 mod reading;
 
 pub use failure::say_failure;
-pub use reading::{FileRead, Filled, fill, read_path, read_standard};
+pub use reading::{Filled, fill, read_path, read_standard};

@@ -1,19 +1,19 @@
 // What the arguments name: the verb, whether case is ignored, the pattern, the keys, the book, the macro.
-ghost use Rattle.std.specs.Prelude.{◌≡◌, length};
-ghost use Rattle.io.specs.Counts.{IsPrefixLen};
-
 use crate::say;
-use command::{BOOK_READ, PATTERN_READ};
+use command::{Asked, BOOK_READ, PATTERN_READ};
 use counter::Case;
 use decimals::wide_in;
-use files::{FileRead, read_path, say_failure};
+use files::{read_path, say_failure};
 use std::env::FillError;
 use std::io::Error;
 use std::rt::Env;
-use survey::{KeyText, key_in};
+use survey::key_in;
 
 // Room for a word and for a path: the system opens none of 4,096 bytes or more.
 const WORD: usize = 4096;
+
+// Room for every argument: the system passes none of 131,072 bytes or more.
+pub(crate) const NUMBER: usize = 131072;
 
 // ENAMETOOLONG, the system's error for a path that is too long.
 const TOO_LONG: i32 = 36;
@@ -27,7 +27,7 @@ fn is_given(rt: &HostRuntime, i: usize) -> bool {
 }
 
 // How many arguments there are, the program's name among them.
-pub(crate) fn arg_count(rt: &HostRuntime) -> usize {
+fn arg_count(rt: &HostRuntime) -> usize {
     for i in 0..MOST {
         if !is_given(rt, i) {
             return i;
@@ -36,107 +36,101 @@ pub(crate) fn arg_count(rt: &HostRuntime) -> usize {
     MOST
 }
 
-// Whether an argument is this word.
-fn is_word(rt: &HostRuntime, i: usize, word: &[u8]) -> bool {
-    let mut space = [0; WORD];
-    match rt.arg(i, &mut space) {
-        Ok(n) => &space[..n] == word,
-        Err(_) => false,
-    }
-}
-
-// Whether the first argument is this verb.
-pub(crate) fn is_verb(rt: &HostRuntime, name: &[u8]) -> bool {
-    is_word(rt, 1, name)
-}
-
-// What an argument says of case.
+// What the program is asked to do.
 #[derive(Clone, Copy)]
-pub(crate) enum CaseWord {
-    Said(Case),
-    Unknown,
+pub(crate) enum Verb {
+    Count,
+    Check,
+    Depth,
+    Lines,
+    Reach,
+}
+
+// The verb that the first argument is, with as many arguments as it takes.
+pub(crate) fn asked_verb(rt: &HostRuntime) -> Option<Verb> {
+    let mut space = [0; WORD];
+    let n = rt.arg(1, &mut space).ok()?;
+    match (&space[..n], arg_count(rt)) {
+        (b"count", 5 | 6) => Some(Verb::Count),
+        (b"check", 3) => Some(Verb::Check),
+        (b"depth", 5 | 6) => Some(Verb::Depth),
+        (b"lines", 7 | 8) => Some(Verb::Lines),
+        (b"reach", 3 | 4) => Some(Verb::Reach),
+        _ => None,
+    }
 }
 
 // Whether case is ignored, by an argument.
-pub(crate) fn case_at(rt: &HostRuntime, i: usize) -> CaseWord {
-    if is_word(rt, i, b"sensitive") {
-        return CaseWord::Said(Case::Sensitive);
+pub(crate) fn case_at(rt: &HostRuntime, i: usize) -> Option<Case> {
+    let mut space = [0; WORD];
+    let n = rt.arg(i, &mut space).ok()?;
+    match &space[..n] {
+        b"sensitive" => Some(Case::Sensitive),
+        b"ignored" => Some(Case::Ignored),
+        _ => None,
     }
-    if is_word(rt, i, b"ignored") {
-        return CaseWord::Said(Case::Ignored);
-    }
-    CaseWord::Unknown
 }
 
 // The key that an argument names. A key's name is shorter than the buffer; what does not fit there names none.
-pub(crate) fn key_at(rt: &HostRuntime, i: usize) -> KeyText {
+pub(crate) fn key_at(rt: &HostRuntime, i: usize) -> Option<u8> {
     let mut space = [0; WORD];
-    match rt.arg(i, &mut space) {
-        Ok(n) => key_in(&space[..n]),
-        Err(_) => KeyText::NoKey,
-    }
+    let n = rt.arg(i, &mut space).ok()?;
+    key_in(&space[..n])
 }
 
-// Puts the pattern that an argument is into the buffer, and answers how many bytes: of a longer one, the buffer's first.
-pub(crate) fn pattern_at(rt: &HostRuntime, i: usize, space: &mut [u8; PATTERN_READ]) -> usize {
+// The pattern that an argument is, in the buffer: of a longer one, as many bytes as the buffer has.
+pub(crate) fn pattern_at<'a>(
+    rt: &HostRuntime,
+    i: usize,
+    space: &'a mut [u8; PATTERN_READ],
+) -> &'a [u8] {
     match rt.arg(i, space) {
-        Ok(n) => n,
-        Err(FillError::TooLong) => PATTERN_READ,
-        Err(FillError::NotPresent) => 0,
+        Ok(n) => &space[..n],
+        Err(FillError::TooLong) => space,
+        Err(FillError::NotPresent) => &[],
     }
 }
 
-// Reads the book that an argument names.
-pub(crate) fn book_at(rt: &HostRuntime, i: usize, space: &mut [u8; BOOK_READ]) -> FileRead {
+// The book that an argument names, as much of it as the buffer has room for; none if it cannot be read, which has been said.
+pub(crate) fn book_at<'a>(
+    rt: &HostRuntime,
+    i: usize,
+    space: &'a mut [u8; BOOK_READ],
+) -> Option<&'a [u8]> {
     let mut path = [0; WORD];
     match rt.arg(i, &mut path) {
-        Ok(n) => read_path(rt, &path[..n], space),
+        Ok(n) => {
+            let n = read_path(rt, &path[..n], space)?;
+            Some(&space[..n])
+        }
         Err(_) => {
             say_failure(rt, b"the book's path", Error::from_raw_os_error(TOO_LONG));
-            FileRead {
-                failed: true,
-                bytes: 0,
-            }
+            None
         }
     }
 }
 
-// Room for every argument: the system passes none of 131,072 bytes or more.
-pub(crate) fn number_space() -> [u8; 131072]
-    ensures { 131072 ≡ length result }
-{
-    [0; 131072]
-}
-
-// A macro number's text at the front of a buffer; or that it is too long, which has been said.
-#[derive(Clone, Copy)]
-pub(crate) struct NumberText {
-    pub(crate) failed: bool,
-    pub(crate) digits: usize,
-}
-
-// Puts the macro number that an argument is into the buffer.
-pub(crate) fn number_at(rt: &HostRuntime, i: usize, space: &mut [u8]) -> NumberText
-    ensures { IsPrefixLen result.digits space.new }
-{
+// The macro whose number an argument is, or the last one where there is no such argument; none if the number is too long, which has been said.
+pub(crate) fn asked_at<'a>(
+    rt: &HostRuntime,
+    i: usize,
+    space: &'a mut [u8; NUMBER],
+) -> Option<Asked<'a>> {
+    if arg_count(rt) == i {
+        return Some(Asked::Last);
+    }
     match rt.arg(i, space) {
-        Ok(digits) => NumberText {
-            failed: false,
-            digits,
-        },
+        Ok(n) => Some(Asked::Named(&space[..n])),
         Err(_) => {
             say::text(rt, "the macro number is too long\n");
-            NumberText {
-                failed: true,
-                digits: 0,
-            }
+            None
         }
     }
 }
 
 // The number that an argument is; what does not fit the space is none.
 pub(crate) fn wide_at(rt: &HostRuntime, i: usize) -> Option<u64> {
-    let mut space = number_space();
+    let mut space = [0; NUMBER];
     let n = rt.arg(i, &mut space).ok()?;
     wide_in(&space[..n])
 }

@@ -1,70 +1,46 @@
 // `count CASE PATTERN BOOK [MACRO]`.
-use crate::arguments::{
-    CaseWord, arg_count, book_at, case_at, number_at, number_space, pattern_at,
-};
+use crate::arguments::{NUMBER, asked_at, book_at, case_at, pattern_at};
 use crate::meaning::explain;
 use crate::say;
-use command::{BOOK_READ, NamedCount, PATTERN_READ, PatternInput};
+use command::{BOOK_READ, PATTERN_READ};
 use counter::{BookCount, Case};
-use output::{LINE, write_line};
-use replies::{last_reply, named_reply};
+use output::{LINE, write_front};
+use refusal::Refusal;
+use replies::count_reply;
 
-// What a refusal means.
-fn explain_count(rt: &HostRuntime, c: BookCount) {
-    match c {
-        BookCount::Lines(_, _) => {}
-        BookCount::Refused(r) => explain(rt, r),
-    }
-}
-
-// Counts the macro that the fifth argument names.
-fn count_named_in(
-    rt: &HostRuntime,
-    book: &[u8; BOOK_READ],
-    n: usize,
-    pattern: &[u8; PATTERN_READ],
-    given: PatternInput,
-) {
-    let mut space = number_space();
-    let number = number_at(rt, 5, &mut space);
-    let digits = number.digits;
-    if number.failed {
-        return;
-    }
-    let mut out = [0; LINE];
-    let reply = named_reply(book, n, pattern, given, &space[..digits], &mut out);
-    write_line(rt, &out, reply.length);
-    let count = reply.count;
+// Why it is refused, if it is.
+fn refusal_of(count: BookCount) -> Option<Refusal> {
     match count {
-        NamedCount::Count(c) => explain_count(rt, c),
-        NamedCount::NoNumber => say::no_number(rt),
+        BookCount::Lines(_, _) => None,
+        BookCount::Refused(r) => Some(r),
     }
 }
 
 // Counts with this choice of case.
 fn count_by(rt: &HostRuntime, case: Case) {
-    let mut pattern = [0; PATTERN_READ];
-    let bytes = pattern_at(rt, 3, &mut pattern);
-    let given = PatternInput { bytes, case };
-    let mut book = [0; BOOK_READ];
-    let read = book_at(rt, 4, &mut book);
-    if read.failed {
+    let mut given = [0; PATTERN_READ];
+    let pattern = pattern_at(rt, 3, &mut given);
+    let mut space = [0; BOOK_READ];
+    let Some(book) = book_at(rt, 4, &mut space) else {
         return;
-    }
-    if arg_count(rt) == 6 {
-        count_named_in(rt, &book, read.bytes, &pattern, given);
+    };
+    let mut digits = [0; NUMBER];
+    let Some(asked) = asked_at(rt, 5, &mut digits) else {
         return;
-    }
+    };
     let mut out = [0; LINE];
-    let reply = last_reply(&book, read.bytes, &pattern, given, &mut out);
-    write_line(rt, &out, reply.length);
-    let count = reply.count;
-    explain_count(rt, count);
+    match count_reply(book, pattern, case, asked, &mut out) {
+        Some(reply) => {
+            write_front(rt, &out, reply.length);
+            explain(rt, refusal_of(reply.found));
+        }
+        None => say::no_number(rt),
+    }
 }
 
 pub(crate) fn count(rt: &HostRuntime) {
     match case_at(rt, 2) {
-        CaseWord::Said(case) => count_by(rt, case),
-        CaseWord::Unknown => say::usage(rt),
+        Some(case) => count_by(rt, case),
+        None => say::usage(rt),
     }
 }

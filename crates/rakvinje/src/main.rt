@@ -12,29 +12,15 @@ mod reaching;
 mod say;
 mod showing;
 
-use arguments::{arg_count, is_verb};
+use arguments::{Verb, asked_verb};
 
 fn main(rt: HostRuntime) {
-    let n = arg_count(&rt);
-    if is_verb(&rt, b"count") & ((n == 5) | (n == 6)) {
-        count::count(&rt);
-        return;
+    match asked_verb(&rt) {
+        Some(Verb::Count) => count::count(&rt),
+        Some(Verb::Check) => check::check_book(&rt),
+        Some(Verb::Depth) => depths::depth(&rt),
+        Some(Verb::Lines) => showing::lines(&rt),
+        Some(Verb::Reach) => reaching::reach(&rt),
+        None => say::usage(&rt),
     }
-    if is_verb(&rt, b"check") & (n == 3) {
-        check::check_book(&rt);
-        return;
-    }
-    if is_verb(&rt, b"depth") & ((n == 5) | (n == 6)) {
-        depths::depth(&rt);
-        return;
-    }
-    if is_verb(&rt, b"lines") & ((n == 7) | (n == 8)) {
-        showing::lines(&rt);
-        return;
-    }
-    if is_verb(&rt, b"reach") & ((n == 3) | (n == 4)) {
-        reaching::reach(&rt);
-        return;
-    }
-    say::usage(&rt);
 }

@@ -49,6 +49,9 @@ fn meaning(r: Refusal) -> &'static str {
     }
 }
 
-pub(crate) fn explain(rt: &HostRuntime, r: Refusal) {
-    say::text(rt, meaning(r));
+// What a refusal means, where there is one.
+pub(crate) fn explain(rt: &HostRuntime, refused: Option<Refusal>) {
+    if let Some(r) = refused {
+        say::text(rt, meaning(r));
+    }
 }

@@ -1,18 +1,12 @@
 // `lines CASE FIRST COUNT PATTERN BOOK [MACRO]`.
-use crate::arguments::{
-    CaseWord, arg_count, book_at, case_at, number_at, number_space, pattern_at, wide_at,
-};
+use crate::arguments::{NUMBER, asked_at, book_at, case_at, pattern_at, wide_at};
 use crate::meaning::explain;
 use crate::say;
-use command::{BOOK_READ, PATTERN_READ};
+use command::{Asked, BOOK_READ, PATTERN_READ};
 use counter::Case;
-use display::{
-    BUFFER, LineAnswer, LineInput, NamedLineAnswer, SHOWN, line_last_reply, line_named_reply,
-    write_shown,
-};
-
-// The last line that can be asked for.
-const LAST: u64 = 0xffff_ffff_ffff_ffff;
+use display::{BUFFER, LineAnswer, SHOWN, line_reply};
+use output::write_front;
+use refusal::Refusal;
 
 // Which lines are asked for, and whether case is ignored.
 #[derive(Clone, Copy)]
@@ -26,131 +20,77 @@ struct Range {
 // Behind the first line the end of them is no refusal.
 fn told(
     rt: &HostRuntime,
-    found: LineAnswer,
-    out: &[u8; SHOWN],
+    found: Result<LineAnswer, Refusal>,
+    out: &[u8],
     length: usize,
     first: bool,
 ) -> bool {
     match found {
-        LineAnswer::Shown(_, _) => write_shown(rt, out, length),
-        LineAnswer::Long(_, _) => {
-            let written = write_shown(rt, out, length);
+        Ok(LineAnswer::Shown(_, _)) => write_front(rt, out, length),
+        Ok(LineAnswer::Long(_, _)) => {
+            let written = write_front(rt, out, length);
             say::long_line(rt);
             written
         }
-        LineAnswer::Refused(r) => {
+        Err(r) => {
             if first {
-                write_shown(rt, out, length);
-                explain(rt, r);
+                write_front(rt, out, length);
+                explain(rt, Some(r));
             }
             false
         }
     }
 }
 
-// One line of the last macro.
-fn last_line(
+// The k-th line of the macro that is asked for.
+fn one_line(
     rt: &HostRuntime,
-    book: &[u8; BOOK_READ],
-    n: usize,
-    pattern: &[u8; PATTERN_READ],
-    asked: LineInput,
+    book: &[u8],
+    pattern: &[u8],
+    case: Case,
+    k: u64,
+    asked: Asked,
     first: bool,
 ) -> bool {
     let mut line = [0; BUFFER];
     let mut out = [0; SHOWN];
-    let reply = line_last_reply(book, n, pattern, asked, &mut line, &mut out);
-    let found = reply.found;
-    told(rt, found, &out, reply.length, first)
-}
-
-// One line of the macro that the seventh argument names.
-fn named_line(
-    rt: &HostRuntime,
-    book: &[u8; BOOK_READ],
-    n: usize,
-    pattern: &[u8; PATTERN_READ],
-    asked: LineInput,
-    first: bool,
-) -> bool {
-    let mut space = number_space();
-    let number = number_at(rt, 7, &mut space);
-    let digits = number.digits;
-    if number.failed {
-        return false;
-    }
-    let mut line = [0; BUFFER];
-    let mut out = [0; SHOWN];
-    let reply = line_named_reply(
-        book,
-        n,
-        pattern,
-        asked,
-        &space[..digits],
-        &mut line,
-        &mut out,
-    );
-    let found = reply.found;
-    match found {
-        NamedLineAnswer::Answer(answer) => told(rt, answer, &out, reply.length, first),
-        NamedLineAnswer::NoNumber => {
+    match line_reply(book, pattern, case, k, asked, &mut line, &mut out) {
+        Some(reply) => told(rt, reply.found, &out, reply.length, first),
+        None => {
             say::no_number(rt);
             false
         }
     }
 }
 
-// One line of the macro that is asked for.
-fn one_line(
-    rt: &HostRuntime,
-    book: &[u8; BOOK_READ],
-    n: usize,
-    pattern: &[u8; PATTERN_READ],
-    asked: LineInput,
-    first: bool,
-) -> bool {
-    if arg_count(rt) == 8 {
-        return named_line(rt, book, n, pattern, asked, first);
-    }
-    last_line(rt, book, n, pattern, asked, first)
-}
-
-// The lines, one after another, up to the last one.
-fn lines_in(
-    rt: &HostRuntime,
-    book: &[u8; BOOK_READ],
-    n: usize,
-    pattern: &[u8; PATTERN_READ],
-    bytes: usize,
-    lines: Range,
-) {
-    let case = lines.case;
-    let mut i = 0;
-    while i < lines.count {
-        if LAST - lines.first < i {
+// The lines, one after another, up to the last one that can be asked for.
+fn lines_in(rt: &HostRuntime, book: &[u8], pattern: &[u8], asked: Asked, lines: Range) {
+    for i in 0..lines.count {
+        let Some(k) = lines.first.checked_add(i) else {
             return;
-        }
-        let asked = LineInput {
-            bytes,
-            case,
-            k: lines.first + i,
         };
-        if !one_line(rt, book, n, pattern, asked, i == 0) {
+        if !one_line(rt, book, pattern, lines.case, k, asked, i == 0) {
             return;
         }
-        i += 1;
     }
 }
 
 fn lines_by(rt: &HostRuntime, lines: Range) {
-    let mut pattern = [0; PATTERN_READ];
-    let bytes = pattern_at(rt, 5, &mut pattern);
-    let mut book = [0; BOOK_READ];
-    let read = book_at(rt, 6, &mut book);
-    if read.failed {
+    let mut given = [0; PATTERN_READ];
+    let pattern = pattern_at(rt, 5, &mut given);
+    let mut space = [0; BOOK_READ];
+    let Some(book) = book_at(rt, 6, &mut space) else {
+        return;
+    };
+    // Where no line is asked for, nothing is said of the macro's number.
+    if lines.count == 0 {
         return;
     }
-    lines_in(rt, &book, read.bytes, &pattern, bytes, lines);
+    let mut digits = [0; NUMBER];
+    let Some(asked) = asked_at(rt, 7, &mut digits) else {
+        return;
+    };
+    lines_in(rt, book, pattern, asked, lines);
 }
 
 // So many lines from this one on.
@@ -170,7 +110,7 @@ fn lines_with(rt: &HostRuntime, case: Case) {
 
 pub(crate) fn lines(rt: &HostRuntime) {
     match case_at(rt, 2) {
-        CaseWord::Said(case) => lines_with(rt, case),
-        CaseWord::Unknown => say::usage(rt),
+        Some(case) => lines_with(rt, case),
+        None => say::usage(rt),
     }
 }

@@ -1,9 +1,6 @@
--- It is safe and ends: the bytes left fall.
-use Rattle.std.proofs.Common.{◌-◌, ◌≤◌, length}
+-- It ends: the bytes left fall.
+use lib.ListN.{length}
 use Rattle.cases.proofs.stream.all.Given as goal
 
-abbrev pub invariant-loop-at : goal.invariant-loop-at
-invariant-loop-at l = l.at ≤ length l.bytes
-
-abbrev pub decreases-loop-at : goal.decreases-loop-at
-decreases-loop-at l = length l.bytes - l.at
+abbrev pub decreases-loop-rest : goal.decreases-loop-rest
+decreases-loop-rest l = length l.rest
