@@ -4,7 +4,8 @@ ghost use Rattle.std.specs.Prelude.{◌≤◌, length};
 use crate::numbers::{hash, prepare, small};
 use crate::show::{named, refused, text};
 use decimals::size;
-use depth::{Delimiters, DepthReport, depth};
+use depth::{Delimiters, Depths, depth};
+use refusal::Refusal;
 
 // The bytes in front of the book.
 const HEAD: usize = 16;
@@ -22,13 +23,13 @@ fn whole(rt: &HostRuntime, name: &str, z: i64) {
 }
 
 // What is answered, with the hash of the work words after it.
-fn print_depths(rt: &HostRuntime, answer: DepthReport, work: u64) {
+fn print_depths(rt: &HostRuntime, answer: Result<Depths, Refusal>, work: u64) {
     match answer {
-        DepthReport::Depths(end, lowest) => {
-            whole(rt, "end ", end);
-            whole(rt, " lowest ", lowest);
+        Ok(d) => {
+            whole(rt, "end ", d.end);
+            whole(rt, " lowest ", d.lowest);
         }
-        DepthReport::Refused(r) => refused(rt, r),
+        Err(r) => refused(rt, r),
     }
     named(rt, " work ", work);
     text(rt, "\n");

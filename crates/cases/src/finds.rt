@@ -6,6 +6,7 @@ use crate::numbers::{hash, large, prepare, small};
 use crate::show::{named, refused, text};
 use counter::Case;
 use find::{FoundLine, MOST_WORDS, find_line};
+use refusal::Refusal;
 
 // The bytes in front of the pattern.
 const HEAD: usize = 24;
@@ -31,13 +32,13 @@ fn fresh(buffer: &mut [u8]) {
 }
 
 // What is answered, with the hashes of the buffer and of the work words after it.
-fn print_line(rt: &HostRuntime, answer: FoundLine, buffer: u64, work: u64) {
+fn print_line(rt: &HostRuntime, answer: Result<FoundLine, Refusal>, buffer: u64, work: u64) {
     match answer {
-        FoundLine::Line(number, keys) => {
-            named(rt, "line ", number);
-            named(rt, " length ", keys);
+        Ok(line) => {
+            named(rt, "line ", line.number);
+            named(rt, " length ", line.length);
         }
-        FoundLine::Refused(r) => refused(rt, r),
+        Err(r) => refused(rt, r),
     }
     named(rt, " buffer ", buffer);
     named(rt, " work ", work);

@@ -1,6 +1,6 @@
 // What is printed of an answer.
 use crate::numbers::hash;
-use counter::{BookCount, Checked, Joined, LineTest, Report, RunCount};
+use counter::{Count, Report};
 use refusal::{Refusal, code};
 
 // A write that fails is not said: the output is compared with what it must be.
@@ -17,31 +17,31 @@ pub(crate) fn refused(rt: &HostRuntime, r: Refusal) {
     named(rt, "refused ", code(r) as u64);
 }
 
-pub(crate) fn line(rt: &HostRuntime, t: LineTest) {
-    match t {
-        LineTest::Matches => text(rt, "match"),
-        LineTest::NoMatch => text(rt, "no match"),
-        LineTest::Refused(r) => refused(rt, r),
+pub(crate) fn line(rt: &HostRuntime, matches: Result<bool, Refusal>) {
+    match matches {
+        Ok(true) => text(rt, "match"),
+        Ok(false) => text(rt, "no match"),
+        Err(r) => refused(rt, r),
     }
     text(rt, "\n");
 }
 
-pub(crate) fn run(rt: &HostRuntime, c: RunCount) {
-    match c {
-        RunCount::Lines(n) => named(rt, "lines ", n),
-        RunCount::Refused(r) => refused(rt, r),
+pub(crate) fn run(rt: &HostRuntime, lines: Result<u64, Refusal>) {
+    match lines {
+        Ok(n) => named(rt, "lines ", n),
+        Err(r) => refused(rt, r),
     }
     text(rt, "\n");
 }
 
 // What a count answers, with the hash of the work words after it.
-pub(crate) fn count(rt: &HostRuntime, c: BookCount, work: u64) {
-    match c {
-        BookCount::Lines(n, steps) => {
-            named(rt, "lines ", n);
-            named(rt, " steps ", steps);
+pub(crate) fn count(rt: &HostRuntime, answer: Result<Count, Refusal>, work: u64) {
+    match answer {
+        Ok(c) => {
+            named(rt, "lines ", c.lines);
+            named(rt, " steps ", c.steps);
         }
-        BookCount::Refused(r) => refused(rt, r),
+        Err(r) => refused(rt, r),
     }
     named(rt, " work ", work);
     text(rt, "\n");
@@ -59,19 +59,18 @@ fn report(rt: &HostRuntime, r: Report) {
     named(rt, " ", hash(&rows));
 }
 
-pub(crate) fn joined(rt: &HostRuntime, j: Joined) {
-    if j.refused == 0 {
-        report(rt, j.report);
-    } else {
-        named(rt, "refused ", j.refused as u64);
+pub(crate) fn joined(rt: &HostRuntime, joined: Result<Report, Refusal>) {
+    match joined {
+        Ok(r) => report(rt, r),
+        Err(r) => refused(rt, r),
     }
     text(rt, "\n");
 }
 
-pub(crate) fn checked(rt: &HostRuntime, c: Checked) {
-    match c {
-        Checked::Sound(macros) => named(rt, "sound ", macros as u64),
-        Checked::Refused(r) => refused(rt, r),
+pub(crate) fn checked(rt: &HostRuntime, macros: Result<u16, Refusal>) {
+    match macros {
+        Ok(n) => named(rt, "sound ", u64::from(n)),
+        Err(r) => refused(rt, r),
     }
     text(rt, "\n");
 }

@@ -3,18 +3,9 @@ use crate::arguments::{NUMBER, asked_at, book_at, case_at, pattern_at};
 use crate::meaning::explain;
 use crate::say;
 use command::{BOOK_READ, PATTERN_READ};
-use counter::{BookCount, Case};
+use counter::Case;
 use output::{LINE, write_front};
-use refusal::Refusal;
 use replies::count_reply;
-
-// Why it is refused, if it is.
-fn refusal_of(count: BookCount) -> Option<Refusal> {
-    match count {
-        BookCount::Lines(_, _) => None,
-        BookCount::Refused(r) => Some(r),
-    }
-}
 
 // Counts with this choice of case.
 fn count_by(rt: &HostRuntime, case: Case) {
@@ -32,7 +23,7 @@ fn count_by(rt: &HostRuntime, case: Case) {
     match count_reply(book, pattern, case, asked, &mut out) {
         Some(reply) => {
             write_front(rt, &out, reply.length);
-            explain(rt, refusal_of(reply.found));
+            explain(rt, reply.found.err());
         }
         None => say::no_number(rt),
     }

@@ -3,14 +3,15 @@ use crate::arguments::{NUMBER, asked_at, book_at, key_at};
 use crate::meaning::explain;
 use crate::say;
 use command::BOOK_READ;
-use depth::{Delimiters, DepthReport};
+use depth::{Delimiters, Depths};
 use output::{LINE, write_front};
+use refusal::Refusal;
 use replies::depth_reply;
 
 // Whether the blocks are closed: no closing comes where no block is open exactly if the lowest depth is 0 (`closings-opened` of `depth`),
 // and no block is left open exactly if the run ends at its lowest depth (`openings-closed`).
-fn explain_depths(rt: &HostRuntime, end: i64, lowest: i64) {
-    let meaning = match (lowest == 0, end == lowest) {
+fn explain_depths(rt: &HostRuntime, d: Depths) {
+    let meaning = match (d.lowest == 0, d.end == d.lowest) {
         (true, true) =>
             "The blocks are closed: every opening has its closing, and every closing its opening.\n",
         (true, false) => "A block is left open: not every opening has its closing.\n",
@@ -21,10 +22,10 @@ fn explain_depths(rt: &HostRuntime, end: i64, lowest: i64) {
 }
 
 // What the depths mean, or the refusal.
-fn explain_report(rt: &HostRuntime, report: DepthReport) {
+fn explain_report(rt: &HostRuntime, report: Result<Depths, Refusal>) {
     match report {
-        DepthReport::Depths(end, lowest) => explain_depths(rt, end, lowest),
-        DepthReport::Refused(r) => explain(rt, Some(r)),
+        Ok(d) => explain_depths(rt, d),
+        Err(r) => explain(rt, Some(r)),
     }
 }
 

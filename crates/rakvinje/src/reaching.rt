@@ -4,18 +4,8 @@ use crate::meaning::explain;
 use crate::say;
 use command::BOOK_READ;
 use output::{LISTING, write_front};
-use reach::Reached;
-use refusal::Refusal;
 use replies::reach_reply;
 use survey::LIST;
-
-// Why it is refused, if it is.
-fn refusal_of(reached: Reached) -> Option<Refusal> {
-    match reached {
-        Reached::Written(_) => None,
-        Reached::Refused(r) => Some(r),
-    }
-}
 
 pub(crate) fn reach(rt: &HostRuntime) {
     let mut space = [0; BOOK_READ];
@@ -31,7 +21,7 @@ pub(crate) fn reach(rt: &HostRuntime) {
     match reach_reply(book, asked, &mut list, &mut out) {
         Some(reply) => {
             write_front(rt, &out, reply.length);
-            explain(rt, refusal_of(reply.found));
+            explain(rt, reply.found.err());
         }
         None => say::no_number(rt),
     }
