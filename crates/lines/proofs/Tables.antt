@@ -18,9 +18,11 @@ use Rattle.pattern.specs.Meaning.{Query, query}
 use Rattle.pattern.specs.Form.{Pattern, atom_count}
 use Rattle.pattern.specs.Reader.{accepted, read_pattern}
 use Rattle.pattern.specs.Moves.{states, move, accepting}
-use Rattle.pattern.specs.Automata.{Automaton, VerdictOn, KeysFrom, EnterFrom}
+use Rattle.pattern.specs.Automata.{Automaton, TablesOn}
 use Rattle.pattern.specs.declared.automaton.Accepting.{Accepting}
-use Rattle.pattern.specs.declared.automaton.Verdict.{Verdict}
+use Rattle.pattern.specs.declared.automaton.Tables.{Tables}
+use Rattle.std.specs.Prelude.{Result, Ok}
+use Rattle.refusal.specs.declared.Refusal.{Refusal}
 use Rattle.pattern.proofs.AcceptedLines.{move-below}
 use Rattle.pattern.proofs.Readings.{read-accepted, accepting-of, states-of}
 use Rattle.lines.specs.Moving.{moved, has_accepting, looked_up}
@@ -67,9 +69,9 @@ automaton-moves {t} {keys} {enter} {a} d =
     }
 
 -- what `read_pattern` promises: where it accepts pattern p, with tree t, the tables are t's moves
-module _ (c : Case) (p keys enter keys' enter' : List ℕ) {v : Verdict} (f : VerdictOn p v) (k : KeysFrom c p keys keys') (n : EnterFrom p enter enter') where
-  pub tables-are-moves : {t : Pattern} {a : Accepting} → read_pattern p ≡ accepted t → v ≡ Verdict.Accepted a → TablesAreMoves (query c t) keys' enter' a
+module _ (c : Case) (p : List ℕ) {v : Result Tables Refusal} (f : TablesOn c p v) where
+  pub tables-are-moves : {t : Pattern} {a : Tables} → read_pattern p ≡ accepted t → v ≡ Ok a → TablesAreMoves (query c t) a.keys a.enter a.accepting
   tables-are-moves {t} {a} e h =
-      let r = read-accepted c p keys enter keys' enter' f k n h in
+      let r = read-accepted c p f h in
       let same : r.tree ≡ t = cc r.reading in
       rw same at (automaton-moves r.tables)

@@ -12,52 +12,45 @@ use lib.Seq.{take_all, take-suc, drop-cons}
 use borrow.Author.Tests.{eqb-true, ne_eqb}
 use Rattle.refusal.specs.declared.Refusal.TheVariants.{InvalidKey}
 use Rattle.pattern.specs.Meaning.{Query, matches}
-use Rattle.lines.specs.declared.run.RunCount.{RunCount}
 use Rattle.lines.specs.declared.run.Tally.{Tally}
 use Rattle.lines.specs.Lines.{carriage_return, trimmed, closed_matches, matching, is_open}
 use Rattle.lines.proofs.Trims.{trim-none, trim-line, trim-return, trim-other, open_more}
 use Rattle.refusal.specs.Figures.{answered}
 use Rattle.lines.specs.Answers.{run_of}
-use Rattle.lines.specs.Promises.{AfterKey, CountsRun, tally_after}
+use Rattle.lines.specs.Promises.{AfterKey, CountsRun, closed_tally, tally_after}
 use Rattle.lines.proofs.LineLaws.{matching-closed, matching-open}
 use Rattle.lines.proofs.Reaching.{looked-up, reached-none, reached-more, reached-matches}
 use Rattle.runs.specs.Keys.{member, line_key, is_line, line_end}
 use Rattle.runs.proofs.KeyLaws.{key-test, line-more, line-without, member-at, member-more}
-use Rattle.pattern.specs.declared.automaton.Accepting.{Accepting}
+use Rattle.pattern.specs.declared.automaton.Tables.{Tables}
+use Rattle.std.specs.Prelude.{Ok, Err}
+use Rattle.std.specs.Int.{from_bool}
 use Rattle.pattern.specs.Automata.{Automaton}
-use Rattle.lines.specs.Moving.{start_set, has_accepting, reached, looked_up}
+use Rattle.lines.specs.Moving.{has_accepting, reached, looked_up}
 
--- a tally of closed lines
-abbrev pub closed_tally : ℕ → ℕ → Tally
-closed_tally x n = record { set = x; trimmed = x; pending = false; lines = n }
+-- a line counts once, or not
+pub once : (m : Bool) {x : ℕ} → x ≡ from_bool m → x ≡ cond m 1 0
+once true e = e
+once false e = e
 
--- two of them
-same-tally : {x y m n : ℕ} → x ≡ y → m ≡ n → ◌≡◌ {A = Tally} (closed_tally x m) (closed_tally y n)
-same-tally e f = rw (e, f)
-
--- a line counts at most once, and only if it has a key
 pub at_most_one : (m : Bool) {x : ℕ} → x ≡ cond m 1 0 → x ≤ 1
 at_most_one true e = omega arith
 at_most_one false e = omega arith
 
-pub last-small : (p m : Bool) {y : ℕ} → y ≡ cond (p && m) 1 0 → y ≤ cond p 1 0
-last-small true m e = omega (arith, at_most_one m e)
-last-small false m e = omega arith
-
 -- One more key.
-module _ {keys enter : List ℕ} {p : Accepting} {a : Tally} {k : ℕ} where
-  pub after-end : {z x : ℕ} {m : Bool} → k ≡ line_end → z ≡ start_set → m ≡ has_accepting p a.trimmed → x ≡ cond m 1 0 → AfterKey keys enter p a k (closed_tally z (a.lines + x))
+module _ {d : Tables} {a : Tally} {k : ℕ} where
+  pub after-end : {x : ℕ} {m : Bool} → k ≡ line_end → m ≡ has_accepting d.accepting a.trimmed → x ≡ from_bool m → AfterKey d a k (closed_tally (a.lines + x))
   unfolding tally_after
-  after-end {z} {x} {m} e y f g =
+  after-end {x} {m} e f g =
       record {
-        small = omega (arith, at_most_one m g);
-        tallies = λ t h w l i j z. rw e (same-tally (y ∙ reached-none t) (rw (g, f, reached-matches h a.trimmed (trimmed w) j (trim-line w l)) refl));
+        small = omega (arith, at_most_one m (once m g));
+        tallies = λ t h w l i j z. rw (e, once m g, f, reached-matches h a.trimmed (trimmed w) j (trim-line w l)) refl;
       }
 
   -- a key that goes on with the line, where x is what its keys less a final CR lead to
-  after-key : {y x : ℕ} → k < 256 → (k ≡ line_end → ⊥) → y ≡ looked_up keys enter p a.set k
+  after-key : {y x : ℕ} → k < 256 → (k ≡ line_end → ⊥) → y ≡ looked_up d.keys d.enter d.accepting a.set k
       → ((t : Query) (w : List ℕ) → a.set ≡ reached t w → y ≡ reached t (w ++ (k ∷ [])) → x ≡ reached t (trimmed (w ++ (k ∷ []))))
-      → AfterKey keys enter p a k (record { set = y; trimmed = x; pending = true; lines = a.lines })
+      → AfterKey d a k (record { set = y; trimmed = x; pending = true; lines = a.lines })
   unfolding tally_after
   after-key {y} {x} b n g f =
       record {
@@ -69,12 +62,12 @@ module _ {keys enter : List ℕ} {p : Accepting} {a : Tally} {k : ℕ} where
             rw (no, f t w i on, on) refl;
       }
 
-  pub after-return : {y : ℕ} → k < 256 → (k ≡ line_end → ⊥) → k ≡ carriage_return → y ≡ looked_up keys enter p a.set k
-      → AfterKey keys enter p a k (record { set = y; trimmed = a.set; pending = true; lines = a.lines })
+  pub after-return : {y : ℕ} → k < 256 → (k ≡ line_end → ⊥) → k ≡ carriage_return → y ≡ looked_up d.keys d.enter d.accepting a.set k
+      → AfterKey d a k (record { set = y; trimmed = a.set; pending = true; lines = a.lines })
   after-return b n r g = after-key b n g (λ t w i on. i ∙ ap (reached t) (sym (ap (λ (c : ℕ). trimmed (w ++ (c ∷ []))) r ∙ trim-return w)))
 
-  pub after-other : {y : ℕ} → k < 256 → (k ≡ line_end → ⊥) → (k ≡ carriage_return → ⊥) → y ≡ looked_up keys enter p a.set k
-      → AfterKey keys enter p a k (record { set = y; trimmed = y; pending = true; lines = a.lines })
+  pub after-other : {y : ℕ} → k < 256 → (k ≡ line_end → ⊥) → (k ≡ carriage_return → ⊥) → y ≡ looked_up d.keys d.enter d.accepting a.set k
+      → AfterKey d a k (record { set = y; trimmed = y; pending = true; lines = a.lines })
   after-other b n r g = after-key b n g (λ t w i on. on ∙ ap (reached t) (sym (trim-other w k (ne_eqb carriage_return k (λ e. r (sym e))))))
 
 -- the run's lines are n, and those from the keys of `line` and from place `at` on
@@ -90,28 +83,28 @@ pub record Tallied (t : Query) (run : List ℕ) (at : ℕ) (a : Tally) : Type 0 
   pub has_key : a.pending ≡ is_open line
   pub count : CountedTo t run at line a.lines
 
-pub record RunSoFar (keys enter : List ℕ) (p : Accepting) (run : List ℕ) (a : Tally) (at : ℕ) : Type 0 where
+pub record RunSoFar (d : Tables) (run : List ℕ) (a : Tally) (at : ℕ) : Type 0 where
   pub inside : at ≤ length run
   pub small : a.lines + cond a.pending 1 0 ≤ at
   pub clean : member 0 (take at run) ≡ false
-  pub tallied : (t : Query) → Automaton t keys enter p → Tallied t run at a
+  pub tallied : (t : Query) → Automaton t d.keys d.enter d.accepting → Tallied t run at a
 
-module _ {keys enter : List ℕ} {p : Accepting} {run : List ℕ} where
-  pub run-start : {z : ℕ} → z ≡ start_set → RunSoFar keys enter p run (closed_tally z 0) 0
-  run-start e =
+module _ {d : Tables} {run : List ℕ} where
+  pub run-start : RunSoFar d run (closed_tally 0) 0
+  run-start =
       record {
         inside = omega arith;
         small = omega arith;
         clean = refl;
-        tallied = λ t h. record { line = []; clean = refl; leads = e ∙ reached-none t; closes = e ∙ reached-none t ∙ ap (reached t) (sym trim-none); has_key = refl; count = zero-add (matching t run) };
+        tallied = λ t h. record { line = []; clean = refl; leads = reached-none t; closes = reached-none t ∙ ap (reached t) (sym trim-none); has_key = refl; count = zero-add (matching t run) };
       }
 
-  module _ {a : Tally} {at : ℕ} (s : RunSoFar keys enter p run a at) where
-    pub run-refused : at < length run → get_or run at 0 ≡ 0 → CountsRun keys enter p run (RunCount.Refused InvalidKey)
+  module _ {a : Tally} {at : ℕ} (s : RunSoFar d run a at) where
+    pub run-refused : at < length run → get_or run at 0 ≡ 0 → CountsRun d run (Err InvalidKey)
     unfolding run_of CountsRun
     run-refused h e t i = rw (member-at 0 run at h e) refl
 
-    pub run_on : {b : Tally} → at < length run → get_or run at 0 < 256 → (get_or run at 0 ≡ 0 → ⊥) → AfterKey keys enter p a (get_or run at 0) b → RunSoFar keys enter p run b (at + 1)
+    pub run_on : {b : Tally} → at < length run → get_or run at 0 < 256 → (get_or run at 0 ≡ 0 → ⊥) → AfterKey d a (get_or run at 0) b → RunSoFar d run b (at + 1)
     unfolding tally_after
     run_on {b} h i n g =
         record {
@@ -135,15 +128,15 @@ module _ {keys enter : List ℕ} {p : Accepting} {run : List ℕ} where
         longer : (t : Query) (w : List ℕ) → b.lines ≡ a.lines → CountedTo t run at w a.lines → CountedTo t run (at + 1) (w ++ (k ∷ [])) b.lines
         longer t w f r = rw (append_assoc, f, ← rest) r
 
-        go : (t : Query) → Automaton t keys enter p → Tallied t run at a → (x : Bool) → eqb k line_end ≡ x → Tallied t run (at + 1) b
+        go : (t : Query) → Automaton t d.keys d.enter d.accepting → Tallied t run at a → (x : Bool) → eqb k line_end ≡ x → Tallied t run (at + 1) b
         go t j u true e =
             let w = u.line in
-            let f : b ≡ record { set = reached t []; trimmed = reached t []; pending = false; lines = a.lines + cond (closed_matches t w) 1 0 } = rw e at (g.tallies t j w u.clean u.leads u.closes (ne_eqb k 0 n)) in
+            let f : b ≡ closed_tally (a.lines + cond (closed_matches t w) 1 0) = rw e at (g.tallies t j w u.clean u.leads u.closes (ne_eqb k 0 n)) in
             record {
               line = [];
               clean = refl;
-              leads = ap (λ (d : Tally). d.set) f;
-              closes = ap (λ (d : Tally). d.trimmed) f ∙ ap (reached t) (sym trim-none);
+              leads = ap (λ (d : Tally). d.set) f ∙ reached-none t;
+              closes = ap (λ (d : Tally). d.trimmed) f ∙ reached-none t ∙ ap (reached t) (sym trim-none);
               has_key = ap (λ (d : Tally). d.pending) f;
               count = closed t w u.clean (eqb-true k line_end e) (ap (λ (d : Tally). d.lines) f) u.count;
             }
@@ -159,7 +152,7 @@ module _ {keys enter : List ℕ} {p : Accepting} {run : List ℕ} where
               count = longer t w (ap (λ (d : Tally). d.lines) f) u.count;
             }
 
-    pub run-done : {m : Bool} {y : ℕ} → length run ≤ at → m ≡ has_accepting p a.set → y ≡ cond (a.pending && m) 1 0 → CountsRun keys enter p run (RunCount.Lines (a.lines + y))
+    pub run-done : {m : Bool} {y : ℕ} → length run ≤ at → m ≡ has_accepting d.accepting a.set → y ≡ from_bool (a.pending && m) → CountsRun d run (Ok (a.lines + y))
     unfolding run_of CountsRun
     run-done {m} {y} h e g t i = rw none (ap answered total)
       where
@@ -170,6 +163,6 @@ module _ {keys enter : List ℕ} {p : Accepting} {run : List ℕ} where
         total =
             let u = s.tallied t i in
             let w = u.line in
-            let last : y ≡ cond (is_open w && matches t w) 1 0 = g ∙ rw (u.has_key, e, reached-matches i a.set w u.leads u.clean) refl in
+            let last : y ≡ cond (is_open w && matches t w) 1 0 = once (a.pending && m) g ∙ rw (u.has_key, e, reached-matches i a.set w u.leads u.clean) refl in
             omega
             (arith, u.count, ap (λ (v : List ℕ). matching t (w ++ v)) (drop_of_length-le run h), ap (matching t) (append-nil w), matching-open t w (line-without w line_end refl u.clean), last)

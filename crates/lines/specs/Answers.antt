@@ -1,25 +1,23 @@
 -- What the one-line test and the count over a plain run answer.
-use Rattle.std.specs.Prelude.{ℕ, cond, ◌||◌, List}
+use Rattle.std.specs.Prelude.{ℕ, Bool, cond, ◌||◌, List, Result, Ok, Err}
+use Rattle.refusal.specs.declared.Refusal.{Refusal}
 use Rattle.refusal.specs.declared.Refusal.TheVariants.{InvalidKey}
 use Rattle.refusal.specs.Figures.{Figures, answered, refused_for}
 use Rattle.letters.specs.declared.Case.{Case}
 use Rattle.pattern.specs.Meaning.{Query, query, matches}
 use Rattle.pattern.specs.Reader.{Read, accepted, refused}
-use Rattle.lines.specs.declared.line.LineTest.{LineTest}
-use Rattle.lines.specs.declared.run.RunCount.{RunCount}
 use Rattle.lines.specs.Lines.{matching}
 use Rattle.runs.specs.Keys.{member, line_end}
 
 -- the one-line test: 1 if the line matches, or 0
-abbrev pub line_figures : LineTest → Figures ℕ
-line_figures LineTest.Matches = answered 1
-line_figures LineTest.NoMatch = answered 0
-line_figures (LineTest.Refused r) = refused_for r
+abbrev pub line_figures : Result Bool Refusal → Figures ℕ
+line_figures (Ok m) = answered (cond m 1 0)
+line_figures (Err r) = refused_for r
 
 -- the count over a plain run: how many lines match
-abbrev pub run_figures : RunCount → Figures ℕ
-run_figures (RunCount.Lines n) = answered n
-run_figures (RunCount.Refused r) = refused_for r
+abbrev pub run_figures : Result ℕ Refusal → Figures ℕ
+run_figures (Ok n) = answered n
+run_figures (Err r) = refused_for r
 
 -- under an accepted pattern: 5 for a "byte 0 or 10 in the one-line test", or whether the line matches
 unfoldable pub line_of : Query → List ℕ → Figures ℕ

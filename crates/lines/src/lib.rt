@@ -5,6 +5,6 @@ mod line;
 mod moves;
 mod run;
 
-pub use line::{LineTest, test_line};
+pub use line::test_line;
 pub use moves::advance;
-pub use run::{RunCount, count_run};
+pub use run::count_run;

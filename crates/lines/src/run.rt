@@ -1,20 +1,14 @@
 // The count over a plain run.
-ghost use Rattle.std.specs.Prelude.{◌<◌, ◌+◌, ◌≡◌};
+ghost use Rattle.std.specs.Prelude.{◌<◌, ◌+◌, ◌^◌, ◌≡◌};
 ghost use Rattle.pattern.specs.Reader.{read_pattern};
 ghost use Rattle.lines.specs.Answers.{run_figures, run_result};
-ghost use Rattle.lines.specs.Promises.{AfterKey, CountsRun};
+ghost use Rattle.lines.specs.Promises.{AfterKey, CountsRun, closed_tally};
 
 use crate::moves::advance;
 use letters::Case;
-use pattern::{Accepting, State, Verdict, read_pattern};
+use pattern::{State, Tables, read_pattern};
 use refusal::Refusal;
-use stateset::{chosen, meets};
-
-#[derive(Clone, Copy)]
-pub enum RunCount {
-    Lines(u64),
-    Refused(Refusal),
-}
+use stateset::meets;
 
 // What is known of a run after some of its keys.
 #[derive(Clone, Copy)]
@@ -29,60 +23,59 @@ struct Tally {
     lines: u64,
 }
 
-fn after_key(t: Tally, key: u8, keys: &[u64; 256], enter: &[u64; 32], a: Accepting) -> Tally
-    requires { t.lines + 1 < 18446744073709551616 }
-    ensures { AfterKey keys.now enter.now a t key result }
-{
-    if key == 10 {
+impl Tally {
+    // Before the first key of a line.
+    fn behind(lines: u64) -> Tally
+        ensures { result ≡ closed_tally lines }
+    {
         let start = State::LINE_START.set();
-        return Tally {
+        Tally {
             set: start,
             trimmed: start,
             pending: false,
-            lines: t.lines + chosen(meets(t.trimmed, a.accepting), 1),
-        };
+            lines,
+        }
     }
-    let set = advance(t.set, key, keys, enter, a);
-    let trimmed = if key == 13 { t.set } else { set };
-    Tally {
-        set: set,
-        trimmed: trimmed,
-        pending: true,
-        lines: t.lines,
+
+    // After one more key.
+    fn with_key(self, key: u8, tables: &Tables) -> Tally
+        requires { self.lines + 1 < 2 ^ 64 }
+        ensures { AfterKey tables.now self key result }
+    {
+        if key == b'\n' {
+            let closes = meets(self.trimmed, tables.accepting.accepting);
+            return Tally::behind(self.lines + u64::from(closes));
+        }
+        let set = advance(self.set, key, tables);
+        let trimmed = if key == b'\r' { self.set } else { set };
+        Tally {
+            set,
+            trimmed,
+            pending: true,
+            lines: self.lines,
+        }
     }
 }
 
-fn counted(run: &[u8], keys: &[u64; 256], enter: &[u64; 32], a: Accepting) -> RunCount
-    ensures { CountsRun keys.now enter.now a run.now result }
+fn counted(run: &[u8], tables: &Tables) -> Result<u64, Refusal>
+    ensures { CountsRun tables.now run.now result }
 {
-    let start = State::LINE_START.set();
-    let mut t = Tally {
-        set: start,
-        trimmed: start,
-        pending: false,
-        lines: 0,
-    };
-    let mut at = 0;
-    while at < run.len() {
-        let key = run[at];
+    let mut tally = Tally::behind(0);
+    for &key in run {
         if key == 0 {
-            return RunCount::Refused(Refusal::InvalidKey);
+            return Err(Refusal::InvalidKey);
         }
-        t = after_key(t, key, keys, enter, a);
-        at += 1;
+        tally = tally.with_key(key, tables);
     }
-    RunCount::Lines(t.lines + chosen(t.pending & meets(t.set, a.accepting), 1))
+    let last = tally.pending & meets(tally.set, tables.accepting.accepting);
+    Ok(tally.lines + u64::from(last))
 }
 
 // How many lines of a run match a pattern, with case ignored or not. Refused with 7, 8, 9 for the pattern, then with 5 for a byte 0 in the
 // run.
-pub fn count_run(pattern: &[u8], case: Case, run: &[u8]) -> RunCount
+pub fn count_run(pattern: &[u8], case: Case, run: &[u8]) -> Result<u64, Refusal>
     ensures { run_figures result ≡ run_result case (read_pattern pattern.now) run.now }
 {
-    let mut keys = [0; 256];
-    let mut enter = [0; 32];
-    match read_pattern(pattern, case, &mut keys, &mut enter) {
-        Verdict::Refused(r) => RunCount::Refused(r),
-        Verdict::Accepted(a) => counted(run, &keys, &enter, a),
-    }
+    let tables = read_pattern(pattern, case)?;
+    counted(run, &tables)
 }

@@ -2,30 +2,22 @@
 ghost use Rattle.std.specs.Prelude.{◌<◌, ◌≤◌};
 
 use letters::Case;
-use pattern::{Accepting, State, Verdict, read_pattern};
+use pattern::{Accepting, State, Tables, read_pattern};
 use refusal::code;
+use std::fmt::Display;
 
 // A write that fails is not said: the output is compared with what it must be.
 fn text(rt: &HostRuntime, s: &str) {
     let _ = rt.print(s);
 }
 
-fn number(rt: &HostRuntime, n: u64) {
-    let _ = rt.print(n);
-}
-
 fn named(rt: &HostRuntime, name: &str, n: u64) {
-    text(rt, name);
-    number(rt, n);
+    let _ = print!(rt; "{name}{n}");
 }
 
 // How many of the states are those of atoms.
 fn atoms(states: usize) -> usize {
-    let fixed = State::count(0);
-    if states < fixed {
-        return 0;
-    }
-    states - fixed
+    states.saturating_sub(State::count(0))
 }
 
 // Of the accepting states line-start stands lowest, and atoms from 8 on; of those that every key leads to found, line-start lowest.
@@ -41,12 +33,8 @@ fn accepting(rt: &HostRuntime, a: Accepting) {
 // The words of its states.
 fn entered(rt: &HostRuntime, enter: &[u64; 32], states: usize) {
     text(rt, "enter");
-    let mut q = 0;
-    while q < 32 {
-        if q < states {
-            named(rt, " ", enter[q]);
-        }
-        q += 1;
+    for word in enter.iter().take(states) {
+        named(rt, " ", *word);
     }
     text(rt, "\n");
 }
@@ -57,14 +45,10 @@ fn run_end(keys: &[u64; 256], k: usize) -> usize
     ensures { (k < result) × (result ≤ 256) }
 {
     let word = keys[k];
-    let mut end = k + 1;
-    while end < 256 {
-        if keys[end] != word {
-            return end;
-        }
-        end += 1;
-    }
-    end
+    keys[k + 1..]
+        .iter()
+        .position(|w| *w != word)
+        .map_or(256, |n| k + 1 + n)
 }
 
 // The words of the keys, in runs of equal ones.
@@ -84,19 +68,16 @@ fn keyed(rt: &HostRuntime, keys: &[u64; 256]) {
     text(rt, "\n");
 }
 
-pub(crate) fn case(rt: &HostRuntime, n: u64, s: &[u8]) {
-    let mut keys = [0; 256];
-    let mut enter = [0; 32];
-    number(rt, n);
-    match read_pattern(s, Case::Sensitive, &mut keys, &mut enter) {
-        Verdict::Accepted(a) => {
-            let states = a.states;
-            accepting(rt, a);
-            entered(rt, &enter, states);
-            keyed(rt, &keys);
+pub(crate) fn case(rt: &HostRuntime, n: usize, s: &[u8]) {
+    let _ = rt.print(n);
+    match read_pattern(s, Case::Sensitive) {
+        Ok(tables) => {
+            accepting(rt, tables.accepting);
+            entered(rt, &tables.enter, tables.accepting.states);
+            keyed(rt, &tables.keys);
         }
-        Verdict::Refused(r) => {
-            named(rt, ": refused ", code(r) as u64);
+        Err(refusal) => {
+            named(rt, ": refused ", u64::from(code(refusal)));
             text(rt, "\n");
         }
     }

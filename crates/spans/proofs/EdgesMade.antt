@@ -2,20 +2,15 @@
 use Prim.Native.Nat.{ℕ, ◌<◌}
 use native.Mathlib.Omega.{arith}
 use mathlib.Core.Path.{◌≡◌, refl, sym, ap, ◌∙◌}
-use mathlib.Core.Bool.{Bool, true, false, not, cond, ◌&&◌, ◌||◌, and-true, and-false}
+use mathlib.Core.Bool.{Bool, true, false, cond, ◌&&◌, ◌||◌, and-true, and-false}
 use lib.Bits.{bit_or}
 use lib.Dec.{eqb}
-use lib.ListN.{get_or}
 use Rattle.stateset.specs.Set.{bit, word, common}
 use Rattle.stateset.proofs.Sets.{word-ext, word_none, word-one, word-or}
 use Rattle.stateset.proofs.Some.{any-witness}
-use Rattle.pattern.specs.declared.automaton.Accepting.{Accepting}
 use Rattle.lines.specs.Moving.{start_set}
 use Rattle.spans.specs.declared.span.Span.{Span}
-use Rattle.spans.specs.Joining.{is_empty, leads_into, trims_joined, joined_edges, return_edges, seam, heads_across, closes_across}
-
-pub empty-told : (s : ℕ) (a : Span) {z : ℕ} {m : Bool} → z ≡ start_set → m ≡ common s (get_or a.rows 0 0) z → (not a.ended && m) ≡ is_empty s a
-empty-told s a z m = rw (m, z) refl
+use Rattle.spans.specs.Joining.{is_empty, leads_into, trims_joined, joined_edges}
 
 -- line-start alone, if b
 start-if : (s : ℕ) (b : Bool) → (b ≡ true → 0 < s) → cond b 1 0 ≡ word s (λ q. eqb 0 q && b)
@@ -35,13 +30,7 @@ module _ (s y : ℕ) (a : Span) where
       ∙ rw (z, m) (start-if s (common s a.tail y) some)
       ∙ ap (λ (x : Bool). word s (leads_into s y x a)) (sym e)
 
-  pub into-open : {r : ℕ} → a.ended ≡ false → r ≡ word s (λ q. common s (get_or a.rows q 0) y) → r ≡ word s (leads_into s y a.ended a)
-  into-open e r = r ∙ ap (λ (x : Bool). word s (leads_into s y x a)) (sym e)
-
 module _ (s : ℕ) (a b : Span) where
-  pub trims-right : {r : ℕ} → b.ended ≡ true → r ≡ word s (bit b.edges.trimmed) → r ≡ word s (trims_joined s b.ended a b)
-  trims-right e r = r ∙ ap (λ (x : Bool). word s (trims_joined s x a b)) (sym e)
-
   pub trims-both : {m : Bool} {w k l r : ℕ} → b.ended ≡ false → m ≡ is_empty s b → w ≡ word s (bit a.edges.trimmed) → k ≡ cond m w 0
       → l ≡ word s (leads_into s b.edges.trimmed a.ended a) → r ≡ bit_or l k → r ≡ word s (trims_joined s b.ended a b)
   trims-both e m w k l r =
@@ -54,26 +43,3 @@ module _ (s : ℕ) (a b : Span) where
       → record { trimmed = x; leading = a.edges.leading || (m && b.edges.leading); trailing = b.edges.trailing || (n && a.edges.trailing) } ≡ joined_edges s a b
   unfolding joined_edges
   edges-made x m n = rw (x, m, n) refl
-
-  -- the line across, by whether a CR and an LF meet
-  module _ {m : Bool} (met : m ≡ seam a b) where
-    heads-by : (x : Bool) {r : ℕ} → m ≡ x → r ≡ word s (λ q. cond x (bit a.edges.trimmed q) (common s (get_or a.rows q 0) b.heads)) → r ≡ word s (heads_across s a b)
-    heads-by x e r = r ∙ ap (λ (x : Bool). word s (λ q. cond x (bit a.edges.trimmed q) (common s (get_or a.rows q 0) b.heads))) (sym e ∙ met)
-
-    pub heads-seam : {r : ℕ} → m ≡ true → r ≡ word s (bit a.edges.trimmed) → r ≡ word s (heads_across s a b)
-    heads-seam = heads-by true
-
-    pub heads-apart : {r : ℕ} → m ≡ false → r ≡ word s (λ q. common s (get_or a.rows q 0) b.heads) → r ≡ word s (heads_across s a b)
-    heads-apart = heads-by false
-
-    closes_by : (x : Bool) {r : Bool} → m ≡ x → r ≡ cond x (common s a.edges.trimmed 1) (common s a.tail b.heads) → r ≡ closes_across s a b
-    closes_by x e r = r ∙ ap (λ (x : Bool). cond x (common s a.edges.trimmed 1) (common s a.tail b.heads)) (sym e ∙ met)
-
-    pub closes-seam : {r : Bool} {z : ℕ} → m ≡ true → z ≡ start_set → r ≡ common s a.edges.trimmed z → r ≡ closes_across s a b
-    closes-seam e z r = closes_by true e (r ∙ rw z refl)
-
-    pub closes-apart : {r : Bool} → m ≡ false → r ≡ common s a.tail b.heads → r ≡ closes_across s a b
-    closes-apart = closes_by false
-
-pub return-made : (s : ℕ) (p : Accepting) (a : Span) {l : ℕ} → l ≡ word s (leads_into s p.accepting a.ended a) → record { trimmed = l; leading = a.edges.leading; trailing = true } ≡ return_edges s p a
-return-made s p a l = rw l refl

@@ -7,8 +7,9 @@ use mathlib.Core.Bool.{Bool, true, false, cond, ◌&&◌, and-false}
 use mathlib.Core.List.{List}
 use lib.Dec.{ltb, eqb}
 use lib.Pow.{pow-lt}
-use lib.ListN.{length, get_or, set, replicate, get_or-eq_default}
+use lib.ListN.{length, get_or, set, take, replicate, get_or-eq_default}
 use lib.Seq.{ext_get_or}
+use Rattle.std.proofs.lemmas.List.{get_or-take, length-take-le}
 use lib.Bits.{bit_or}
 use mir.Val.{Fits}
 use mir.Syntax.{w64}
@@ -27,12 +28,6 @@ use Rattle.spans.specs.Spans.{rows_of}
 use Rattle.spans.specs.Joining.{state_count, onward}
 
 -- How many states there are.
-pub states-some : (s : ℕ) → s < 32 → s ≡ state_count s
-states-some s h = rw (lt-ltb s 32 h) refl
-
-pub states-most : (s : ℕ) → 32 ≤ s → 32 ≡ state_count s
-states-most s h = rw (le-ltb s 32 h) refl
-
 pub states-few : (s : ℕ) → state_count s ≤ 32
 states-few s = go (ltb s 32) refl
   where
@@ -88,22 +83,19 @@ module _ (s x : ℕ) (X : ℕ → Bool) (e : (r : ℕ) → r < s → bit x r ≡
       any-ext s (λ r. bit x r && bit (get_or (rows_of s Y) r 0) p) (λ r. X r && Y r p)
       (λ r l. rw (e r l, row_of s Y r l few, bit_word s (Y r) p h) refl)
 
--- Rows, one after the other: the first q of s are made.
-pub record Building (s : ℕ) (X : ℕ → ℕ → Bool) (rows : List ℕ) (q : ℕ) : Type 0 where
-  pub inside : q ≤ s
-  pub made : rows ≡ begun (λ k. word s (X k)) 32 q
-
+-- Rows, one after the other: those of the first q states are made.
 module _ (s : ℕ) (X : ℕ → ℕ → Bool) where
-  pub building-none : Building s X (replicate 32 0) 0
-  building-none = record { inside = omega arith; made = begun-none (λ k. word s (X k)) 32 }
+  abbrev pub Building : List ℕ → ℕ → Type 0
+  Building rows q = rows ≡ begun (λ k. word s (X k)) 32 q
 
-  module _ {rows : List ℕ} {q : ℕ} (i : Building s X rows q) where
-    pub building-more : {x : ℕ} → q < s → s ≤ 32 → x ≡ word s (X q) → Building s X (set rows q x) (q + 1)
-    building-more h l f =
-        record { inside = omega arith; made = rw (i.made, f) (begun_more (λ k. word s (X k)) 32 q (omega arith)) }
+  pub building-none : Building (replicate 32 0) 0
+  building-none = begun-none (λ k. word s (X k)) 32
 
-    pub building-done : s ≤ q → rows ≡ rows_of s X
-    building-done h = let d : q ≡ s = omega (arith, i.inside) in i.made ∙ ap (begun (λ k. word s (X k)) 32) d
+  pub building-more : {rows : List ℕ} {q x : ℕ} → Building rows q → q < s → s ≤ 32 → x ≡ word s (X q) → Building (set rows q x) (q + 1)
+  building-more {rows} {q} i h l f = rw (i, f) (begun_more (λ k. word s (X k)) 32 q (omega arith))
+
+  pub building-done : {rows : List ℕ} {q : ℕ} → Building rows q → s ≤ q → q ≤ s → rows ≡ rows_of s X
+  building-done {rows} {q} i g h = let d : q ≡ s = omega arith in i ∙ ap (begun (λ k. word s (X k)) 32) d
 
 -- the empty run's row of a state
 pub own_row : (s q : ℕ) {x : ℕ} → q < s → s ≤ 32 → x ≡ 2 ^ q % 2 ^ 64 → x ≡ word s (λ p. eqb q p)
@@ -142,53 +134,53 @@ module _ (s x : ℕ) (h : s ≤ 32) where
           ∙ any-ext s (step p) (λ q. bit x q && bit (get_or rows q 0) p) (λ q k. rw (bit_word s (bit x) q k))
 
 -- The states whose row has a state of y, one after the other: those below q are found.
-pub record Gathering (s : ℕ) (rows : List ℕ) (y heads q : ℕ) : Type 0 where
-  pub inside : q ≤ s
-  pub found : heads ≡ word q (λ k. common s (get_or rows k 0) y)
-
 module _ (s : ℕ) (rows : List ℕ) (y : ℕ) where
   -- whether a state's row has one
   abbrev meets_row : ℕ → Bool
   meets_row k = common s (get_or rows k 0) y
 
-  pub gathering-none : Gathering s rows y 0 0
-  gathering-none = record { inside = omega arith; found = gathered_none meets_row }
+  abbrev pub Gathering : ℕ → ℕ → Type 0
+  Gathering heads q = heads ≡ word q meets_row
 
-  module _ {heads q : ℕ} (i : Gathering s rows y heads q) where
-    pub gathering-more : {v o r : ℕ} {b : Bool} → q < s → s ≤ 32 → b ≡ common s (get_or rows q 0) y → o ≡ 2 ^ q % 2 ^ 64 → v ≡ cond b o 0 → r ≡ bit_or heads v → Gathering s rows y r (q + 1)
-    gathering-more h l e f g j =
-        let low : q < 64 = omega arith in
-        record { inside = omega arith; found = rw (j, g, f, e, i.found, mod-eq_of_lt (pow-lt low)) (gathered-more meets_row q) }
+  pub gathering-none : Gathering 0 0
+  gathering-none = gathered_none meets_row
 
-    pub gathering-done : s ≤ q → heads ≡ word s (λ k. common s (get_or rows k 0) y)
-    gathering-done h = let d : q ≡ s = omega (arith, i.inside) in i.found ∙ ap (λ (k : ℕ). word k meets_row) d
+  pub gathering-more : {heads q v o r : ℕ} {b : Bool} → Gathering heads q → q < s → s ≤ 32 → b ≡ common s (get_or rows q 0) y → o ≡ 2 ^ q % 2 ^ 64 → v ≡ cond b o 0 → r ≡ bit_or heads v → Gathering r (q + 1)
+  gathering-more {q = q} i h l e f g j =
+      let low : q < 64 = omega arith in
+      rw (j, g, f, e, i, mod-eq_of_lt (pow-lt low)) (gathered-more meets_row q)
 
--- The members of rows, one row after the other: those of the first q rows are counted. A row has no more than 32.
+-- The states of rows, one row after the other: those of the first q rows are counted. A row has no more than 32.
 pub record Summing (s : ℕ) (rows : List ℕ) (sum q : ℕ) : Type 0 where
-  pub inside : q ≤ s
   pub small : sum ≤ q * 32
   pub counted : sum ≡ sum_below q (λ k. count_below s (bit (get_or rows k 0)))
 
 module _ (s : ℕ) (rows : List ℕ) where
   pub summing-none : Summing s rows 0 0
-  summing-none = record { inside = omega arith; small = omega arith; counted = sym (sum-none (λ k. count_below s (bit (get_or rows k 0)))) }
+  summing-none = record { small = omega arith; counted = sym (sum-none (λ k. count_below s (bit (get_or rows k 0)))) }
 
-  module _ {sum q : ℕ} (i : Summing s rows sum q) (l : s ≤ 32) {k : ℕ} (h : q < s) {w : ℕ} (e : w ≡ word s (bit (get_or rows q 0))) (f : k ≡ count_below 64 (bit w)) where
-    this : k ≡ count_below s (bit (get_or rows q 0))
-    this = size-made s (get_or rows q 0) l e f
+  -- s rows of 32 are gone through
+  module _ (few : s ≤ 32) (long : length rows ≡ 32) {sum q : ℕ} (i : Summing s rows sum q) where
+    part-long : length (take s rows) ≡ s
+    part-long = length-take-le s rows (omega arith)
 
-    pub summing-room : Fits w64 (sum + k)
-    summing-room = omega (arith, i.small, this, count-le s (bit (get_or rows q 0)))
+    module _ {k w : ℕ} (h : q < length (take s rows)) (e : w ≡ word s (bit (get_or (take s rows) q 0))) (f : k ≡ count_below 64 (bit w)) where
+      this : k ≡ count_below s (bit (get_or rows q 0))
+      this =
+          let inside : q < s = omega (arith, part-long) in
+          size-made s (get_or (take s rows) q 0) few e f ∙ ap (λ (x : ℕ). count_below s (bit x)) (get_or-take s rows q 0 inside)
 
-    pub summing-more : Summing s rows (sum + k) (q + 1)
-    summing-more =
-        record {
-          inside = omega arith;
-          small = omega (arith, i.small, this, count-le s (bit (get_or rows q 0)));
-          counted = rw (i.counted, this) (sym (sum_more q (λ k. count_below s (bit (get_or rows k 0)))));
-        }
+      pub summing-room : Fits w64 (sum + k)
+      summing-room = omega (arith, i.small, part-long, this, count-le s (bit (get_or rows q 0)))
 
-  pub summing-done : {sum q : ℕ} → Summing s rows sum q → s ≤ q → sum ≡ sum_below s (λ k. count_below s (bit (get_or rows k 0)))
-  summing-done {q = q} i h =
-      let d : q ≡ s = omega (arith, i.inside) in
-      i.counted ∙ ap (λ (k : ℕ). sum_below k (λ k. count_below s (bit (get_or rows k 0)))) d
+      pub summing-more : Summing s rows (sum + k) (q + 1)
+      summing-more =
+          record {
+            small = omega (arith, i.small, this, count-le s (bit (get_or rows q 0)));
+            counted = rw (i.counted, this) (sym (sum_more q (λ k. count_below s (bit (get_or rows k 0)))));
+          }
+
+    pub summing-done : length (take s rows) ≤ q → q ≤ length (take s rows) → sum ≡ sum_below s (λ k. count_below s (bit (get_or rows k 0)))
+    summing-done g h =
+        let d : q ≡ s = omega (arith, part-long) in
+        i.counted ∙ ap (λ (k : ℕ). sum_below k (λ k. count_below s (bit (get_or rows k 0)))) d

@@ -1,30 +1,28 @@
 // The lines that a span's two ends count.
-ghost use Rattle.std.specs.Prelude.{◌≤◌, ◌≡◌};
+ghost use Rattle.std.specs.Prelude.{◌≡◌};
 ghost use Rattle.spans.specs.Joining.{end_lines, last_line};
 
-use crate::rows::{meeting, state_count};
+use crate::rows::States;
 use crate::span::Span;
 use pattern::{Accepting, State};
-use stateset::chosen;
 
 // Whether the last part of a run is a line that matches: it has a key, so that its states have left line-start.
-fn last_line(s: u64, tail: u64, p: Accepting) -> bool
-    requires { s ≤ 32 }
-    ensures { result ≡ last_line s p tail }
+fn last_line(states: States, tail: u64, p: Accepting) -> bool
+    ensures { result ≡ last_line states.count p tail }
 {
-    let open = !meeting(s, tail, State::LINE_START.set());
-    open & meeting(s, tail, p.accepting)
+    let open = !states.meeting(tail, State::LINE_START.set());
+    open & states.meeting(tail, p.accepting)
 }
 
 // How many lines match that are not closed between the first line end and the last: the first line and the last, or the one that is both.
 pub fn end_lines(a: Span, p: Accepting) -> u64
     ensures { result ≡ end_lines p a }
 {
-    let s = state_count(a.s);
+    let states = States::new(a.s);
     if a.ended {
-        let first = chosen(meeting(s, a.heads, State::LINE_START.set()), 1);
-        return first + chosen(last_line(s, a.tail, p), 1);
+        let first = states.meeting(a.heads, State::LINE_START.set());
+        let last = last_line(states, a.tail, p);
+        return u64::from(first) + u64::from(last);
     }
-    let rows = a.rows;
-    chosen(last_line(s, rows[0], p), 1)
+    u64::from(last_line(states, a.rows[0], p))
 }

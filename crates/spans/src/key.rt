@@ -4,33 +4,33 @@ ghost use Rattle.spans.specs.Joining.{end_span, extended_span, moved_span, moved
 
 use crate::edges::{key_edges, return_edges};
 use crate::joining::join_spans;
-use crate::rows::{moved, moved_rows, state_count};
+use crate::rows::States;
 use crate::span::{Edges, JoinedSpan, Span, ended_span, open_span, with_edges};
-use pattern::{Accepting, State};
-use stateset::within;
+use pattern::{Accepting, State, Tables};
 
 // The states that a key which is no line end leads to; the edges are left.
-fn moved_states(a: Span, key: u8, keys: &[u64; 256], enter: &[u64; 32], p: Accepting) -> Span
-    ensures { result ≡ moved_states keys.now enter.now p a key }
+fn moved_states(a: Span, key: u8, tables: &Tables) -> Span
+    ensures { result ≡ moved_states tables.now.keys tables.now.enter tables.now.accepting a key }
 {
-    let s = state_count(a.s);
-    let edges = a.edges;
+    let states = States::new(a.s);
     if a.ended {
-        let tail = moved(s, a.tail, key, keys, enter, p);
-        return ended_span(s, within(s, a.heads), tail, edges);
+        let tail = states.moved(a.tail, key, tables);
+        return ended_span(states.count, states.within(a.heads), tail, a.edges);
     }
-    let rows = a.rows;
-    open_span(s, moved_rows(s, &rows, key, keys, enter, p), edges)
+    open_span(
+        states.count,
+        states.moved_rows(&a.rows, key, tables),
+        a.edges,
+    )
 }
 
 // A key that is no line end: the states behind it, and the edges, which a CR takes from the states before it.
-fn moved_span(a: Span, key: u8, keys: &[u64; 256], enter: &[u64; 32], p: Accepting) -> Span
-    ensures { result ≡ moved_span keys.now enter.now p a key }
+fn moved_span(a: Span, key: u8, tables: &Tables) -> Span
+    ensures { result ≡ moved_span tables.now.keys tables.now.enter tables.now.accepting a key }
 {
-    let s = state_count(a.s);
-    let on = moved_states(a, key, keys, enter, p);
-    if key == 13 {
-        return with_edges(on, return_edges(s, a, p));
+    let on = moved_states(a, key, tables);
+    if key == b'\r' {
+        return with_edges(on, return_edges(States::new(a.s), a, tables.accepting));
     }
     with_edges(on, key_edges(a))
 }
@@ -39,30 +39,18 @@ fn moved_span(a: Span, key: u8, keys: &[u64; 256], enter: &[u64; 32], p: Accepti
 fn end_span(s: u64, p: Accepting) -> Span
     ensures { result ≡ end_span s p }
 {
-    let edges = Edges {
-        trimmed: 0,
-        leading: true,
-        trailing: false,
-    };
-    ended_span(s, p.accepting, State::LINE_START.set(), edges)
+    ended_span(s, p.accepting, State::LINE_START.set(), Edges::LINE_END)
 }
 
 // The span of a run with one key more, and whether that closes a line between two line ends which matches.
-pub fn extended_span(
-    a: Span,
-    key: u8,
-    keys: &[u64; 256],
-    enter: &[u64; 32],
-    p: Accepting,
-) -> JoinedSpan
-    ensures { result ≡ extended_span keys.now enter.now p a key }
+pub fn extended_span(a: Span, key: u8, tables: &Tables) -> JoinedSpan
+    ensures { result ≡ extended_span tables.now.keys tables.now.enter tables.now.accepting a key }
 {
-    if key == 10 {
-        return join_spans(a, end_span(a.s, p));
+    if key == b'\n' {
+        return join_spans(a, end_span(a.s, tables.accepting));
     }
-    let span = moved_span(a, key, keys, enter, p);
     JoinedSpan {
-        span: span,
+        span: moved_span(a, key, tables),
         closes: false,
     }
 }

@@ -1,9 +1,9 @@
 // Spans of runs.
 ghost use Rattle.std.specs.Prelude.{◌≡◌, false, true};
 ghost use Rattle.spans.specs.Spans.{no_rows};
-ghost use Rattle.spans.specs.Joining.{empty_span, no_edges, with_edges};
+ghost use Rattle.spans.specs.Joining.{empty_span, with_edges};
 
-use crate::rows::state_count;
+use crate::rows::States;
 use stateset::only;
 
 // How a run begins and ends (document 02, S-4): a CR directly before an LF is part of the line end, also where two runs meet.
@@ -42,17 +42,32 @@ pub struct JoinedSpan {
     pub closes: bool,
 }
 
+impl Edges {
+    // Neither a line end at the start nor a CR at the end.
+    pub(crate) const NONE: Edges = Edges {
+        trimmed: 0,
+        leading: false,
+        trailing: false,
+    };
+    // Those of a line end alone.
+    pub(crate) const LINE_END: Edges = Edges {
+        trimmed: 0,
+        leading: true,
+        trailing: false,
+    };
+}
+
 // A run without a line end.
 pub(crate) fn open_span(s: u64, rows: [u64; 32], edges: Edges) -> Span
     ensures { result ≡ record { s = s; rows = rows; ended = false; heads = 0; tail = 0; edges = edges } }
 {
     Span {
-        s: s,
-        rows: rows,
+        s,
+        rows,
         ended: false,
         heads: 0,
         tail: 0,
-        edges: edges,
+        edges,
     }
 }
 
@@ -60,14 +75,13 @@ pub(crate) fn open_span(s: u64, rows: [u64; 32], edges: Edges) -> Span
 pub(crate) fn ended_span(s: u64, heads: u64, tail: u64, edges: Edges) -> Span
     ensures { result ≡ record { s = s; rows = no_rows; ended = true; heads = heads; tail = tail; edges = edges } }
 {
-    let rows = [0; 32];
     Span {
-        s: s,
-        rows: rows,
+        s,
+        rows: [0; 32],
         ended: true,
-        heads: heads,
-        tail: tail,
-        edges: edges,
+        heads,
+        tail,
+        edges,
     }
 }
 
@@ -75,40 +89,14 @@ pub(crate) fn ended_span(s: u64, heads: u64, tail: u64, edges: Edges) -> Span
 pub(crate) fn with_edges(a: Span, edges: Edges) -> Span
     ensures { result ≡ with_edges edges a }
 {
-    let rows = a.rows;
-    Span {
-        s: a.s,
-        rows: rows,
-        ended: a.ended,
-        heads: a.heads,
-        tail: a.tail,
-        edges: edges,
-    }
-}
-
-// Neither an LF at the start nor a CR at the end.
-fn no_edges() -> Edges
-    ensures { result ≡ no_edges }
-{
-    Edges {
-        trimmed: 0,
-        leading: false,
-        trailing: false,
-    }
+    Span { edges, ..a }
 }
 
 // The empty run: each of s states is reached from itself.
 pub fn empty_span(s: u64) -> Span
     ensures { result ≡ empty_span s }
 {
-    let count = state_count(s);
-    let n = count as usize;
-    let mut rows = [0; 32];
-    let mut q = 0;
-    while q < n {
-        rows[q] = only(q as u32);
-        q += 1;
-    }
-    let edges = no_edges();
-    open_span(count, rows, edges)
+    let states = States::new(s);
+    let rows = states.each_row(|q| only(q as u32));
+    open_span(states.count, rows, Edges::NONE)
 }

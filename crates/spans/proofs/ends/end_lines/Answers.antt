@@ -1,9 +1,6 @@
 -- `ends::end_lines`: the first line and the last, or the one that is both.
-use Rattle.spans.proofs.Made.{ends-room, ends-both, ends-one}
+use Rattle.spans.proofs.Made.{ends-both, ends-one}
 use Rattle.spans.proofs.ends.end_lines.Goals as goal
-
-pub overflow_add-result : goal.overflow_add-result
-overflow_add-result c = search (ends-room)
 
 pub returns-then-a : goal.returns-then-a
 returns-then-a c = search (ends-both)

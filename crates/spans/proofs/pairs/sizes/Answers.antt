@@ -1,19 +1,15 @@
--- `pairs::sizes`: the members of the first q rows are counted.
-use native.Mathlib.Omega.{arith}
+-- `pairs::sizes`: the states of the rows so far are counted.
 use Rattle.spans.proofs.RowLaws.{summing-none, summing-room, summing-more, summing-done}
 use Rattle.spans.proofs.pairs.sizes.Goals as goal
 
-pub loop-q-init : goal.loop-q-init
-loop-q-init c = search (summing-none)
+pub loop-row-init : goal.loop-row-init
+loop-row-init c = search (summing-none)
 
 pub overflow_add-sum : goal.overflow_add-sum
 overflow_add-sum c = search (summing-room)
 
-pub loop-q-smaller : goal.loop-q-smaller
-loop-q-smaller c = omega arith
-
-pub loop-q-preserved : goal.loop-q-preserved
-loop-q-preserved c = search (summing-more)
+pub loop-row-preserved : goal.loop-row-preserved
+loop-row-preserved c = search (summing-more)
 
 pub returns : goal.returns
-returns c = let a = c.args in summing-done a.s a.rows.now c.loop-q.invariant (omega arith)
+returns c = summing-done c.args.states.count c.args.rows.now c.args.states.few c.told-rows c.loop-row.invariant c.loop-row-test.false c.loop-row.auto.row-index-end

@@ -1,10 +1,6 @@
--- `pairs::sizes`: the members of the first q rows are counted.
-use Prim.Native.Nat.{◌-◌}
+-- `pairs::sizes`: the states of the rows so far are counted.
 use Rattle.spans.proofs.RowLaws.{Summing}
 use Rattle.spans.proofs.pairs.sizes.Given as goal
 
-abbrev pub invariant-loop-q : goal.invariant-loop-q
-invariant-loop-q l = Summing l.s l.rows l.sum l.q
-
-abbrev pub decreases-loop-q : goal.decreases-loop-q
-decreases-loop-q l = l.n - l.q
+abbrev pub invariant-loop-row : goal.invariant-loop-row
+invariant-loop-row l = Summing l.states.count l.rows l.sum l.row-index

@@ -1,6 +1,0 @@
--- `rows::onward_from`: the image, cut to the states of the pattern.
-use Rattle.spans.proofs.RowLaws.{onward-made}
-use Rattle.spans.proofs.rows.onward_from.Goals as goal
-
-pub returns : goal.returns
-returns c = search (onward-made)
