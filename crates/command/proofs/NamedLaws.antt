@@ -5,7 +5,7 @@ use mathlib.Core.List.{List}
 use mathlib.Core.Option.{none, some}
 use lib.ListN.{replicate}
 use Rattle.letters.specs.declared.Case.{Case}
-use Rattle.decimals.specs.declared.number.Number.{Number}
+use Rattle.std.specs.Prelude.{Option, None, Some}
 use Rattle.decimals.specs.Decimals.{decimal, number_in}
 use Rattle.book.specs.Reading.{read_book, version_in}
 use Rattle.pattern.specs.Reader as reader
@@ -20,13 +20,13 @@ pub asked-alike : (c : Case) (v : ℕ) (b : List ℕ) (p : reader.Read) (n : ℕ
 asked-alike c v b p n work = number_small (λ k. count_result c v (read_book b) p (min n 1024) work ≡ count_result c v (read_book b) p k work) (λ i j g h e. e ∙ beyond-alike c v b p i j work g h) n refl
 
 -- What is told of the macro that a text names.
-module _ (c : Case) (book pattern text : List ℕ) {a : Number} (e : a ≡ number_in text) where
-  pub named-told : {t : Told} {m : ℕ} → a ≡ Number.Value m → t ≡ macro_answer c book pattern m → some t ≡ named_answer c book pattern text
+module _ (c : Case) (book pattern text : List ℕ) {a : Option ℕ} (e : a ≡ number_in text) where
+  pub named-told : {t : Told} {m : ℕ} → a ≡ Some m → t ≡ macro_answer c book pattern m → some t ≡ named_answer c book pattern text
   unfolding named_answer macro_answer
   named-told {t} {m} f g =
       let (is, number) = number-value text e f in
       rw is (ap some (g ∙ rw number (ap (λ (o : Outcome). told o) (asked-alike c (version_in book) book (reader.read_pattern pattern) (decimal text) (replicate most_words 0)))))
 
-  pub named_none : a ≡ Number.Malformed → none ≡ named_answer c book pattern text
+  pub named_none : a ≡ None → none ≡ named_answer c book pattern text
   unfolding named_answer
   named_none f = rw (number-none text e f) refl

@@ -7,7 +7,7 @@ ghost use Rattle.command.specs.Reads.{LastAnswers, NamedAnswers};
 use crate::buffer::{BOOK_READ, PATTERN_READ, PatternInput, read_part};
 use crate::last::last_in;
 use counter::{BookCount, MOST_WORDS, count_book};
-use decimals::{Number, number_in};
+use decimals::number_in;
 use letters::Case;
 
 // The count of the macro that a text names; or the text is no number.
@@ -30,8 +30,8 @@ fn named_in(book: &[u8], pattern: &[u8], case: Case, text: &[u8]) -> NamedCount
     ensures { told_named result ≡ named_answer case book.now pattern.now text.now }
 {
     match number_in(text) {
-        Number::Value(m) => NamedCount::Count(count_macro(book, pattern, case, m)),
-        Number::Malformed => NamedCount::NoNumber,
+        Some(m) => NamedCount::Count(count_macro(book, pattern, case, m)),
+        None => NamedCount::NoNumber,
     }
 }
 

@@ -5,12 +5,12 @@ use native.Mathlib.Omega.{arith}
 use native.Mathlib.Numerals.{add-one}
 use mathlib.Core.Path.{◌≡◌, refl, sym, ap, ◌∙◌}
 use mathlib.Core.Bool.{Bool, true, false, not, cond, ◌&&◌}
+use Rattle.std.specs.Prelude.{Option, None, Some}
 use mathlib.Core.List.{List, [], ◌∷◌}
-use lib.Dec.{leb}
+use lib.Dec.{leb, eqb}
 use lib.ListN.{length, get_or, drop, drop_of_length-le}
 use lib.Seq.{drop-cons}
-use borrow.Author.Tests.{leb-true, leb-false, not-true, not-false}
-use Rattle.decimals.specs.declared.number.Number.{Number}
+use borrow.Author.Tests.{leb-true, leb-false, eqb-true, eqb-false, not-true, not-false}
 use Rattle.decimals.specs.Decimals.{is_digit, all_digits, is_number, decimal, number_in}
 use Rattle.runs.proofs.Tests.{clash, either}
 
@@ -66,69 +66,92 @@ number-capped v w = go (leb v 1024) refl
     go true l = let h = leb-true v 1024 l in let same : min v 1024 ≡ v = omega arith in rw same refl
     go false l = let h = leb-false v 1024 l in let top : min v 1024 ≡ 1024 = omega arith in omega (arith, number-grows v w, number-grows (min v 1024) w)
 
--- The bytes before `at` are digits, and write n.
-pub record Written (w : List ℕ) (at n : ℕ) : Type 0 where
-  pub some : 1 ≤ length w
-  pub small : n ≤ 1024
-  pub inside : at ≤ length w
-  pub digits : all_digits w ≡ all_digits (drop at w)
-  pub number : min (decimal w) 1024 ≡ min (number_from n (drop at w)) 1024
+-- A text with no byte is no number.
+pub empty-text : (w : List ℕ) {b : Bool} → b ≡ eqb (length w) 0 → b ≡ true → is_number w ≡ false
+empty-text [] e f = refl
+empty-text (c ∷ w) e f = absurd (omega (arith, eqb-true (length (c ∷ w)) 0 (sym e ∙ f)))
 
-pub written_none : (w : List ℕ) → (length w ≡ 0 → ⊥) → Written w 0 0
-written_none w h = record { some = omega (arith, h); small = omega arith; inside = omega arith; digits = refl; number = ap (λ (x : ℕ). min x 1024) (sym (number-zero w)) }
-
-pub nothing_written : (w : List ℕ) → length w ≡ 0 → Number.Malformed ≡ number_in w
-unfolding number_in
-nothing_written [] h = refl
-nothing_written (c ∷ w) h = absurd (omega (arith, h))
+pub some-text : (w : List ℕ) {b : Bool} → b ≡ eqb (length w) 0 → b ≡ false → 1 ≤ length w
+some-text w e f = omega (arith, eqb-false (length w) 0 (sym e ∙ f))
 
 -- where there is a byte, a number is digits
-pub is-number : (w : List ℕ) → 1 ≤ length w → is_number w ≡ all_digits w
+is-number : (w : List ℕ) → 1 ≤ length w → is_number w ≡ all_digits w
 is-number [] h = absurd (omega (arith, h))
 is-number (c ∷ w) h = refl
 
+-- The bytes before `at` are digits.
+pub record Digits (w : List ℕ) (at : ℕ) : Type 0 where
+  pub some : 1 ≤ length w
+  pub inside : at ≤ length w
+  pub digits : all_digits w ≡ all_digits (drop at w)
+
+pub digits_none : (w : List ℕ) → 1 ≤ length w → Digits w 0
+digits_none w h = record { some = h; inside = omega arith; digits = refl }
+
+module _ {w : List ℕ} {at : ℕ} (x : Digits w at) where
+  module _ (h : at < length w) where
+    pub rest : drop at w ≡ get_or w at 0 ∷ drop (at + 1) w
+    rest = drop-cons w at 0 h ∙ rw (add-one at) refl
+
+    first : {b : Bool} → is_digit (get_or w at 0) ≡ b → all_digits w ≡ (b && all_digits (drop (at + 1) w))
+    unfolding all_digits
+    first e = x.digits ∙ ap all_digits rest ∙ rw e refl
+
+    pub digits-more : {b : Bool} → b ≡ is_digit (get_or w at 0) → not b ≡ false → Digits w (at + 1)
+    digits-more {b} e t = record { some = x.some; inside = omega arith; digits = first (sym e ∙ not-false b t) }
+
+    pub digits-bad : {b : Bool} → b ≡ is_digit (get_or w at 0) → not b ≡ true → is_number w ≡ false
+    digits-bad {b} e t = is-number w x.some ∙ first (sym e ∙ not-true b t)
+
+  pub digits-all : length w ≤ at → is_number w ≡ true
+  unfolding all_digits
+  digits-all h = is-number w x.some ∙ x.digits ∙ ap all_digits (drop_of_length-le w h)
+
+-- They write n.
+pub record Written (w : List ℕ) (at n : ℕ) : Type 0 where
+  pub digits : Digits w at
+  pub small : n ≤ 1024
+  pub number : min (decimal w) 1024 ≡ min (number_from n (drop at w)) 1024
+
+pub written_none : (w : List ℕ) → 1 ≤ length w → Written w 0 0
+written_none w h = record { digits = digits_none w h; small = omega arith; number = ap (λ (x : ℕ). min x 1024) (sym (number-zero w)) }
+
+pub nothing_written : (w : List ℕ) → is_number w ≡ false → None ≡ number_in w
+unfolding number_in
+nothing_written w e = rw e refl
+
 module _ {w : List ℕ} {at n : ℕ} (x : Written w at n) where
   pub written-more : {b : Bool} {r : ℕ} → at < length w → b ≡ is_digit (get_or w at 0) → not b ≡ false → r ≡ min (10 * n + (get_or w at 0 - 48)) 1024 → Written w (at + 1) r
-  unfolding all_digits number_from
+  unfolding number_from
   written-more {b} {r} h e t f =
       let c = get_or w at 0 in
-      let rest : drop at w ≡ c ∷ drop (at + 1) w = drop-cons w at 0 h ∙ rw (add-one at) refl in
       record {
-        some = x.some;
+        digits = digits-more x.digits h e t;
         small = omega (arith, f);
-        inside = omega arith;
-        digits = x.digits ∙ ap all_digits rest ∙ rw (sym e, not-false b t) refl;
-        number = x.number ∙ ap (λ (v : List ℕ). min (number_from n v) 1024) rest ∙ sym (number-capped (10 * n + (c - 48)) (drop (at + 1) w)) ∙ ap (λ (v : ℕ). min (number_from v (drop (at + 1) w)) 1024) (sym f);
+        number = x.number ∙ ap (λ (v : List ℕ). min (number_from n v) 1024) (rest x.digits h) ∙ sym (number-capped (10 * n + (c - 48)) (drop (at + 1) w)) ∙ ap (λ (v : ℕ). min (number_from v (drop (at + 1) w)) 1024) (sym f);
       }
 
-  pub written-bad : {b : Bool} → at < length w → b ≡ is_digit (get_or w at 0) → not b ≡ true → Number.Malformed ≡ number_in w
-  unfolding all_digits number_in
-  written-bad {b} h e t =
-      let none : all_digits w ≡ false = x.digits ∙ ap all_digits (drop-cons w at 0 h) ∙ rw (sym e, not-true b t) refl in
-      rw (is-number w x.some, none) refl
-
-  pub written_all : length w ≤ at → Number.Value n ≡ number_in w
-  unfolding all_digits number_from number_in
+  pub written_all : length w ≤ at → Some n ≡ number_in w
+  unfolding number_from number_in
   written_all h =
-      let all : all_digits w ≡ true = x.digits ∙ ap all_digits (drop_of_length-le w h) in
       let value : min (decimal w) 1024 ≡ n = x.number ∙ ap (λ (v : List ℕ). min (number_from n v) 1024) (drop_of_length-le w h) ∙ omega (arith, x.small) in
-      rw (is-number w x.some, all, value) refl
+      rw (digits-all x.digits h, value) refl
 
 -- What a number that was read says of the text.
-module _ (w : List ℕ) {a : Number} (e : a ≡ number_in w) where
-  pub number-value : {n : ℕ} → a ≡ Number.Value n → (is_number w ≡ true) × (n ≡ min (decimal w) 1024)
+module _ (w : List ℕ) {a : Option ℕ} (e : a ≡ number_in w) where
+  pub number-value : {n : ℕ} → a ≡ Some n → (is_number w ≡ true) × (n ≡ min (decimal w) 1024)
   unfolding number_in
   number-value {n} f = go (is_number w) (sym f ∙ e)
     where
-      go : (b : Bool) → Number.Value n ≡ cond b (Number.Value (min (decimal w) 1024)) Number.Malformed → (b ≡ true) × (n ≡ min (decimal w) 1024)
+      go : (b : Bool) → Some n ≡ cond b (Some (min (decimal w) 1024)) None → (b ≡ true) × (n ≡ min (decimal w) 1024)
       go true h = (refl, cc)
       go false h = clash (cc)
 
-  pub number-none : a ≡ Number.Malformed → is_number w ≡ false
+  pub number-none : a ≡ None → is_number w ≡ false
   unfolding number_in
   number-none f = go (is_number w) (sym f ∙ e)
     where
-      go : (b : Bool) → Number.Malformed ≡ cond b (Number.Value (min (decimal w) 1024)) Number.Malformed → b ≡ false
+      go : (b : Bool) → None ≡ cond b (Some (min (decimal w) 1024)) None → b ≡ false
       go true h = clash (cc)
       go false h = refl
 

@@ -1,5 +1,5 @@
 -- Laws of texts in a buffer.
-use Prim.Native.Nat.{ℕ, ◌+◌, ◌-◌, ◌<◌, ◌≤◌}
+use Prim.Native.Nat.{ℕ, ◌+◌, ◌-◌, ◌≤◌}
 use native.Mathlib.Nat.{add_assoc}
 use native.Mathlib.Omega.{arith}
 use mathlib.Core.Path.{◌≡◌, refl, sym, ap, ◌∙◌}
@@ -8,7 +8,7 @@ use mathlib.Core.List.{List, [], ◌++◌, append_assoc}
 use lib.Dec.{leb}
 use lib.ListN.{length, take, drop, length-append}
 use lib.Seq.{paste, take-append_seam, drop-append-add, drop-drop, take-length, length-paste, take-paste, drop-paste}
-use borrow.Author.Tests.{le-leb, lt-leb, leb-true}
+use borrow.Author.Tests.{le-leb, leb-true}
 use Rattle.io.specs.Digits.{IsDigitCount}
 use Rattle.io.specs.Digits as io
 use Rattle.decimals.specs.Decimals.{numeral}
@@ -17,17 +17,8 @@ use Rattle.runs.specs.Kept.{over}
 use Rattle.runs.proofs.KeptLaws.{over-length}
 use Rattle.decimals.specs.Texts.{put_at, place_after}
 
--- What `put_text` answers, by the room there is.
+-- A text that there is room for.
 module _ (out : List ℕ) (at : ℕ) (w : List ℕ) where
-  module _ (short : length out < at + length w) where
-    put-short : out ≡ put_at out at w
-    unfolding put_at
-    put-short = rw (lt-leb (at + length w) (length out) short) refl
-
-    place_short : at ≡ place_after out at w
-    unfolding place_after
-    place_short = rw (lt-leb (at + length w) (length out) short) refl
-
   module _ (room : at + length w ≤ length out) where
     put_all : paste out at w (length w) ≡ put_at out at w
     unfolding put_at
@@ -37,29 +28,12 @@ module _ (out : List ℕ) (at : ℕ) (w : List ℕ) where
     unfolding place_after
     place-all = rw (le-leb (at + length w) (length out) room) refl
 
-  -- the place is behind the buffer
-  module _ (far : length out < at) where
-    pub put-beyond : out ≡ put_at out at w
-    put-beyond = put-short (omega arith)
+  module _ (near : at ≤ length out) (enough : length w ≤ length out - at) where
+    pub put-copied : {new : List ℕ} → new ≡ paste out at w (length w) → new ≡ put_at out at w
+    put-copied e = e ∙ put_all (omega arith)
 
-    pub place-beyond : at ≡ place_after out at w
-    place-beyond = place_short (omega arith)
-
-  -- the place is inside
-  module _ (near : at ≤ length out) where
-    module _ (few : length out - at < length w) where
-      pub put-none : out ≡ put_at out at w
-      put-none = put-short (omega arith)
-
-      pub place_none : at ≡ place_after out at w
-      place_none = place_short (omega arith)
-
-    module _ (enough : length w ≤ length out - at) where
-      pub put-copied : {new : List ℕ} → new ≡ paste out at w (length w) → new ≡ put_at out at w
-      put-copied e = e ∙ put_all (omega arith)
-
-      pub place-copied : at + length w ≡ place_after out at w
-      place-copied = place-all (omega arith)
+    pub place-copied : at + length w ≡ place_after out at w
+    place-copied = place-all (omega arith)
 
 -- a buffer stays as long as it was
 pub put-length : (out : List ℕ) (at : ℕ) (w : List ℕ) → length (put_at out at w) ≡ length out

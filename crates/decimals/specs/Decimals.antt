@@ -1,7 +1,5 @@
 -- Numbers in decimal digits.
-use Rattle.std.specs.Prelude.{ℕ, zero, suc, ◌+◌, ◌-◌, ◌*◌, ◌/◌, ◌%◌, ◌^◌, min, Bool, true, false, ◌&&◌, cond, List, [], ◌∷◌, ◌++◌, leb, ltb, length}
-use Rattle.decimals.specs.declared.number.Number.{Number}
-use Rattle.decimals.specs.declared.wide.Wide.{Wide}
+use Rattle.std.specs.Prelude.{ℕ, zero, suc, ◌+◌, ◌-◌, ◌*◌, ◌/◌, ◌%◌, ◌^◌, min, Bool, true, false, ◌&&◌, cond, Option, None, Some, List, [], ◌∷◌, ◌++◌, leb, ltb, length}
 
 unfoldable pub is_digit : ℕ → Bool
 is_digit c = leb 48 c && leb c 57
@@ -21,18 +19,18 @@ decimal [] = 0
 decimal (c ∷ w) = (c - 48) * 10 ^ length w + decimal w
 
 -- the number that a text writes, where 1,024 stands for all from there on: no book has a macro of such a number
-unfoldable pub number_in : List ℕ → Number
-number_in w = cond (is_number w) (Number.Value (min (decimal w) 1024)) Number.Malformed
+unfoldable pub number_in : List ℕ → Option ℕ
+number_in w = cond (is_number w) (Some (min (decimal w) 1024)) None
 
 -- the number of 64 bits that a text writes, if it writes one and that fits
-abbrev pub fitting : ℕ → Wide
-fitting n = cond (leb n (2 ^ 64 - 1)) (Wide.Value n) Wide.Unfit
+abbrev pub fitting : ℕ → Option ℕ
+fitting n = cond (leb n (2 ^ 64 - 1)) (Some n) None
 
-unfoldable pub wide_in : List ℕ → Wide
-wide_in w = cond (is_number w) (fitting (decimal w)) Wide.Unfit
+unfoldable pub wide_in : List ℕ → Option ℕ
+wide_in w = cond (is_number w) (fitting (decimal w)) None
 
 -- a number with one more digit; no public contract cites it
-unfoldable pub wide_step : ℕ → ℕ → Wide
+unfoldable pub wide_step : ℕ → ℕ → Option ℕ
 wide_step n d = fitting (10 * n + d)
 
 -- a number's digits, f of them at the most

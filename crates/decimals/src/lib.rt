@@ -6,7 +6,7 @@ mod text;
 mod whole;
 mod wide;
 
-pub use number::{Number, number_in};
+pub use number::number_in;
 pub use text::{put_number, put_text};
 pub use whole::size;
-pub use wide::{Wide, wide_in};
+pub use wide::wide_in;

@@ -2,20 +2,14 @@
 ghost use Rattle.std.specs.Prelude.{◌≡◌, ◌≤◌, ◌+◌, ◌*◌, ◌-◌, min};
 ghost use Rattle.decimals.specs.Decimals.{is_digit, number_in};
 
-// A number; or the text is none.
-#[derive(Clone, Copy)]
-pub enum Number {
-    Value(usize),
-    Malformed,
-}
-
 // A number that no macro has: a book has at most 1,024, from 0 on.
 const BEYOND: usize = 1024;
 
+#[tactic(auto, unfolding(crate::specs::Decimals::is_digit))]
 pub(crate) fn is_digit(c: u8) -> bool
     ensures { result ≡ is_digit c }
 {
-    (b'0' <= c) & (c <= b'9')
+    matches!(c, b'0'..=b'9')
 }
 
 // The number so far with one more digit. Larger ones stay at BEYOND, so that a text of any length has a number.
@@ -26,25 +20,22 @@ fn with_digit(n: usize, c: u8) -> usize
     ensures { result ≡ min (10 * n + (c - 48)) 1024 }
 {
     let more = 10 * n + (c - b'0') as usize;
-    if more < BEYOND { more } else { BEYOND }
+    more.min(BEYOND)
 }
 
-// The number that decimal digits write, BEYOND for all from there on.
-pub fn number_in(text: &[u8]) -> Number
+// The number that decimal digits write, BEYOND for all from there on; none if the text is no number.
+pub fn number_in(text: &[u8]) -> Option<usize>
     ensures { result ≡ number_in text.now }
 {
-    if text.len() == 0 {
-        return Number::Malformed;
+    if text.is_empty() {
+        return None;
     }
     let mut n = 0;
-    let mut at = 0;
-    while at < text.len() {
-        let c = text[at];
+    for &c in text {
         if !is_digit(c) {
-            return Number::Malformed;
+            return None;
         }
         n = with_digit(n, c);
-        at += 1;
     }
-    Number::Value(n)
+    Some(n)
 }

@@ -3,16 +3,18 @@ use Prim.Native.Nat.{ℕ, ◌<◌, ◌≤◌}
 use native.Mathlib.Omega.{arith}
 use mathlib.Core.Path.{◌≡◌, refl, sym, ap, subst, ◌∙◌}
 use mathlib.Core.Logic.{⊎_elim}
-use mathlib.Core.Bool.{Bool, true, false, cond}
+use mathlib.Core.Bool.{Bool, true, false, cond, not}
 use mathlib.Core.List.{List, []}
 use lib.Dec.{ltb}
 use lib.ListN.{length, take, drop, replicate, length-replicate}
 use lib.Seq.{take-append_seam}
 use borrow.Author.Tests.{ne_eqb, ltb-true, lt-ltb, le-ltb}
 use Rattle.refusal.specs.declared.Refusal.{Refusal}
-use Rattle.refusal.specs.declared.Refusal.TheVariants.{NoSuchMacro, NoSuchLine, LineNumberOverflow}
+use Rattle.refusal.specs.declared.Refusal.TheVariants.{NoSuchMacro, NoSuchLine, LineNumberOverflow, BufferTooShort}
 use Rattle.refusal.specs.Number.{number}
-use Rattle.refusal.proofs.Number.{number-positive}
+use Rattle.refusal.specs.contracts.Refusal.{the_type}
+use denote.Enum.Bare.{sameb, differs_true, differs_false}
+use Rattle.refusal.proofs.Number.{number-injective, number-positive}
 use Rattle.runs.specs.Kept.{over}
 use Rattle.runs.proofs.Tests.{clash, either}
 use Rattle.book.specs.Format.{Macro}
@@ -26,7 +28,7 @@ use Rattle.pattern.specs.Form.{Pattern}
 use Rattle.pattern.specs.Meaning.{query}
 use Rattle.pattern.specs.Reader as reader
 use Rattle.pattern.proofs.Accepts.{pattern-refusals, pattern-prefix}
-use Rattle.decimals.specs.declared.number.Number.{Number}
+use Rattle.std.specs.Prelude.{Option, None, Some}
 use Rattle.decimals.specs.Decimals.{decimal, number_in}
 use Rattle.decimals.proofs.NumberLaws.{number-value, number-none, number_small}
 use Rattle.extents.specs.Capped.{most}
@@ -129,16 +131,20 @@ module _ {r : ℕ} (x : finding.Location) (h : r ≡ 17) where
   unfolding unwritten
   unwritten-refused e = rw (h, ne_eqb x.refusal 0 (λ z. omega arith)) refl
 
-module _ (q : Refusal) {i : ℕ} (g : i ≡ number q) where
-  pub told-other : (x : finding.Location) → (i ≡ 17 → ⊥) → told_by (LineAnswer.Refused q) [] ≡ unwritten (number q) x
-  told-other x n = sym (unwritten-other (number q) x (λ h. n (g ∙ h)))
+-- by the code's test whether it is that the buffer is too short
+module _ (q : Refusal) {b : Bool} (g : b ≡ not (sameb the_type q BufferTooShort)) where
+  pub told-other : (x : finding.Location) → b ≡ true → told_by (LineAnswer.Refused q) [] ≡ unwritten (number q) x
+  told-other x t = sym (unwritten-other (number q) x (λ h. differs_true the_type q BufferTooShort (sym g ∙ t) (number-injective q BufferTooShort h)))
 
-  module _ (s : i ≡ 17) (a : FoundLine) (w : List ℕ) {x : finding.Location} (e : finding.placed a w ≡ x) where
+  module _ (t : b ≡ false) (a : FoundLine) (w : List ℕ) {x : finding.Location} (e : finding.placed a w ≡ x) where
+    short : number q ≡ 17
+    short = ap number (differs_false the_type (search) q BufferTooShort (sym g ∙ t))
+
     pub told-place : {n l : ℕ} → a ≡ FoundLine.Line n l → told_by (LineAnswer.Long n l) [] ≡ unwritten (number q) x
-    told-place {n} {l} f = rw (← e, f) (sym (unwritten-line (finding.placed (FoundLine.Line n l) w) (sym g ∙ s) refl))
+    told-place {n} {l} f = rw (← e, f) (sym (unwritten-line (finding.placed (FoundLine.Line n l) w) short refl))
 
     pub told_none : {o : Refusal} → a ≡ FoundLine.Refused o → told_by (LineAnswer.Refused o) [] ≡ unwritten (number q) x
-    told_none {o} f = rw (← e, f) (sym (unwritten-refused (finding.nowhere o w) (sym g ∙ s) (number-positive o)))
+    told_none {o} f = rw (← e, f) (sym (unwritten-refused (finding.nowhere o w) short (number-positive o)))
 
 -- What the code answers, by what it has been answered.
 module _ (before after w : List ℕ) (x : finding.Location) where
@@ -196,8 +202,8 @@ module _ (book bytes : List ℕ) (n : ℕ) (pattern given : List ℕ) (a : LineI
       subst (λ (t : Told). Answers t before after r) (ap (λ (i : ℕ). line_answer a.case bytes given i a.k) last ∙ whole b p f g (last_macro (read_book b))) w
 
   -- the macro that a text names
-  module _ (text : List ℕ) {v : Number} (e : v ≡ number_in text) where
-    pub named-line : (m : ℕ) (before after : List ℕ) (r : LineAnswer) → v ≡ Number.Value m → Answers (line_answer a.case bytes given m a.k) before after r → NamedLine book n pattern a text before after (NamedLineAnswer.Answer r)
+  module _ (text : List ℕ) {v : Option ℕ} (e : v ≡ number_in text) where
+    pub named-line : (m : ℕ) (before after : List ℕ) (r : LineAnswer) → v ≡ Some m → Answers (line_answer a.case bytes given m a.k) before after r → NamedLine book n pattern a text before after (NamedLineAnswer.Answer r)
     unfolding NamedLine
     named-line m before after r f w b p g h =
         let told = number-value text e f in (
@@ -206,6 +212,6 @@ module _ (book bytes : List ℕ) (n : ℕ) (pattern given : List ℕ) (a : LineI
               (subst (λ (t : Told). Answers t before after r) (whole b p g h m ∙ ap (λ (i : ℕ). line_answer a.case b p i a.k) told.1) w),
         )
 
-pub no_line : (book : List ℕ) (n : ℕ) (pattern : List ℕ) (a : LineInput) (text line : List ℕ) {v : Number} → v ≡ number_in text → v ≡ Number.Malformed → NamedLine book n pattern a text line line NamedLineAnswer.NoNumber
+pub no_line : (book : List ℕ) (n : ℕ) (pattern : List ℕ) (a : LineInput) (text line : List ℕ) {v : Option ℕ} → v ≡ number_in text → v ≡ None → NamedLine book n pattern a text line line NamedLineAnswer.NoNumber
 unfolding NamedLine
 no_line book n pattern a text line e f b p g h = (number-none text e f, refl)

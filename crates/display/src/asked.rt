@@ -7,10 +7,10 @@ ghost use Rattle.find.specs.Answer.{locate_result};
 ghost use Rattle.display.specs.Asked.{Answers, LastLine, NamedLine, line_answer, told_by, unwritten};
 
 use command::{BOOK_READ, PATTERN_READ, last_macro, read_part};
-use decimals::{Number, number_in};
+use decimals::number_in;
 use find::{FoundLine, MOST_WORDS, find_line, locate_line};
 use letters::Case;
-use refusal::{Refusal, code};
+use refusal::Refusal;
 
 // The bytes of the buffer that the command lends: longer lines are not shown.
 pub const BUFFER: usize = 65536;
@@ -50,7 +50,7 @@ fn unwritten_in(
 ) -> LineAnswer
     ensures { told_by result [] ≡ unwritten (number r) (locate_result asked.case (read_book book.now) (read_pattern pattern.now) m asked.k work.old) }
 {
-    if code(r) != 17 {
+    if r != Refusal::BufferTooShort {
         return LineAnswer::Refused(r);
     }
     let case = asked.case;
@@ -93,8 +93,8 @@ pub(crate) fn line_named(
     let bytes = read_part(book, n);
     let given = read_part(pattern, asked.bytes);
     match number_in(text) {
-        Number::Value(m) => NamedLineAnswer::Answer(line_in(bytes, given, asked, m, line)),
-        Number::Malformed => NamedLineAnswer::NoNumber,
+        Some(m) => NamedLineAnswer::Answer(line_in(bytes, given, asked, m, line)),
+        None => NamedLineAnswer::NoNumber,
     }
 }
 

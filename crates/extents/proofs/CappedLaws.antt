@@ -1,9 +1,7 @@
 -- Laws of numbers that stop at the largest of 64 bits.
-use Prim.Native.Nat.{ℕ, zero, suc, ◌+◌, ◌-◌, ◌*◌, ◌/◌, ◌<◌, ◌≤◌}
+use Prim.Native.Nat.{ℕ, zero, suc, ◌+◌, ◌*◌, ◌<◌, ◌≤◌}
 use native.Mathlib.Omega.{arith}
-use native.Mathlib.Nat.{mul-le-mul_left, div-lt_iff_lt-mul, le-div_iff_mul-le}
-use mir.Val.{Fits}
-use mir.Syntax.{w64}
+use native.Mathlib.Nat.{mul-le-mul_left}
 use mathlib.Core.Path.{◌≡◌, refl, sym, ap, ◌∙◌}
 use lib.Dec.{leb, eqb}
 use borrow.Author.Tests.{leb-true, le-leb, ne_eqb}
@@ -18,22 +16,12 @@ pub capped-large : (n : ℕ) → most ≤ n → capped n ≡ most
 unfolding capped
 capped-large n h = by-test (leb n most) (λ e. rw e (let same : n ≡ most = omega (arith, leb-true n most e) in same)) (λ e. rw e refl)
 
-pub capped_le : (n : ℕ) → capped n ≤ most
-capped_le n = either n most (λ h. rw (capped_small n (omega arith)) (omega arith)) (λ h. rw (capped-large n h) (omega arith))
-
 -- what is below the largest is the number itself
 pub capped-below : (n : ℕ) → capped n < most → capped n ≡ n
 capped-below n h = either n most (λ l. capped_small n (omega arith)) (λ l. absurd (go (capped-large n l)))
   where
     go : capped n ≡ most → ⊥
     go e = omega (arith, h, e)
-
--- and what is the largest is at least that
-pub capped-most : (n : ℕ) → most ≤ capped n → most ≤ n
-capped-most n h = either n most (λ l. absurd (go l (capped_small n (omega arith)))) (λ l. l)
-  where
-    go : n < most → capped n ≡ n → ⊥
-    go l e = omega (arith, h, e)
 
 pub capped-zero : (n : ℕ) → eqb (capped n) 0 ≡ eqb n 0
 capped-zero n = either n most (λ h. ap (λ (k : ℕ). eqb k 0) (capped_small n (omega arith))) (λ h. ap (λ (k : ℕ). eqb k 0) (capped-large n h) ∙ sym (ne_eqb n 0 (omega arith)))
@@ -58,30 +46,3 @@ capped-product a (suc n) = either a most (λ h. rw (capped_small a (omega arith)
   where
     many : (c : ℕ) → most ≤ c → capped (c * suc n) ≡ most
     many c h = let more : c ≤ c * suc n = omega (arith, mul-le-mul_left c (let one : 1 ≤ suc n = omega arith in one)) in capped-large (c * suc n) (omega arith)
-
--- The ways out of the code.
-
-pub sum_over : (a b : ℕ) → Fits w64 a → most - a < b → most ≡ capped (a + b)
-sum_over a b h l = sym (capped-large (a + b) (omega arith))
-
-pub sum-within : (a b : ℕ) → Fits w64 a → b ≤ most - a → a + b ≡ capped (a + b)
-sum-within a b h l = sym (capped_small (a + b) (omega arith))
-
-pub product-none : (a n : ℕ) → n ≡ 0 → 0 ≡ capped (a * n)
-product-none a n e = let none : a * n ≡ 0 = rw e (omega arith) in sym (ap capped none ∙ capped_small 0 (omega arith))
-
-module _ (a n : ℕ) (some : n ≡ 0 → ⊥) where
-  positive : 0 < n
-  positive = omega (arith, some)
-
-  pub product-over : most / n < a → most ≡ capped (a * n)
-  product-over h = let large : most < a * n = (div-lt_iff_lt-mul positive).0 h in sym (capped-large (a * n) (omega arith))
-
-  within : a ≤ most / n → a * n ≤ most
-  within h = (le-div_iff_mul-le positive).0 h
-
-  pub product-fits : a ≤ most / n → Fits w64 (a * n)
-  product-fits h = omega (arith, within h)
-
-  pub product-within : a ≤ most / n → a * n ≡ capped (a * n)
-  product-within h = sym (capped_small (a * n) (within h))

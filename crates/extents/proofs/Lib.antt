@@ -1,5 +1,4 @@
--- Laws of capped numbers, of extents, and of the code.
+-- Laws of capped numbers, of extents, and of their words.
 pub mod CappedLaws
 pub mod WordLaws
 pub mod ExtentLaws
-pub mod CodeLaws

@@ -1,9 +1,6 @@
 // How far a run goes.
-ghost use Rattle.std.specs.Prelude.{◌≡◌, cond, ◌+◌};
-ghost use Rattle.extents.specs.Capped.{capped};
+ghost use Rattle.std.specs.Prelude.{◌≡◌};
 ghost use Rattle.extents.specs.Operations.{joined_extents, key_extent, no_extent, repeated_extent};
-
-use crate::capped::{capped_product, capped_sum};
 
 // Each number is the smaller of what is said here and 2^64 - 1. A CR counts like any other key.
 #[derive(Clone, Copy)]
@@ -31,10 +28,11 @@ pub fn no_extent() -> Extent
 }
 
 // One key.
+#[tactic(auto, unfolding(crate::specs::Operations::key_extent))]
 pub fn key_extent(key: u8) -> Extent
     ensures { result ≡ key_extent key }
 {
-    if key == 10 {
+    if key == b'\n' {
         return Extent {
             ends: 1,
             first: 0,
@@ -50,47 +48,40 @@ pub fn key_extent(key: u8) -> Extent
     }
 }
 
-// What stands at one end of two runs: without a line end there it goes on into the other run.
-fn going_on(whole: bool, a: u64, b: u64) -> u64
-    ensures { result ≡ cond whole (capped (a + b)) a }
-{
-    if whole {
-        return capped_sum(a, b);
-    }
-    a
-}
-
-// One run after the other.
+// One run after the other: without a line end in a run, what stands at one end goes on into the other run.
+#[tactic(auto, unfolding(crate::specs::Operations::joined_extents, crate::specs::Capped::capped))]
 pub fn joined_extents(a: Extent, b: Extent) -> Extent
     ensures { result ≡ joined_extents a b }
 {
     Extent {
-        ends: capped_sum(a.ends, b.ends),
-        first: going_on(a.ends == 0, a.first, b.first),
-        last: going_on(b.ends == 0, b.last, a.last),
-        keys: capped_sum(a.keys, b.keys),
+        ends: a.ends.saturating_add(b.ends),
+        first: if a.ends == 0 {
+            a.first.saturating_add(b.first)
+        } else {
+            a.first
+        },
+        last: if b.ends == 0 {
+            b.last.saturating_add(a.last)
+        } else {
+            b.last
+        },
+        keys: a.keys.saturating_add(b.keys),
     }
 }
 
-// How many passes of a run stand at one end of n: without a line end all of them.
-fn passes_open(whole: bool, n: u64) -> u64
-    ensures { result ≡ cond whole n 1 }
-{
-    if whole { n } else { 1 }
-}
-
-// A run n times.
+// A run n times: without a line end in it, all passes stand at both ends.
+#[tactic(auto, unfolding(crate::specs::Operations::repeated_extent, crate::specs::Capped::capped))]
 pub fn repeated_extent(a: Extent, n: u64) -> Extent
     ensures { result ≡ repeated_extent n a }
 {
     if n == 0 {
         return no_extent();
     }
-    let passes = passes_open(a.ends == 0, n);
+    let passes = if a.ends == 0 { n } else { 1 };
     Extent {
-        ends: capped_product(a.ends, n),
-        first: capped_product(a.first, passes),
-        last: capped_product(a.last, passes),
-        keys: capped_product(a.keys, n),
+        ends: a.ends.saturating_mul(n),
+        first: a.first.saturating_mul(passes),
+        last: a.last.saturating_mul(passes),
+        keys: a.keys.saturating_mul(n),
     }
 }

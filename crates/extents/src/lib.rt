@@ -2,7 +2,6 @@
 // repeated run, and as four work words.
 #![tactic(auto)]
 
-mod capped;
 mod extent;
 mod words;
 

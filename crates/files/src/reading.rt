@@ -27,19 +27,20 @@ pub struct Filled {
 pub fn fill<R: Read>(input: &mut R, buf: &mut [u8]) -> Filled
     ensures { IsPrefixLen result.bytes buf.new }
 {
-    let mut at = 0;
-    let mut error = None;
-    while at < buf.len() {
-        match input.read(&mut buf[at..]) {
+    let mut bytes = 0;
+    while bytes < buf.len() {
+        match input.read(&mut buf[bytes..]) {
             Ok(0) => break,
-            Ok(n) => at += n,
-            Err(e) => {
-                error = Some(e);
-                break;
+            Ok(n) => bytes += n,
+            Err(error) => {
+                return Filled {
+                    bytes,
+                    error: Some(error),
+                };
             }
         }
     }
-    Filled { bytes: at, error }
+    Filled { bytes, error: None }
 }
 
 // What failed is said under the input's name.

@@ -3,10 +3,8 @@ use Prim.Native.Nat.{ℕ, ◌+◌, ◌-◌, ◌<◌, ◌≤◌}
 use native.Mathlib.Omega.{arith}
 use mathlib.Core.Path.{◌≡◌, refl, sym, ◌∙◌}
 use mathlib.Core.Logic.{inl, inr}
-use mathlib.Core.Bool.{Bool, true, false, not, ◌&&◌, ◌||◌, xor, beq, or_comm, and-false}
-use mathlib.Core.List.{List}
+use mathlib.Core.Bool.{Bool, true, false, not, xor, beq, or_comm, and-false}
 use lib.Dec.{leb, eqb}
-use lib.ListN.{get_or}
 use borrow.Author.Tests.{leb-true, le-leb, lt-leb, ne_eqb}
 use Rattle.letters.specs.declared.Case.{Case}
 use Rattle.letters.specs.Letters.{is_upper, is_lower, other_case, folded, SameLetter}
@@ -14,41 +12,25 @@ use Rattle.runs.specs.Keys.{line_key}
 use Rattle.runs.proofs.Tests.{and-fst, and-snd}
 
 -- The two letters of each case, and what is none.
-pub upper-high : (x : Bool) (k : ℕ) → x && leb k 90 ≡ true → k + 32 < 256
-upper-high x k h = let g : k ≤ 90 = leb-true k 90 (and-snd x (leb k 90) h) in omega arith
-
-pub lower-low : (x : Bool) (k : ℕ) → leb 97 k && x ≡ true → 32 ≤ k
-lower-low x k h = let g : 97 ≤ k = leb-true 97 k (and-fst (leb 97 k) x h) in omega arith
-
-pub upper-other : (k : ℕ) → is_upper k ≡ true → k + 32 ≡ other_case k
+upper-other : (k : ℕ) → is_upper k ≡ true → k + 32 ≡ other_case k
 unfolding other_case
 upper-other k h = rw h refl
 
-pub lower-other : (k : ℕ) → is_upper k ≡ false → is_lower k ≡ true → k - 32 ≡ other_case k
+lower-other : (k : ℕ) → is_upper k ≡ false → is_lower k ≡ true → k - 32 ≡ other_case k
 unfolding other_case
 lower-other k h g = rw (h, g) refl
 
-pub no_other : (k : ℕ) → is_upper k ≡ false → is_lower k ≡ false → k ≡ other_case k
+no_other : (k : ℕ) → is_upper k ≡ false → is_lower k ≡ false → k ≡ other_case k
 unfolding other_case
 no_other k h g = rw (h, g) refl
 
--- a test that differs from another
-unlike : (a b : Bool) → not (beq a b) ≡ xor b a
+-- a test that differs from another, as the code of `in_set` has it
+pub unlike : (a b : Bool) → not (beq a b) ≡ xor b a
 unfolding xor
 unlike true true = refl
 unlike true false = refl
 unlike false true = refl
 unlike false false = refl
-
--- A set by either choice, as the code has it.
-module _ (s : List Bool) (k : ℕ) (c : Case) where
-  pub in-sensitive : (n : Bool) → c ≡ Case.Sensitive → not (beq (get_or s k false) n) ≡ xor n (folded c (λ j. get_or s j false) k)
-  unfolding folded
-  in-sensitive n e = rw e (unlike (get_or s k false) n)
-
-  pub in-ignored : (n : Bool) (j : ℕ) → c ≡ Case.Ignored → j ≡ other_case k → not (beq (get_or s k false || get_or s j false) n) ≡ xor n (folded c (λ j. get_or s j false) k)
-  unfolding folded
-  in-ignored n j e f = rw (e, f) (unlike (get_or s k false || get_or s (other_case k) false) n)
 
 -- without the choice a set is as it is
 pub folded-sensitive : (X : ℕ → Bool) (k : ℕ) → folded Case.Sensitive X k ≡ X k

@@ -13,25 +13,25 @@ pub enum Case {
 }
 
 // The same letter in the other case; a byte that is no letter stays as it is.
+#[tactic(auto, unfolding(crate::specs::Letters::other_case))]
 pub fn other_case(b: u8) -> u8
     ensures { result ≡ other_case b }
 {
-    if (65 <= b) & (b <= 90) {
-        return b + 32;
+    match b {
+        b'A'..=b'Z' => b + 32,
+        b'a'..=b'z' => b - 32,
+        _ => b,
     }
-    if (97 <= b) & (b <= 122) {
-        return b - 32;
-    }
-    b
 }
 
 // Whether a byte is in a set, or, if the set is negated, not in it. With case ignored a letter and the other one "are then each in a set
 // if either is", and "this happens before a leading `^` turns the set round".
+#[tactic(auto, using(crate::proofs::Laws::unlike), unfolding(crate::specs::Letters::folded))]
 pub fn in_set(set: &[bool; 256], case: Case, negated: bool, b: u8) -> bool
     ensures { result ≡ xor negated (folded case (λ j. get_or set.now j false) b) }
 {
     match case {
         Case::Sensitive => set[b as usize] != negated,
-        Case::Ignored => (set[b as usize] | set[other_case(b) as usize]) != negated,
+        Case::Ignored => (set[b as usize] || set[other_case(b) as usize]) != negated,
     }
 }

@@ -5,7 +5,7 @@ ghost use Rattle.io.specs.Counts.{IsPrefixLen};
 use crate::say;
 use command::{BOOK_READ, PATTERN_READ};
 use counter::Case;
-use decimals::{Wide, wide_in};
+use decimals::wide_in;
 use files::{FileRead, read_path, say_failure};
 use std::env::FillError;
 use std::io::Error;
@@ -135,10 +135,8 @@ pub(crate) fn number_at(rt: &HostRuntime, i: usize, space: &mut [u8]) -> NumberT
 }
 
 // The number that an argument is; what does not fit the space is none.
-pub(crate) fn wide_at(rt: &HostRuntime, i: usize) -> Wide {
+pub(crate) fn wide_at(rt: &HostRuntime, i: usize) -> Option<u64> {
     let mut space = number_space();
-    match rt.arg(i, &mut space) {
-        Ok(n) => wide_in(&space[..n]),
-        Err(_) => Wide::Unfit,
-    }
+    let n = rt.arg(i, &mut space).ok()?;
+    wide_in(&space[..n])
 }

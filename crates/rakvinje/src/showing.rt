@@ -6,7 +6,6 @@ use crate::meaning::explain;
 use crate::say;
 use command::{BOOK_READ, PATTERN_READ};
 use counter::Case;
-use decimals::Wide;
 use display::{
     BUFFER, LineAnswer, LineInput, NamedLineAnswer, SHOWN, line_last_reply, line_named_reply,
     write_shown,
@@ -157,15 +156,15 @@ fn lines_by(rt: &HostRuntime, lines: Range) {
 // So many lines from this one on.
 fn lines_from(rt: &HostRuntime, case: Case, first: u64) {
     match wide_at(rt, 4) {
-        Wide::Value(count) => lines_by(rt, Range { case, first, count }),
-        Wide::Unfit => say::usage(rt),
+        Some(count) => lines_by(rt, Range { case, first, count }),
+        None => say::usage(rt),
     }
 }
 
 fn lines_with(rt: &HostRuntime, case: Case) {
     match wide_at(rt, 3) {
-        Wide::Value(first) => lines_from(rt, case, first),
-        Wide::Unfit => say::no_place(rt),
+        Some(first) => lines_from(rt, case, first),
+        None => say::no_place(rt),
     }
 }
 

@@ -4,75 +4,54 @@
 ghost use Rattle.std.specs.Prelude.{◌≡◌};
 ghost use Rattle.refusal.specs.Number.{number};
 
-// Document 01, "Refused": a case for each row of the table, in its order; behind them document 02's.
-#[derive(Clone, Copy)]
+// Document 01, "Refused": a case for each row of the table, with its number; behind them document 02's.
+#[derive(Clone, Copy, PartialEq, Eq)]
 pub enum Refusal {
-    // 1, "no book": under 7 bytes, or another mark.
-    BadMagic,
-    // 2, "strange version": neither 1 nor 2 (document 02, S-8).
-    UnsupportedVersion,
-    // 3, "macro count": 0 or over 1,024.
-    BadMacroCount,
-    // 4, "broken body": an item count of 0 or over 64, bytes run out, or bytes left over.
-    MalformedBody,
-    // 5, "dead key": item 0; byte 0 in a plain run; byte 0 or 10 in the one-line test.
-    InvalidKey,
-    // 6, "forward call": a call that is not to a lower macro.
-    ForwardReference,
-    // 7, "pattern length": 0 or over 128.
-    PatternLength,
-    // 8, "bad pattern": not of the form.
-    PatternSyntax,
-    // 9, "too many atoms": over 29.
-    TooManyAtoms,
-    // 10, "no such macro".
-    NoSuchMacro,
-    // 11, "short work": fewer words or entries than stated.
-    InsufficientSpace,
-    // 12, "count too high": over 2^64 - 1.
-    CountOverflow,
-    // 13, "unlike reports".
-    ReportMismatch,
-    // 14, "long input": program only.
-    InputTooLong,
-    // Document 02, S-3. 15: fewer than k matching lines, or k is 0.
-    NoSuchLine,
-    // 16: the line number passes 2^64 - 1.
-    LineNumberOverflow,
-    // 17: the buffer is shorter than the line.
-    BufferTooShort,
-    // S-6. 18: the two keys are equal, or one is 0 or 10.
-    InvalidDelimiters,
-    // 19: the macro's run is longer than 2^62 keys.
-    RunTooLong,
-    // S-8. 20: a repeat count of 0.
-    ZeroRepeatCount,
+    // "no book": under 7 bytes, or another mark.
+    BadMagic = 1,
+    // "strange version": neither 1 nor 2 (document 02, S-8).
+    UnsupportedVersion = 2,
+    // "macro count": 0 or over 1,024.
+    BadMacroCount = 3,
+    // "broken body": an item count of 0 or over 64, bytes run out, or bytes left over.
+    MalformedBody = 4,
+    // "dead key": item 0; byte 0 in a plain run; byte 0 or 10 in the one-line test.
+    InvalidKey = 5,
+    // "forward call": a call that is not to a lower macro.
+    ForwardReference = 6,
+    // "pattern length": 0 or over 128.
+    PatternLength = 7,
+    // "bad pattern": not of the form.
+    PatternSyntax = 8,
+    // "too many atoms": over 29.
+    TooManyAtoms = 9,
+    // "no such macro".
+    NoSuchMacro = 10,
+    // "short work": fewer words or entries than stated.
+    InsufficientSpace = 11,
+    // "count too high": over 2^64 - 1.
+    CountOverflow = 12,
+    // "unlike reports".
+    ReportMismatch = 13,
+    // "long input": program only.
+    InputTooLong = 14,
+    // Document 02, S-3: fewer than k matching lines, or k is 0.
+    NoSuchLine = 15,
+    // The line number passes 2^64 - 1.
+    LineNumberOverflow = 16,
+    // The buffer is shorter than the line.
+    BufferTooShort = 17,
+    // S-6: the two keys are equal, or one is 0 or 10.
+    InvalidDelimiters = 18,
+    // The macro's run is longer than 2^62 keys.
+    RunTooLong = 19,
+    // S-8: a repeat count of 0.
+    ZeroRepeatCount = 20,
 }
 
 // The number that the table gives a refusal.
 pub fn code(r: Refusal) -> u8
     ensures { result ≡ number r }
 {
-    match r {
-        Refusal::BadMagic => 1,
-        Refusal::UnsupportedVersion => 2,
-        Refusal::BadMacroCount => 3,
-        Refusal::MalformedBody => 4,
-        Refusal::InvalidKey => 5,
-        Refusal::ForwardReference => 6,
-        Refusal::PatternLength => 7,
-        Refusal::PatternSyntax => 8,
-        Refusal::TooManyAtoms => 9,
-        Refusal::NoSuchMacro => 10,
-        Refusal::InsufficientSpace => 11,
-        Refusal::CountOverflow => 12,
-        Refusal::ReportMismatch => 13,
-        Refusal::InputTooLong => 14,
-        Refusal::NoSuchLine => 15,
-        Refusal::LineNumberOverflow => 16,
-        Refusal::BufferTooShort => 17,
-        Refusal::InvalidDelimiters => 18,
-        Refusal::RunTooLong => 19,
-        Refusal::ZeroRepeatCount => 20,
-    }
+    r as u8
 }

@@ -36,7 +36,7 @@ pub fn meets(a: u64, b: u64) -> bool
 pub fn size(a: u64) -> u64
     ensures { result ≡ count_below 64 (bit a) }
 {
-    u64::count_ones(a) as u64
+    a.count_ones() as u64
 }
 
 // The members of a set below s.
@@ -57,12 +57,11 @@ pub fn chosen(t: bool, a: u64) -> u64
 pub fn image(rows: &[u64; 32], set: u64) -> u64
     ensures { result ≡ image_of rows.now set }
 {
-    let all: &[u64] = rows;
-    let mut acc: u64 = 0;
+    let mut acc = 0;
     let mut y = set & 0xffff_ffff;
     while y != 0 {
-        let p = u64::trailing_zeros(y) as usize;
-        acc |= all[p];
+        let p = y.trailing_zeros() as usize;
+        acc |= rows[p];
         y &= y - 1;
     }
     acc

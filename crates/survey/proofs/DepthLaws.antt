@@ -9,7 +9,7 @@ use lib.ListN.{length, get_or, take, replicate, length-replicate}
 use borrow.Author.Tests.{eq-eqb, ne_eqb, eqb-false, lt-ltb, le-ltb}
 use Rattle.book.specs.Reading.{Reading, read_book}
 use Rattle.book.specs.Format.{Macro}
-use Rattle.decimals.specs.declared.number.Number.{Number}
+use Rattle.std.specs.Prelude.{Option, None, Some}
 use Rattle.decimals.specs.Decimals.{is_number, decimal, number_in}
 use Rattle.decimals.proofs.NumberLaws.{number-value, number-none, number_small}
 use Rattle.command.specs.Buffers.{ReadFrom}
@@ -44,7 +44,7 @@ module _ (w : List ℕ) where
     pub key-long : 3 < length w → KeyText.NoKey ≡ key_in w
     key-long h = other-size (λ f. omega arith) (λ f. omega arith)
 
-    module _ (two : 2 ≤ length w) (three : length w ≤ 3) {a : Number} (f : a ≡ number_in w) where
+    module _ (two : 2 ≤ length w) (three : length w ≤ 3) {a : Option ℕ} (f : a ≡ number_in w) where
       sized : eqb (length w) 2 || eqb (length w) 3 ≡ true
       sized = go (eqb (length w) 2) refl
         where
@@ -53,17 +53,17 @@ module _ (w : List ℕ) where
           go false g = eq-eqb (length w) 3 (omega (arith, eqb-false (length w) 2 g))
 
       -- digits write a number below 1,000, which `number_in` does not cut off where it matters
-      pub key-number : {n : ℕ} → a ≡ Number.Value n → n < 256 → KeyText.Key n ≡ key_in w
+      pub key-number : {n : ℕ} → a ≡ Some n → n < 256 → KeyText.Key n ≡ key_in w
       unfolding key_in
       key-number {n} g h =
           let told = number-value w f g in
           let same : n ≡ decimal w = omega (arith, told.1) in
           rw (ne_eqb (length w) 1 e, sized, told.0, lt-ltb (decimal w) 256 (omega (arith, told.1))) (ap KeyText.Key same)
 
-      pub key-large : {n : ℕ} → a ≡ Number.Value n → 256 ≤ n → KeyText.NoKey ≡ key_in w
+      pub key-large : {n : ℕ} → a ≡ Some n → 256 ≤ n → KeyText.NoKey ≡ key_in w
       key-large {n} g h = let told = number-value w f g in none-by (rw (sized, told.0, le-ltb (decimal w) 256 (omega (arith, told.1))) refl)
 
-      pub key-letters : a ≡ Number.Malformed → KeyText.NoKey ≡ key_in w
+      pub key-letters : a ≡ None → KeyText.NoKey ≡ key_in w
       key-letters g = none-by (rw (sized, number-none w f g) refl)
 
 -- What is told does not depend on the words.
@@ -92,14 +92,14 @@ module _ (book bytes : List ℕ) (n : ℕ) (long : length book ≡ 264200) (is :
       w ∙ ap (depth_answer keys bytes) (e ∙ same) ∙ answer-whole b g (last_macro (read_book b))
 
   -- the macro that a text names
-  module _ (text : List ℕ) {a : Number} (e : a ≡ number_in text) where
-    pub named-depths : (m : ℕ) (r : DepthReport) → a ≡ Number.Value m → depth_told r ≡ depth_answer keys bytes m → NamedDepths book n keys text (NamedDepth.Depth r)
+  module _ (text : List ℕ) {a : Option ℕ} (e : a ≡ number_in text) where
+    pub named-depths : (m : ℕ) (r : DepthReport) → a ≡ Some m → depth_told r ≡ depth_answer keys bytes m → NamedDepths book n keys text (NamedDepth.Depth r)
     unfolding NamedDepths
     named-depths m r f w b g =
         let told = number-value text e f in
         (told.0, number_small (λ k. depth_told r ≡ depth_answer keys b k) (λ i j h l v. v ∙ answers-beyond keys b i j h l) (decimal text) (w ∙ answer-whole b g m ∙ ap (depth_answer keys b) told.1))
 
-pub nothing-deep : (book : List ℕ) (n : ℕ) (keys : Delimiters) (text : List ℕ) {a : Number} → a ≡ number_in text → a ≡ Number.Malformed → NamedDepths book n keys text NamedDepth.NoNumber
+pub nothing-deep : (book : List ℕ) (n : ℕ) (keys : Delimiters) (text : List ℕ) {a : Option ℕ} → a ≡ number_in text → a ≡ None → NamedDepths book n keys text NamedDepth.NoNumber
 unfolding NamedDepths
 nothing-deep book n keys text e f b g = number-none text e f
 

@@ -10,7 +10,7 @@ use Rattle.reach.specs.declared.listing.Reached.{Reached}
 use Rattle.reach.specs.Answer.{reached_figures}
 use Rattle.book.proofs.Refusals.{BookNumber}
 use Rattle.reach.proofs.AnswerLaws.{entries-alike, reached-beyond, reached-refusals}
-use Rattle.decimals.specs.declared.number.Number.{Number}
+use Rattle.std.specs.Prelude.{Option, None, Some}
 use Rattle.decimals.specs.Decimals.{decimal, number_in}
 use Rattle.decimals.proofs.NumberLaws.{number-value, number-none, number_small}
 use Rattle.command.specs.Buffers.{ReadFrom}
@@ -32,15 +32,15 @@ module _ (book bytes : List ℕ) (n : ℕ) (long : length book ≡ 264200) (is :
       rw (← same, ← e) (reached-whole b g m f before after w)
 
   -- the macro that a text names: 1,024 stands for all from there on
-  module _ (text : List ℕ) {a : Number} (e : a ≡ number_in text) (before after : List ℕ) where
-    pub named-reached : (m : ℕ) (r : Reached) → a ≡ Number.Value m → ReachedIn bytes m (reached_figures r) before after → NamedReached book n text (NamedReach.Reach r) before after
+  module _ (text : List ℕ) {a : Option ℕ} (e : a ≡ number_in text) (before after : List ℕ) where
+    pub named-reached : (m : ℕ) (r : Reached) → a ≡ Some m → ReachedIn bytes m (reached_figures r) before after → NamedReached book n text (NamedReach.Reach r) before after
     unfolding NamedReached
     named-reached m r f w b g =
         let (number, value) = number-value text e f in
         (number, number_small (λ k. ReachedIn b k (reached_figures r) before after) (λ i j. reached-beyond b before after i j (reached_figures r)) (decimal text) (rw value at (reached-whole b g m (reached_figures r) before after w)))
 
 -- a text that names none leaves the list as it was
-pub nothing-reached : (book : List ℕ) (n : ℕ) (text : List ℕ) {a : Number} → a ≡ number_in text → (list : List ℕ) → a ≡ Number.Malformed → NamedReached book n text NamedReach.NoNumber list list
+pub nothing-reached : (book : List ℕ) (n : ℕ) (text : List ℕ) {a : Option ℕ} → a ≡ number_in text → (list : List ℕ) → a ≡ None → NamedReached book n text NamedReach.NoNumber list list
 unfolding NamedReached
 nothing-reached book n text e list f b g = (number-none text e f, refl)
 

@@ -3,7 +3,7 @@ ghost use Rattle.std.specs.Prelude.{◌≡◌};
 ghost use Rattle.survey.specs.Depths.{LastDepths, NamedDepths, depth_answer, depth_told, key_in};
 
 use command::{BOOK_READ, last_macro, read_part};
-use decimals::{Number, number_in};
+use decimals::number_in;
 use depth::{Delimiters, DepthReport, MOST_WORDS, depth};
 
 // The key that a text names; or it names none.
@@ -27,13 +27,8 @@ pub fn key_in(text: &[u8]) -> KeyText
         return KeyText::NoKey;
     }
     match number_in(text) {
-        Number::Value(n) => {
-            if n < 256 {
-                return KeyText::Key(n as u8);
-            }
-            KeyText::NoKey
-        }
-        Number::Malformed => KeyText::NoKey,
+        Some(n) if n < 256 => KeyText::Key(n as u8),
+        _ => KeyText::NoKey,
     }
 }
 
@@ -57,8 +52,8 @@ pub fn depth_named(book: &[u8; BOOK_READ], n: usize, keys: Delimiters, text: &[u
     ensures { NamedDepths book.now n keys text.now result }
 {
     match number_in(text) {
-        Number::Value(m) => NamedDepth::Depth(depth_in(read_part(book, n), keys, m)),
-        Number::Malformed => NamedDepth::NoNumber,
+        Some(m) => NamedDepth::Depth(depth_in(read_part(book, n), keys, m)),
+        None => NamedDepth::NoNumber,
     }
 }
 

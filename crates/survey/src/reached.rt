@@ -3,7 +3,7 @@ ghost use Rattle.reach.specs.Answer.{reached_figures};
 ghost use Rattle.survey.specs.Reached.{LastReached, NamedReached};
 
 use command::{BOOK_READ, last_macro, read_part};
-use decimals::{Number, number_in};
+use decimals::number_in;
 use reach::{Reached, reach_list};
 
 // The entries of a list that is long enough for every macro.
@@ -26,8 +26,8 @@ pub fn reach_named(
     ensures { NamedReached book.now n text.now result list.old list.new }
 {
     match number_in(text) {
-        Number::Value(m) => NamedReach::Reach(reach_list(read_part(book, n), m, list)),
-        Number::Malformed => NamedReach::NoNumber,
+        Some(m) => NamedReach::Reach(reach_list(read_part(book, n), m, list)),
+        None => NamedReach::NoNumber,
     }
 }
 

@@ -1,10 +1,7 @@
 -- `stateset::within`: a mask of s ones.
 use borrow.Author.Rules.{rules}
-use Rattle.stateset.proofs.Sets.{shifted-some, masked, word-whole}
+use Rattle.stateset.proofs.Sets.{masked, word-whole}
 use Rattle.stateset.proofs.within.Goals as goal
-
-pub overflow_sub-result : goal.overflow_sub-result
-overflow_sub-result c = search (shifted-some)
 
 pub returns-then-s-lt64 : goal.returns-then-s-lt64
 returns-then-s-lt64 c = search (masked)

@@ -2,8 +2,8 @@
 use Rattle.command.proofs.NamedLaws.{named-told, named_none}
 use Rattle.command.proofs.counts.named_in.Goals as goal
 
-pub returns-in-Value : goal.returns-in-Value
-returns-in-Value c = search (named-told)
+pub returns-in-Some : goal.returns-in-Some
+returns-in-Some c = search (named-told)
 
-pub returns-in-Malformed : goal.returns-in-Malformed
-returns-in-Malformed c = search (named_none)
+pub returns-in-None : goal.returns-in-None
+returns-in-None c = search (named_none)

@@ -1,11 +1,6 @@
--- `number_in`: the digits before `at` write n.
-use Prim.Native.Nat.{◌-◌}
-use lib.ListN.{length}
+-- `number_in`: the digits so far write n.
 use Rattle.decimals.proofs.NumberLaws.{Written}
 use Rattle.decimals.proofs.number.number_in.Given as goal
 
-abbrev pub invariant-loop-at : goal.invariant-loop-at
-invariant-loop-at l = Written l.text l.at l.n
-
-abbrev pub decreases-loop-at : goal.decreases-loop-at
-decreases-loop-at l = length l.text - l.at
+abbrev pub invariant-loop-c : goal.invariant-loop-c
+invariant-loop-c l = Written l.text l.c-index l.n

@@ -1,35 +1,25 @@
--- `wide::wide_in`: the digits before `at` write n.
-use native.Mathlib.Omega.{arith}
-use Rattle.decimals.proofs.NumberLaws.{digit-least, digit-most}
-use Rattle.decimals.proofs.WideLaws.{wrote_none, nothing-wide, wide-bad, wide-over, wide-more, wide-all}
+-- `wide::wide_in`: the digits so far write n.
+use Rattle.decimals.proofs.NumberLaws.{empty-text, some-text, digits-bad, digit-least, digit-most}
+use Rattle.decimals.proofs.WideLaws.{wrote_none, nothing-wide, wide-over, wide-more, wide-all}
 use Rattle.decimals.proofs.wide.wide_in.Goals as goal
 
-pub returns-then-text-eq0 : goal.returns-then-text-eq0
-returns-then-text-eq0 c = search (nothing-wide)
+pub returns-then-is_empty : goal.returns-then-is_empty
+returns-then-is_empty c = search (nothing-wide, empty-text)
 
-pub loop-at-init : goal.loop-at-init
-loop-at-init c = search (wrote_none)
-
-pub bounds-text-at : goal.bounds-text-at
-bounds-text-at c = omega arith
+pub loop-c-init : goal.loop-c-init
+loop-c-init c = search (wrote_none, some-text)
 
 pub returns-then-not-is_digit : goal.returns-then-not-is_digit
-returns-then-not-is_digit c = search (wide-bad)
+returns-then-not-is_digit c = search (nothing-wide, digits-bad)
 
-pub wide_digit-more-requires : goal.wide_digit-more-requires
-wide_digit-more-requires c = record { low = search (digit-least); high = search (digit-most) }
+pub wide_digit-requires : goal.wide_digit-requires
+wide_digit-requires c = record { low = search (digit-least); high = search (digit-most) }
 
-pub returns-in_default : goal.returns-in_default
-returns-in_default c = search (wide-over)
+pub returns-in_err-n : goal.returns-in_err-n
+returns-in_err-n c = rw c.from_residual.ensures (wide-over c.loop-c.invariant (search) c.in_err-n.ensures)
 
-pub overflow_add-at : goal.overflow_add-at
-overflow_add-at c = omega arith
-
-pub loop-at-smaller : goal.loop-at-smaller
-loop-at-smaller c = omega arith
-
-pub loop-at-preserved : goal.loop-at-preserved
-loop-at-preserved c = search (wide-more)
+pub loop-c-preserved : goal.loop-c-preserved
+loop-c-preserved c = wide-more c.loop-c.invariant (search) c.is_digit.ensures (search) c.in_ok-n.ensures
 
 pub returns : goal.returns
 returns c = search (wide-all)

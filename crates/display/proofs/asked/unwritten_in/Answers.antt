@@ -2,8 +2,8 @@
 use Rattle.display.proofs.AskedLaws.{told-other, told-place, told_none}
 use Rattle.display.proofs.asked.unwritten_in.Goals as goal
 
-pub returns-then-code-ne17 : goal.returns-then-code-ne17
-returns-then-code-ne17 c = search (told-other)
+pub returns-then-ne : goal.returns-then-ne
+returns-then-ne c = search (told-other)
 
 pub returns-in-Line : goal.returns-in-Line
 returns-in-Line c = search (told-place)

@@ -3,8 +3,8 @@ use Rattle.survey.proofs.DepthLaws.{named-depths, nothing-deep}
 use borrow.Author.Rules.{rules}
 use Rattle.survey.proofs.depths.depth_named.Goals as goal
 
-pub returns-in-Value : goal.returns-in-Value
-returns-in-Value c = search (named-depths, rules)
+pub returns-in-Some : goal.returns-in-Some
+returns-in-Some c = search (named-depths, rules)
 
-pub returns-in-Malformed : goal.returns-in-Malformed
-returns-in-Malformed c = search (nothing-deep, rules)
+pub returns-in-None : goal.returns-in-None
+returns-in-None c = search (nothing-deep, rules)

@@ -11,11 +11,11 @@ returns-then-text-lt2 c = search (key-short)
 pub returns-then-text-gt3 : goal.returns-then-text-gt3
 returns-then-text-gt3 c = search (key-long)
 
-pub returns-then-n-lt256 : goal.returns-then-n-lt256
-returns-then-n-lt256 c = search (key-number)
+pub returns-in-Some : goal.returns-in-Some
+returns-in-Some c = search (key-number)
 
-pub returns-else-n-lt256 : goal.returns-else-n-lt256
-returns-else-n-lt256 c = search (key-large)
+pub returns-in_default : goal.returns-in_default
+returns-in_default c = search (key-large, key-letters)
 
-pub returns-in-Malformed : goal.returns-in-Malformed
-returns-in-Malformed c = search (key-letters)
+pub returns-in_default-2 : goal.returns-in_default-2
+returns-in_default-2 c = search (key-large, key-letters)

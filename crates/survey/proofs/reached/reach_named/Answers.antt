@@ -3,8 +3,8 @@ use borrow.Author.Rules.{rules}
 use Rattle.survey.proofs.ReachLaws.{named-reached, nothing-reached}
 use Rattle.survey.proofs.reached.reach_named.Goals as goal
 
-pub returns-in-Value : goal.returns-in-Value
-returns-in-Value c = search (named-reached, rules)
+pub returns-in-Some : goal.returns-in-Some
+returns-in-Some c = search (named-reached, rules)
 
-pub returns-in-Malformed : goal.returns-in-Malformed
-returns-in-Malformed c = search (nothing-reached, rules)
+pub returns-in-None : goal.returns-in-None
+returns-in-None c = search (nothing-reached, rules)
