@@ -6,14 +6,16 @@ use mir.Val.{Fits}
 use mir.Syntax.{w64}
 use mathlib.Core.Path.{◌≡◌, refl, sym, ap, ◌∙◌}
 use mathlib.Core.Bool.{Bool, true, false, cond}
-use mathlib.Core.List.{List, [], ◌∷◌, ◌++◌}
+use mathlib.Core.List.Memᴰ
+use mathlib.Core.List.{List, [], ◌∷◌, ◌++◌, Memᴰ}
 use lib.Dec.{eqb}
 use borrow.Author.Tests.{lt-ltb, le-ltb}
-use lib.ListN.{length, drop, get_or, set, take, replicate, length-drop, length-take}
+use lib.ListN.{length, drop, get_or, set, take, replicate, length-drop, length-take, take-append-drop}
 use lib.Seq.{append_snoc, drop-drop, get_or-take, set_at, take_all, take-append-le, take-nil}
 use Rattle.book.specs.declared.item.Item.TheVariants.{Key}
 use Rattle.std.specs.Prelude.{Option, Some, None, slice_get}
-use Rattle.std.proofs.lemmas.Option.{slice_get_past}
+use Rattle.std.proofs.lemmas.List.{take_more}
+use Rattle.std.proofs.lemmas.Option.{get_or_from_slice_get, slice_get-get_or, slice_get_past, slice_get_within}
 use Rattle.book.specs.declared.macro_items.Items.{Items}
 use Rattle.book.specs.Format.{repeated, Macro, versions, width}
 use Rattle.book.specs.declared.item.Repeated.{Repeated}
@@ -208,6 +210,25 @@ module _ (b offsets : List ℕ) (i k : ℕ) where
   pub item-read : {p : List ℕ} {v wide : ℕ} {r : Option Repeated} → k < 64 → v ≡ version_in b → p ≡ part_from b offsets i → wide ≡ width v → r ≡ item_read v (drop (wide * k) p) → r ≡ slice_get (decoded (items_from b offsets i)) k
   unfolding items_from
   item-read {p} {v} {wide} {r} h e f w g = g ∙ ap (λ (n : ℕ). item_read v (drop (n * k) p)) w ∙ rw (e, f) (read_one (version_in b) (part_from b offsets i) k h)
+
+-- One item more, for those who go through some items one by one.
+module _ (is : Macro) (k : ℕ) where
+  module _ {x : Repeated} (e : slice_get is k ≡ Some x) where
+    pub item-more : take (k + 1) is ≡ take k is ++ (x ∷ [])
+    item-more = take_more is k x (slice_get_within is k x e) ∙ ap (λ (y : Repeated). take k is ++ (y ∷ [])) (get_or_from_slice_get is k x x e)
+
+    pub item-in : Memᴰ x is
+    item-in = rw (take-append-drop (k + 1) is) at (Memᴰ.append_left (drop (k + 1) is) front)
+      where
+        front : Memᴰ x (take (k + 1) is)
+        front = rw item-more (Memᴰ.append_right (take k is) (Memᴰ.head refl))
+
+  -- where there is none, they were all
+  pub items-end : slice_get is k ≡ None → take k is ≡ is
+  items-end e = either k (length is) (λ h. clash-none (sym e ∙ slice_get-get_or is k blank h)) (λ h. take_all k is h)
+    where
+      clash-none : {x : Repeated} → None ≡ Some x → take k is ≡ is
+      clash-none f = absurd (cc)
 
 -- the bytes behind are no matter
 front-take : (version k n : ℕ) (b : List ℕ) → width version * k ≤ n → front_items version k (take n b) ≡ front_items version k b

@@ -14,7 +14,7 @@ use Rattle.brackets.specs.declared.element.Element as declared
 use Rattle.brackets.specs.Form.{Element, byte, range}
 use Rattle.brackets.specs.Sets.{in_element}
 use Rattle.brackets.specs.Promises.{with_element, has_key, with_key, element_of, Known}
-use Rattle.brackets.proofs.Entries.{partly, entry_first, entry-none, entry_set, entry_kept, entry-last}
+use Rattle.brackets.proofs.Entries.{partly, entry_first, entry-none, entry_set, entry-last}
 use Rattle.brackets.specs.Answers.{map_with}
 use Rattle.runs.specs.Keys.{line_key}
 use Rattle.runs.proofs.KeyLaws.{key-test}
@@ -69,6 +69,10 @@ module _ (first last : ℕ) where
     pub range_last : last < k → now ≡ map_with (with_element (range first last)) 0 before
     range_last h = entry-last false (with_element (range first last)) k now before inv (λ j x g. not-added (range first last) j x (above-range j (omega arith)))
 
+    -- the turn at the last byte
+    pub range-whole : first ≤ k → k ≤ last → last ≤ k → set now k true ≡ map_with (with_element (range first last)) 0 before
+    range-whole l h g = entry-last false (with_element (range first last)) (k + 1) (set now k true) before (range-on l h) (λ j x i. not-added (range first last) j x (above-range j (omega arith)))
+
 -- an element, as the code has it
 module _ (e : declared.Element) where
   pub class-known : (c : ℕ) → e ≡ declared.Element.Class c → Known (element_of e) → c < 12
@@ -102,9 +106,9 @@ module _ (case : Case) (s : List Bool) (negated : Bool) (states : ℕ) where
       unfolding with_key
       keys_in_lem after g h = g ∙ entry_set 0 (with_key case s negated states) k now before inv (bit_or (get_or now k 0) states) (rw (sym e ∙ h))
 
-      pub keys-out : (after : List ℕ) → after ≡ now → has ≡ false → after ≡ partly (with_key case s negated states) (k + 1) before
+      pub keys-out : (after : List ℕ) → after ≡ set now k (get_or now k 0) → has ≡ false → after ≡ partly (with_key case s negated states) (k + 1) before
       unfolding with_key
-      keys-out after g h = g ∙ entry_kept 0 (with_key case s negated states) k now before inv (rw (sym e ∙ h))
+      keys-out after g h = g ∙ entry_set 0 (with_key case s negated states) k now before inv (get_or now k 0) (rw (sym e ∙ h))
 
     pub keys-last : 256 ≤ k → now ≡ map_with (with_key case s negated states) 0 before
     unfolding with_key

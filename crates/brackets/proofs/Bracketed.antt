@@ -12,11 +12,9 @@ use lib.Seq.{drop-drop}
 use borrow.Author.Tests.{eqb-true}
 use mir.Val.{bool_byte}
 use Rattle.letters.specs.declared.Case.{Case}
-use Rattle.brackets.specs.declared.atom.AtomRead.{AtomRead}
-use Rattle.brackets.specs.declared.atom.AtomRead.TheVariants.{At, Fault}
+use Rattle.std.specs.Prelude.{Option, Some, None}
 use Rattle.brackets.specs.declared.cursor.AtomCursor.{AtomCursor}
 use Rattle.brackets.specs.declared.element.Element as declared
-use Rattle.brackets.specs.declared.element.ElementRead as element
 use Rattle.brackets.specs.Form.{Element, bracket}
 use Rattle.brackets.specs.Sets.{in_element, in_elements, named}
 use Rattle.brackets.specs.Brackets.{Parsed, parsed, fault, next, done, read_element, read_elements, bracket_of, read_bracket}
@@ -45,16 +43,16 @@ module _ (set : List Bool) where
 pub record Going (s : List ℕ) (start : ℕ) (before : List Bool) (at : ℕ) (first : Bool) (now : List Bool) : Type 0 where
   pub bound : ℕ
   pub enough : length s ≤ bound + at
-  pub whole : (after : List Bool) (r : AtomRead) → ElementsDone (length s) (read_elements bound first (drop at s)) now after r → ElementsDone (length s) (elements_from start s) before after r
+  pub whole : (after : List Bool) (r : Option AtomCursor) → ElementsDone (length s) (read_elements bound first (drop at s)) now after r → ElementsDone (length s) (elements_from start s) before after r
 
 pub going-first : (s : List ℕ) (start : ℕ) (before : List Bool) → Going s start before start true before
 unfolding elements_from
 going-first s start before = record { bound = length s; enough = omega arith; whole = λ after r h. h }
 
 module _ (s : List ℕ) (start : ℕ) (before : List Bool) (p : ℕ) (first : Bool) (now : List Bool) (g : Going s start before p first now) where
-  pub going_end : length s ≤ p → ElementsDone (length s) (elements_from start s) before now Fault
+  pub going_end : length s ≤ p → ElementsDone (length s) (elements_from start s) before now None
   unfolding ElementsDone
-  going_end h = g.whole now Fault (rw (drop_of_length-le s h, elements-empty g.bound first) refl)
+  going_end h = g.whole now None (rw (drop_of_length-le s h, elements-empty g.bound first) refl)
 
   module _ (low : p < length s) (b : ℕ) (q : b ≡ get_or s p 0) where
     less : g.bound ≡ suc (g.bound - 1)
@@ -73,24 +71,24 @@ module _ (s : List ℕ) (start : ℕ) (before : List Bool) (p : ℕ) (first : Bo
     turn : read_elements g.bound first (drop p s) ≡ Turn (g.bound - 1)
     turn = turn_at g.bound (g.bound - 1) less
 
-    pub going-closed : not first && eqb b 93 ≡ true → (d : AtomCursor) → d ≡ cursor_at (p + 1) → ElementsDone (length s) (elements_from start s) before now (At d)
+    pub going-closed : not first && eqb b 93 ≡ true → (d : AtomCursor) → d ≡ cursor_at (p + 1) → ElementsDone (length s) (elements_from start s) before now (Some d)
     unfolding ElementsDone
-    going-closed h d e = g.whole now (At d) (rw (turn, h) (ap At (e ∙ rw (← place)), elements-none now))
+    going-closed h d e = g.whole now (Some d) (rw (turn, h) (ap Some (e ∙ rw (← place)), elements-none now))
       where
         place : p + 1 ≡ length s - length (drop 1 (drop p s))
         place = rw (length-drop 1 (drop p s), length-drop p s) (omega arith)
 
-    module _ (h : not first && eqb b 93 ≡ false) (r : element.ElementRead) (k : r ≡ element_shown p (read_element first (drop p s))) where
-      pub going-fault : r ≡ element.ElementRead.Fault → ElementsDone (length s) (elements_from start s) before now Fault
+    module _ (h : not first && eqb b 93 ≡ false) where
+      pub going-fault : None ≡ element_shown p (read_element first (drop p s)) → ElementsDone (length s) (elements_from start s) before now None
       unfolding ElementsDone
-      going-fault f = g.whole now Fault (rw (turn, h, shown-fault first s p r k f) refl)
+      going-fault f = g.whole now None (rw (turn, h, shown-fault first s p f) refl)
 
-      pub going_on : (d : declared.Element) (n : AtomCursor) (after : List Bool) → r ≡ element.ElementRead.Found d n → after ≡ map_with (with_element (element_of d)) 0 now → Going s start before n.at false after
+      pub going_on : (d : declared.Element) (n : AtomCursor) (after : List Bool) → Some (d, n) ≡ element_shown p (read_element first (drop p s)) → after ≡ map_with (with_element (element_of d)) 0 now → Going s start before n.at false after
       unfolding ElementsDone
       going_on d n after f m = record { bound = g.bound - 1; enough = room; whole = λ last a done. g.whole last a (rw (onward) (more (read_elements (g.bound - 1) false (drop n.at s)) last a done)) }
         where
           shown : Shown first s p d n
-          shown = shown-found first s p r k d n f
+          shown = shown-found first s p d n f
 
           room : length s ≤ g.bound - 1 + n.at
           room = let w : length s ≤ g.bound + p = g.enough in let x : p < n.at = shown.further in omega arith
@@ -98,7 +96,7 @@ module _ (s : List ℕ) (start : ℕ) (before : List Bool) (p : ℕ) (first : Bo
           onward : read_elements g.bound first (drop p s) ≡ next (read_elements (g.bound - 1) false (drop n.at s)) (λ es. done (element_of d ∷ es))
           onward = rw (turn, h, shown.parse, shown.same)
 
-          more : (a : Parsed (List Element)) (last : List Bool) (b : AtomRead) → ElementsDone (length s) a after last b → ElementsDone (length s) (next a (λ es. done (element_of d ∷ es))) now last b
+          more : (a : Parsed (List Element)) (last : List Bool) (b : Option AtomCursor) → ElementsDone (length s) a after last b → ElementsDone (length s) (next a (λ es. done (element_of d ∷ es))) now last b
           more (parsed es rest) last b (x, y) = (x, y ∙ rw m (elements-more now (element_of d) es))
           more fault last b x = x
 
@@ -109,27 +107,27 @@ module _ (es : List Element) (s : List Bool) (negated : Bool) (e : s ≡ map_wit
   filled-set k h = rw (e, set-entry (with_elements es) k h)
 
 -- a set whose elements were read, or not
-module _ (l : List ℕ) (start : ℕ) (s : List Bool) (r : AtomRead) (d : ElementsDone (length l) (elements_from start l) (replicate 256 false) s r) where
+module _ (l : List ℕ) (start : ℕ) (s : List Bool) where
   record Gathered (end : AtomCursor) : Type 0 where
     elements : List Element
     rest : List ℕ
     parse : elements_from start l ≡ parsed elements rest
-    place : At end ≡ At (cursor_at (length l - length rest))
+    place : Some end ≡ Some (cursor_at (length l - length rest))
     full : s ≡ map_with (with_elements elements) 0 (replicate 256 false)
 
-  gathered : (end : AtomCursor) → r ≡ At end → Gathered end
+  gathered : (end : AtomCursor) → ElementsDone (length l) (elements_from start l) (replicate 256 false) s (Some end) → Gathered end
   unfolding ElementsDone
-  gathered end h = go (elements_from start l) refl d
+  gathered end d = go (elements_from start l) refl d
     where
-      go : (a : Parsed (List Element)) → elements_from start l ≡ a → ElementsDone (length l) a (replicate 256 false) s r → Gathered end
-      go (parsed es rest) e (f, g) = record { elements = es; rest = rest; parse = e; place = sym h ∙ f; full = g }
+      go : (a : Parsed (List Element)) → elements_from start l ≡ a → ElementsDone (length l) a (replicate 256 false) s (Some end) → Gathered end
+      go (parsed es rest) e (f, g) = record { elements = es; rest = rest; parse = e; place = f; full = g }
       go fault e f = clash (cc)
 
-  not-gathered : r ≡ Fault → elements_from start l ≡ fault
+  not-gathered : ElementsDone (length l) (elements_from start l) (replicate 256 false) s None → elements_from start l ≡ fault
   unfolding ElementsDone
-  not-gathered h = go (elements_from start l) d
+  not-gathered d = go (elements_from start l) d
     where
-      go : (a : Parsed (List Element)) → ElementsDone (length l) a (replicate 256 false) s r → a ≡ fault
+      go : (a : Parsed (List Element)) → ElementsDone (length l) a (replicate 256 false) s None → a ≡ fault
       go (parsed es rest) (f, g) = clash (cc)
       go fault f = refl
 
@@ -155,15 +153,15 @@ module _ (s : List ℕ) (p b : ℕ) (e : b ≡ get_or s p 0) (start : AtomCursor
       go true = rw drop-drop
       go false = rw add-zero
 
-  module _ (set : List Bool) (r : AtomRead) (d : ElementsDone (length s) (elements_from start.at s) (replicate 256 false) set r) where
-    pub read-fault : r ≡ Fault → read_bracket (drop p s) ≡ fault
-    read-fault h = rw (bracket-read, not-gathered s start.at set r d h)
+  module _ (set : List Bool) where
+    pub read-fault : ElementsDone (length s) (elements_from start.at s) (replicate 256 false) set None → read_bracket (drop p s) ≡ fault
+    read-fault d = rw (bracket-read, not-gathered s start.at set d)
 
-    module _ (end : AtomCursor) (h : r ≡ At end) where
-      fill : Gathered s start.at set r d end
-      fill = gathered s start.at set r d end h
+    module _ (end : AtomCursor) (d : ElementsDone (length s) (elements_from start.at s) (replicate 256 false) set (Some end)) where
+      fill : Gathered s start.at set end
+      fill = gathered s start.at set end d
 
-      pub read-place : At end ≡ place_behind (length s) (read_bracket (drop p s))
+      pub read-place : Some end ≡ place_behind (length s) (read_bracket (drop p s))
       read-place = rw (bracket-read, fill.parse) fill.place
 
       pub read_table : (case : Case) (states : ℕ) (before after : List ℕ) → after ≡ map_with (with_key case set (eqb b 94) states) 0 before → after ≡ keys_behind case (read_bracket (drop p s)) states before

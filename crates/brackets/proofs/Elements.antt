@@ -4,15 +4,13 @@ use native.Mathlib.Omega.{arith}
 use mathlib.Core.Path.{◌≡◌, refl, sym, ap, ◌∙◌}
 use mathlib.Core.Bool.{Bool, true, false, not, ◌&&◌, ◌||◌, cond, or-false}
 use mathlib.Core.List.{List, [], ◌∷◌}
-use mathlib.Core.Option.{Option, none, some}
+use mathlib.Core.Option as math
+use Rattle.std.specs.Prelude.{Option, Some, None}
 use lib.Dec.{leb, eqb}
 use lib.ListN.{length, get_or, drop, length-append}
 use lib.Seq.{get_or-drop, drop-drop}
-use Rattle.brackets.specs.declared.class.ClassRead.{ClassRead}
-use Rattle.brackets.specs.declared.class.ClassRead.TheVariants as class-read
 use Rattle.brackets.specs.declared.cursor.AtomCursor.{AtomCursor}
-use Rattle.brackets.specs.declared.element.ElementRead.{ElementRead}
-use Rattle.brackets.specs.declared.element.ElementRead.TheVariants.{Found, Fault}
+use Rattle.brackets.specs.declared.element.Element as declared
 use Rattle.brackets.specs.declared.element.Element.TheVariants as variant
 use Rattle.brackets.specs.Form.{byte, range, class, class_name, write_element, Element}
 use Rattle.brackets.specs.Brackets.{parsed, fault, at, starts_range, find_class, class_found, read_class, read_range, read_byte, read_element, Parsed}
@@ -23,6 +21,7 @@ use Rattle.brackets.proofs.ClassTables.{name-short}
 use Rattle.brackets.proofs.Classes.{found-class}
 use Rattle.runs.specs.Keys.{member}
 use Rattle.runs.proofs.Tests.{clash}
+use Rattle.std.proofs.lemmas.Option.{some_pair_parts}
 
 -- `[.`, `[=` or `[:`
 pub opens_one : (b c : ℕ) → eqb b 91 && (eqb c 46 || (eqb c 61 || eqb c 58)) ≡ eqb b 91 && member c (46 ∷ 61 ∷ 58 ∷ [])
@@ -44,11 +43,11 @@ module _ (s : List ℕ) (p : ℕ) where
     byte-read : read_byte first (drop p s) ≡ cond ByteTest (parsed (byte a) (drop 1 (drop p s))) fault
     byte-read = rw (first-at s p, behind 1, ← e, ← f)
 
-    pub byte-found : ByteTest ≡ true → (d : AtomCursor) → d ≡ cursor_at (p + 1) → Found (variant.Byte a) d ≡ element_shown p (read_byte first (drop p s))
+    pub byte-found : ByteTest ≡ true → (d : AtomCursor) → d ≡ cursor_at (p + 1) → Some (variant.Byte a, d) ≡ element_shown p (read_byte first (drop p s))
     unfolding write_element
     byte-found h d k = rw (byte-read, h, k)
 
-    pub byte-fault : ByteTest ≡ false → Fault ≡ element_shown p (read_byte first (drop p s))
+    pub byte-fault : ByteTest ≡ false → None ≡ element_shown p (read_byte first (drop p s))
     byte-fault h = rw (byte-read, h)
 
   -- a range
@@ -59,35 +58,32 @@ module _ (s : List ℕ) (p : ℕ) where
     range-read : read_range first (drop p s) ≡ cond RangeTest (parsed (range a b) (drop 3 (drop p s))) fault
     range-read = rw (first-at s p, behind 2, behind 3, ← e, ← f, ← g, ← n)
 
-    pub range-found : RangeTest ≡ true → (d : AtomCursor) → d ≡ cursor_at (p + 3) → Found (variant.Range a b) d ≡ element_shown p (read_range first (drop p s))
+    pub range-found : RangeTest ≡ true → (d : AtomCursor) → d ≡ cursor_at (p + 3) → Some (variant.Range a b, d) ≡ element_shown p (read_range first (drop p s))
     unfolding write_element
     range-found h d k = rw (range-read, h, k)
 
-    pub range-fault : RangeTest ≡ false → Fault ≡ element_shown p (read_range first (drop p s))
+    pub range-fault : RangeTest ≡ false → None ≡ element_shown p (read_range first (drop p s))
     range-fault h = rw (range-read, h)
 
   -- a class, whose name is read behind the `[:`
   pub name-near : (here : AtomCursor) → here ≡ cursor_at (p + 2) → p ≤ length s → here.at ≤ length s + 2
   name-near here two low = rw two (omega arith)
 
-  module _ (here : AtomCursor) (two : here ≡ cursor_at (p + 2)) (r : ClassRead) (e : r ≡ class_shown here.at (find_class 12 0 (drop here.at s))) where
-    name : r ≡ class_shown (p + 2) (find_class 12 0 (drop (p + 2) s))
-    name = rw two at e
-
-    pub class-unknown : r ≡ class-read.Unknown → Fault ≡ element_shown p (read_class (drop (p + 2) s))
-    class-unknown h = go (find_class 12 0 (drop (p + 2) s)) (sym name ∙ h)
+  module _ (here : AtomCursor) (two : here ≡ cursor_at (p + 2)) where
+    pub class-unknown : None ≡ class_shown here.at (find_class 12 0 (drop here.at s)) → None ≡ element_shown p (read_class (drop (p + 2) s))
+    class-unknown e = go (find_class 12 0 (drop (p + 2) s)) (sym (rw two at e))
       where
-        go : (o : Option ℕ) → class_shown (p + 2) o ≡ class-read.Unknown → Fault ≡ element_shown p (class_found o (drop (p + 2) s))
-        go none f = refl
-        go (some c) f = clash (cc)
+        go : (o : math.Option ℕ) → class_shown (p + 2) o ≡ None → None ≡ element_shown p (class_found o (drop (p + 2) s))
+        go math.none f = refl
+        go (math.some c) f = clash (cc)
 
-    module _ (c : ℕ) (d : AtomCursor) (h : r ≡ class-read.Found c d) where
-      found : (find_class 12 0 (drop (p + 2) s) ≡ some c) × (d ≡ cursor_at (p + 2 + (length (class_name c) + 2)))
-      found = go (find_class 12 0 (drop (p + 2) s)) (sym name ∙ h)
+    module _ (c : ℕ) (d : AtomCursor) (e : Some (c, d) ≡ class_shown here.at (find_class 12 0 (drop here.at s))) where
+      found : (find_class 12 0 (drop (p + 2) s) ≡ math.some c) × (d ≡ cursor_at (p + 2 + (length (class_name c) + 2)))
+      found = go (find_class 12 0 (drop (p + 2) s)) (sym (rw two at e))
         where
-          go : (o : Option ℕ) → class_shown (p + 2) o ≡ class-read.Found c d → (o ≡ some c) × (d ≡ cursor_at (p + 2 + (length (class_name c) + 2)))
-          go none f = clash (cc)
-          go (some x) f = let g : x ≡ c = cc in (ap some g, cc)
+          go : (o : math.Option ℕ) → class_shown (p + 2) o ≡ Some (c, d) → (o ≡ math.some c) × (d ≡ cursor_at (p + 2 + (length (class_name c) + 2)))
+          go math.none f = clash (cc)
+          go (math.some x) f = let (g, h) = some_pair_parts x c (cursor_at (p + 2 + (length (class_name x) + 2))) d f in (ap math.some g, sym h ∙ rw g)
 
       pub class-near : p ≤ length s → d.at ≤ length s + 10
       class-near low =
@@ -99,14 +95,14 @@ module _ (s : List ℕ) (p : ℕ) where
         class-read-found : read_class (drop (p + 2) s) ≡ cond t fault (parsed (class c) (drop (p + 2 + (length (class_name c) + 2)) s))
         class-read-found = rw (found.0, drop-drop, rw found.1 at g)
 
-        pub class-range : t ≡ true → Fault ≡ element_shown p (read_class (drop (p + 2) s))
+        pub class-range : t ≡ true → None ≡ element_shown p (read_class (drop (p + 2) s))
         class-range k = rw (class-read-found, k)
 
-        pub class-found : t ≡ false → Found (variant.Class c) d ≡ element_shown p (read_class (drop (p + 2) s))
+        pub class-found : t ≡ false → Some (variant.Class c, d) ≡ element_shown p (read_class (drop (p + 2) s))
         unfolding write_element
         class-found k =
             let g : p + 2 + (length (class_name c) + 2) ≡ p + suc (suc (length (class_name c) + 2)) = omega arith in
-            rw (class-read-found, k, length-append, ← g) (ap (Found (variant.Class c)) found.1)
+            rw (class-read-found, k, length-append, ← g) (ap (λ (n : AtomCursor). Some (variant.Class c, n)) found.1)
 
   -- which of the three it is
   pub range-near : (next : AtomCursor) → next ≡ cursor_at (p + 1) → p < length s → next.at ≤ length s + 10
@@ -123,14 +119,14 @@ module _ (s : List ℕ) (p : ℕ) where
     unfolding read_element
     chosen = rw (first-at s p, behind 1, drop-drop 2 p s, drop-drop 1 p s, ← e, ← f, or-false (eqb b 61))
 
-    pub element-class : (r : ElementRead) → eqb a 91 && eqb b 58 ≡ true → r ≡ element_shown p (read_class (drop (p + 2) s)) → r ≡ element_shown p (read_element first (drop p s))
+    pub element-class : (r : Option (declared.Element × AtomCursor)) → eqb a 91 && eqb b 58 ≡ true → r ≡ element_shown p (read_class (drop (p + 2) s)) → r ≡ element_shown p (read_element first (drop p s))
     element-class r h g = rw (chosen, h) g
 
     module _ (no-class : eqb a 91 && eqb b 58 ≡ false) where
-      pub element-opens : eqb a 91 && (eqb b 46 || eqb b 61) ≡ true → Fault ≡ element_shown p (read_element first (drop p s))
+      pub element-opens : eqb a 91 && (eqb b 46 || eqb b 61) ≡ true → None ≡ element_shown p (read_element first (drop p s))
       element-opens h = rw (chosen, no-class, h)
 
-      module _ (no-open : eqb a 91 && (eqb b 46 || eqb b 61) ≡ false) (next : AtomCursor) (one : next ≡ cursor_at (p + 1)) (t : Bool) (k : t ≡ starts_range (drop next.at s)) (r : ElementRead) where
+      module _ (no-open : eqb a 91 && (eqb b 46 || eqb b 61) ≡ false) (next : AtomCursor) (one : next ≡ cursor_at (p + 1)) (t : Bool) (k : t ≡ starts_range (drop next.at s)) (r : Option (declared.Element × AtomCursor)) where
         starts : t ≡ starts_range (drop (p + 1) s)
         starts = rw one at k
 

@@ -7,7 +7,7 @@ use mathlib.Core.Bool.{Bool, true, false, cond}
 use mathlib.Core.List.{List, [], ◌∷◌}
 use lib.Dec.{ltb, eqb}
 use lib.ListN.{length, get_or, set, length-set}
-use lib.Seq.{ext_get_or, get_or-set_same, get_or-set_other, set-get_or}
+use lib.Seq.{ext_get_or, get_or-set_same, get_or-set_other}
 use borrow.Author.Tests.{lt-ltb, le-ltb, ltb-true, ltb-false, eqb-true, eqb-false}
 use Rattle.brackets.specs.Answers.{map_with}
 
@@ -103,7 +103,3 @@ module _ {A : Type 0} where
         at k h false q =
             let n : k ≡ i → ⊥ = eqb-false k i q in
             rw (get_or-set_other now i k v d n, old k h, new k h, other k (ltb k i) refl n)
-
-    -- a turn that leaves the entry
-    pub entry_kept : f i (get_or now i d) ≡ get_or now i d → now ≡ partly f (i + 1) before
-    entry_kept e = sym (set-get_or now i d) ∙ entry_set (get_or now i d) (sym e)

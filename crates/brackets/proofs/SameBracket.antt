@@ -8,7 +8,8 @@ use lib.Dec.{eqb}
 use lib.ListN.{length, drop, length-append}
 use lib.Seq.{drop-append_seam}
 use Rattle.letters.specs.declared.Case.{Case}
-use Rattle.brackets.specs.declared.atom.AtomRead.{AtomRead}
+use Rattle.std.specs.Prelude.{Option, Some, None}
+use Rattle.brackets.specs.declared.cursor.AtomCursor.{AtomCursor}
 use Rattle.brackets.specs.Form.{Element, Atom}
 use Rattle.brackets.specs.Brackets.{Parsed, parsed, fault, next, done, at, read_element, read_elements, bounded_bracket, read_bracket}
 use Rattle.brackets.specs.Answers.{cursor_at, place_behind, keys_behind}
@@ -43,9 +44,9 @@ bracket-bound l f h =
     rw (negated, plain)
 
 -- an answer n bytes further on
-abbrev pub moved_by : ℕ → AtomRead → AtomRead
-moved_by n (AtomRead.At c) = AtomRead.At (cursor_at (n + c.at))
-moved_by n AtomRead.Fault = AtomRead.Fault
+abbrev pub moved_by : ℕ → Option AtomCursor → Option AtomCursor
+moved_by n (Some c) = Some (cursor_at (n + c.at))
+moved_by n None = None
 
 -- whatever stands before the place
 module _ (before l : List ℕ) where

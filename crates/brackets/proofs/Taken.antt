@@ -4,13 +4,12 @@ use native.Mathlib.Omega.{arith}
 use mathlib.Core.Path.{◌≡◌, refl, sym, ap, ◌∙◌}
 use mathlib.Core.Bool.{Bool, true, false, not, ◌&&◌, ◌||◌, cond, and-false}
 use mathlib.Core.List.{List, [], ◌∷◌}
-use mathlib.Core.Option.{Option, none, some}
+use mathlib.Core.Option as math
+use Rattle.std.specs.Prelude.{Some, None}
 use lib.Dec.{leb, eqb}
 use lib.ListN.{length, drop, length-append}
 use lib.Seq.{drop-drop}
 use Rattle.brackets.specs.declared.cursor.AtomCursor.{AtomCursor}
-use Rattle.brackets.specs.declared.element.ElementRead.{ElementRead}
-use Rattle.brackets.specs.declared.element.ElementRead.TheVariants.{Found, Fault}
 use Rattle.brackets.specs.declared.element.Element as declared
 use Rattle.brackets.specs.Form.{Element, byte, range, class, class_name, write_element}
 use Rattle.brackets.specs.Brackets.{Parsed, parsed, fault, at, find_class, class_found, starts_range, read_element, read_elements}
@@ -20,6 +19,7 @@ use Rattle.brackets.proofs.Parses.{same-parsed}
 use Rattle.brackets.proofs.Classes.{found-class}
 use Rattle.runs.specs.Keys.{member}
 use Rattle.runs.proofs.Tests.{clash}
+use Rattle.std.proofs.lemmas.Option.{some_pair_parts}
 
 -- an element takes the bytes that it is written as, and a class is one of the twelve
 pub record Taken (l : List ℕ) (e : Element) (rest : List ℕ) : Type 0 where
@@ -49,9 +49,9 @@ module _ (l : List ℕ) where
   unfolding write_element
   class-size c = rw length-append (omega arith)
 
-  class-sound : (o : Option ℕ) → find_class 12 0 (drop 2 l) ≡ o → Sound l (class_found o (drop 2 l))
-  class-sound none e = refused
-  class-sound (some c) e =
+  class-sound : (o : math.Option ℕ) → find_class 12 0 (drop 2 l) ≡ o → Sound l (class_found o (drop 2 l))
+  class-sound math.none e = refused
+  class-sound (math.some c) e =
       either (starts_range (drop (length (class_name c) + 2) (drop 2 l))) refused
       (read (record { left = rw (class-size c, drop-drop); some_bytes = rw (class-size c) (omega arith); known = (found-class (drop 2 l) c 12 0 e).0 }))
 
@@ -85,24 +85,23 @@ pub record Shown (first : Bool) (s : List ℕ) (p : ℕ) (d : declared.Element) 
   pub further : p < next.at
   pub known : Known (element_of d)
 
-module _ (first : Bool) (s : List ℕ) (p : ℕ) (r : ElementRead) (e : r ≡ element_shown p (read_element first (drop p s))) where
-  pub shown-fault : r ≡ Fault → read_element first (drop p s) ≡ fault
-  shown-fault h = go (read_element first (drop p s)) (sym e ∙ h)
+module _ (first : Bool) (s : List ℕ) (p : ℕ) where
+  pub shown-fault : None ≡ element_shown p (read_element first (drop p s)) → read_element first (drop p s) ≡ fault
+  shown-fault e = go (read_element first (drop p s)) (sym e)
     where
-      go : (a : Parsed Element) → element_shown p a ≡ Fault → a ≡ fault
+      go : (a : Parsed Element) → element_shown p a ≡ None → a ≡ fault
       go (parsed x rest) f = clash (cc)
       go fault f = refl
 
-  module _ (d : declared.Element) (next : AtomCursor) (h : r ≡ Found d next) where
+  module _ (d : declared.Element) (next : AtomCursor) (e : Some (d, next) ≡ element_shown p (read_element first (drop p s))) where
     pub shown-found : Shown first s p d next
-    shown-found = go (read_element first (drop p s)) refl (sym e ∙ h)
+    shown-found = go (read_element first (drop p s)) refl (sym e)
       where
-        go : (a : Parsed Element) → read_element first (drop p s) ≡ a → element_shown p a ≡ Found d next → Shown first s p d next
+        go : (a : Parsed Element) → read_element first (drop p s) ≡ a → element_shown p a ≡ Some (d, next) → Shown first s p d next
         go fault g f = clash (cc)
         go (parsed x rest) g f =
             let t = element-taken (drop p s) first x rest g in
-            let same : shown_element x ≡ d = cc in
-            let behind : cursor_at (p + length (write_element x)) ≡ next = cc in
+            let (same, behind) = some_pair_parts (shown_element x) d (cursor_at (p + length (write_element x))) next f in
             let m : p + length (write_element x) ≡ next.at = ap (λ (c : AtomCursor). c.at) behind in
             let b : x ≡ element_of d = sym (shown-back x) ∙ ap element_of same in
             record { rest = rest; parse = g ∙ rw b; same = t.left ∙ rw (drop-drop, m); further = let h : 0 < length (write_element x) = t.some_bytes in omega arith; known = rw b at t.known }

@@ -1,8 +1,7 @@
 -- What the atom reader answers: the place behind an atom, and the table of keys with the atom's states in it.
-use Rattle.std.specs.Prelude.{ℕ, suc, ◌-◌, cond, List, [], ◌∷◌, length}
+use Rattle.std.specs.Prelude.{ℕ, suc, ◌-◌, cond, List, [], ◌∷◌, length, Option, Some, None}
 use Rattle.std.specs.Int.Bits.{bit_or}
 use Rattle.letters.specs.declared.Case.{Case}
-use Rattle.brackets.specs.declared.atom.AtomRead.{AtomRead}
 use Rattle.brackets.specs.declared.cursor.AtomCursor.{AtomCursor}
 use Rattle.brackets.specs.Form.{Atom}
 use Rattle.brackets.specs.Brackets.{Parsed, parsed, fault}
@@ -13,9 +12,9 @@ abbrev pub cursor_at : ℕ → AtomCursor
 cursor_at p = record { at = p }
 
 -- the cursor behind what was read, in a text of n bytes
-abbrev pub place_behind : {A : Type 0} → ℕ → Parsed A → AtomRead
-place_behind n (parsed a rest) = AtomRead.At (cursor_at (n - length rest))
-place_behind n fault = AtomRead.Fault
+abbrev pub place_behind : {A : Type 0} → ℕ → Parsed A → Option AtomCursor
+place_behind n (parsed a rest) = Some (cursor_at (n - length rest))
+place_behind n fault = None
 
 -- each entry of a list changed by its place, counted from i
 unfoldable pub map_with : {A : Type 0} → (ℕ → A → A) → ℕ → List A → List A

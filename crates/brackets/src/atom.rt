@@ -10,13 +10,6 @@ use crate::look::peek;
 use crate::set::{store_dot, store_key};
 use letters::Case;
 
-// The cursor behind what was read, or a fault.
-#[derive(Clone, Copy)]
-pub enum AtomRead {
-    At(AtomCursor),
-    Fault,
-}
-
 // The twelve marks.
 const MARKS: [u8; 12] = *b"^.[$()|*+?{\\";
 
@@ -24,45 +17,43 @@ const MARKS: [u8; 12] = *b"^.[$()|*+?{\\";
 fn is_mark(b: u8) -> bool
     ensures { result ≡ member b marks }
 {
-    let mut i = 0;
-    while i < 12 {
-        if b == MARKS[i] {
-            return true;
-        }
-        i += 1;
-    }
-    false
+    MARKS.contains(&b)
 }
 
 impl AtomCursor {
-    // The atom at the cursor. Its keys get these states into their words; a fault leaves the words as they are.
-    pub fn atom(self, s: &[u8], case: Case, states: u64, keys: &mut [u64; 256]) -> AtomRead
+    // The cursor behind the atom at this one, or none at a fault. The atom's keys get these states into their words; a fault leaves
+    // the words as they are.
+    pub fn atom(
+        self,
+        s: &[u8],
+        case: Case,
+        states: u64,
+        keys: &mut [u64; 256],
+    ) -> Option<AtomCursor>
         ensures place { result ≡ place_behind (length s.now) (read_atom (drop self.at s.now)) }
         ensures table { keys.new ≡ keys_behind case (read_atom (drop self.at s.now)) states keys.old }
     {
-        if self.at >= s.len() {
-            return AtomRead::Fault;
-        }
-        let b = peek(s, self.at);
-        if b == b'.' {
-            store_dot(case, states, keys);
-            return AtomRead::At(self.past(1));
-        }
-        if b == b'[' {
-            return self.past(1).bracket(s, case, states, keys);
-        }
-        if b == b'\\' {
-            let escaped = peek(s, self.at + 1);
-            if !is_mark(escaped) {
-                return AtomRead::Fault;
+        match *s.get(self.at)? {
+            b'.' => {
+                store_dot(case, states, keys);
+                Some(self.past(1))
             }
-            store_key(escaped, case, states, keys);
-            return AtomRead::At(self.past(2));
+            b'[' => self.past(1).bracket(s, case, states, keys),
+            b'\\' => {
+                let escaped = peek(s, self.at + 1);
+                if !is_mark(escaped) {
+                    return None;
+                }
+                store_key(escaped, case, states, keys);
+                Some(self.past(2))
+            }
+            b => {
+                if (b == 0) | is_mark(b) {
+                    return None;
+                }
+                store_key(b, case, states, keys);
+                Some(self.past(1))
+            }
         }
-        if (b == 0) | is_mark(b) {
-            return AtomRead::Fault;
-        }
-        store_key(b, case, states, keys);
-        AtomRead::At(self.past(1))
     }
 }

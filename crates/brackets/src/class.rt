@@ -1,156 +1,88 @@
 // The twelve classes of a bracket, and the search for one (document 01, "Patterns").
 ghost use Rattle.std.specs.Prelude.{◌≡◌, ◌+◌, ◌<◌, ◌≤◌, drop, length};
-ghost use Rattle.brackets.specs.Brackets.{find_class, is_class};
-ghost use Rattle.brackets.specs.Promises.{RowOf, class_shown};
+ghost use Rattle.brackets.specs.Brackets.{find_class};
+ghost use Rattle.brackets.specs.Promises.{ClassTable, class_shown};
 
 use crate::cursor::AtomCursor;
-use crate::look::peek;
 
-// A class: its name, and how many bytes that has; the first and the last bytes of its ranges, and how many there are.
-// 0 fills the arrays.
+// A class: its name with the `:]` behind it, and the first and the last byte of each of its ranges.
 #[derive(Clone, Copy)]
 pub(crate) struct Class {
-    name: [u8; 6],
-    length: usize,
-    pub(crate) first: [u8; 4],
-    pub(crate) last: [u8; 4],
-    pub(crate) count: usize,
+    text: &'static [u8],
+    pub(crate) ranges: &'static [(u8, u8)],
 }
 
 // "The twelve class names stand for these ranges."
-const CLASSES: [Class; 12] = [
+const CLASSES: &[Class] = &[
     Class {
-        name: *b"upper\0",
-        length: 5,
-        first: *b"A\0\0\0",
-        last: *b"Z\0\0\0",
-        count: 1,
+        text: b"upper:]",
+        ranges: &[(b'A', b'Z')],
     },
     Class {
-        name: *b"lower\0",
-        length: 5,
-        first: *b"a\0\0\0",
-        last: *b"z\0\0\0",
-        count: 1,
+        text: b"lower:]",
+        ranges: &[(b'a', b'z')],
     },
     Class {
-        name: *b"alpha\0",
-        length: 5,
-        first: *b"Aa\0\0",
-        last: *b"Zz\0\0",
-        count: 2,
+        text: b"alpha:]",
+        ranges: &[(b'A', b'Z'), (b'a', b'z')],
     },
     Class {
-        name: *b"digit\0",
-        length: 5,
-        first: *b"0\0\0\0",
-        last: *b"9\0\0\0",
-        count: 1,
+        text: b"digit:]",
+        ranges: &[(b'0', b'9')],
     },
     Class {
-        name: *b"alnum\0",
-        length: 5,
-        first: *b"Aa0\0",
-        last: *b"Zz9\0",
-        count: 3,
+        text: b"alnum:]",
+        ranges: &[(b'A', b'Z'), (b'a', b'z'), (b'0', b'9')],
     },
     Class {
-        name: *b"xdigit",
-        length: 6,
-        first: *b"0Aa\0",
-        last: *b"9Ff\0",
-        count: 3,
+        text: b"xdigit:]",
+        ranges: &[(b'0', b'9'), (b'A', b'F'), (b'a', b'f')],
     },
     Class {
-        name: *b"punct\0",
-        length: 5,
-        first: *b"!:[{",
-        last: *b"/@`~",
-        count: 4,
+        text: b"punct:]",
+        ranges: &[(b'!', b'/'), (b':', b'@'), (b'[', b'`'), (b'{', b'~')],
     },
     Class {
-        name: *b"graph\0",
-        length: 5,
-        first: *b"!\0\0\0",
-        last: *b"~\0\0\0",
-        count: 1,
+        text: b"graph:]",
+        ranges: &[(b'!', b'~')],
     },
     Class {
-        name: *b"print\0",
-        length: 5,
-        first: *b"\x20\0\0\0",
-        last: *b"~\0\0\0",
-        count: 1,
+        text: b"print:]",
+        ranges: &[(b' ', b'~')],
     },
     Class {
-        name: *b"cntrl\0",
-        length: 5,
-        first: *b"\0\x7f\0\0",
-        last: *b"\x1f\x7f\0\0",
-        count: 2,
+        text: b"cntrl:]",
+        ranges: &[(b'\0', b'\x1f'), (b'\x7f', b'\x7f')],
     },
     Class {
-        name: *b"space\0",
-        length: 5,
-        first: *b"\t\x20\0\0",
-        last: *b"\r\x20\0\0",
-        count: 2,
+        text: b"space:]",
+        ranges: &[(b'\t', b'\r'), (b' ', b' ')],
     },
     Class {
-        name: *b"blank\0",
-        length: 5,
-        first: *b"\t\x20\0\0",
-        last: *b"\t\x20\0\0",
-        count: 2,
+        text: b"blank:]",
+        ranges: &[(b'\t', b'\t'), (b' ', b' ')],
     },
 ];
 
-// A class's place in the table and the cursor behind its `:]`.
-#[derive(Clone, Copy)]
-pub(crate) enum ClassRead {
-    Found(u8, AtomCursor),
-    Unknown,
-}
-
-// The row of a class.
-pub(crate) fn class_at(c: u8) -> Class
-    requires { c < 12 }
-    ensures { RowOf c result }
+// The table.
+pub(crate) fn classes() -> &'static [Class]
+    ensures { ClassTable result.now }
 {
-    CLASSES[c as usize]
+    CLASSES
 }
 
 impl AtomCursor {
-    // Whether a class's name and `:]` stand at the cursor.
-    fn is_class(self, s: &[u8], c: u8) -> bool
-        requires { (self.at ≤ length s.now + 2) × (c < 12) }
-        ensures { result ≡ is_class c (drop self.at s.now) }
-    {
-        let class = class_at(c);
-        let n = class.length;
-        let mut j = 0;
-        while j < n {
-            if peek(s, self.at + j) != class.name[j] {
-                return false;
-            }
-            j += 1;
-        }
-        (peek(s, self.at + n) == b':') & (peek(s, self.at + n + 1) == b']')
-    }
-
-    // The class whose name and `:]` stand at the cursor, and the cursor behind these.
-    pub(crate) fn find_class(self, s: &[u8]) -> ClassRead
+    // The class whose name and `:]` stand at the cursor, as its place in the table, and the cursor behind these.
+    pub(crate) fn find_class(self, s: &[u8]) -> Option<(usize, AtomCursor)>
         requires { self.at ≤ length s.now + 2 }
         ensures { result ≡ class_shown self.at (find_class 12 0 (drop self.at s.now)) }
     {
-        let mut c = 0;
-        while c < 12 {
-            if self.is_class(s, c) {
-                let class = class_at(c);
-                return ClassRead::Found(c, self.past(class.length + 2));
+        let rest = s.get(self.at..)?;
+        for (c, class) in classes().iter().enumerate() {
+            if rest.starts_with(class.text) {
+                return Some((c, self.past(class.text.len())));
             }
-            c += 1;
         }
-        ClassRead::Unknown
+        None
     }
 }

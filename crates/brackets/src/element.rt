@@ -4,7 +4,6 @@ ghost use Rattle.brackets.specs.Brackets.{read_byte, read_class, read_element, r
 ghost use Rattle.brackets.specs.Promises.{element_shown};
 ghost use Rattle.runs.specs.Keys.{member};
 
-use crate::class::ClassRead;
 use crate::cursor::AtomCursor;
 use crate::look::peek;
 
@@ -13,14 +12,7 @@ use crate::look::peek;
 pub(crate) enum Element {
     Byte(u8),
     Range(u8, u8),
-    Class(u8),
-}
-
-// An element and the cursor behind it.
-#[derive(Clone, Copy)]
-pub(crate) enum ElementRead {
-    Found(Element, AtomCursor),
-    Fault,
+    Class(usize),
 }
 
 // `[.`, `[=` or `[:`.
@@ -41,48 +33,44 @@ impl AtomCursor {
 
     // A class, whose `[:` stands at the cursor. Refused are "a `[:` that begins none of the twelve classes and a class at
     // either end of a range".
-    fn class(self, s: &[u8]) -> ElementRead
+    fn class(self, s: &[u8]) -> Option<(Element, AtomCursor)>
         requires { self.at ≤ length s.now }
         ensures { result ≡ element_shown self.at (read_class (drop (self.at + 2) s.now)) }
     {
-        match self.past(2).find_class(s) {
-            ClassRead::Found(c, next) => {
-                if next.starts_range(s) {
-                    return ElementRead::Fault;
-                }
-                ElementRead::Found(Element::Class(c), next)
-            }
-            ClassRead::Unknown => ElementRead::Fault,
+        let (c, next) = self.past(2).find_class(s)?;
+        if next.starts_range(s) {
+            return None;
         }
+        Some((Element::Class(c), next))
     }
 
     // A range, "first not above last". A `-` may "start a range as the first element".
-    fn range(self, s: &[u8], first: bool) -> ElementRead
+    fn range(self, s: &[u8], first: bool) -> Option<(Element, AtomCursor)>
         requires { self.at ≤ length s.now }
         ensures { result ≡ element_shown self.at (read_range first (drop self.at s.now)) }
     {
         let a = peek(s, self.at);
         let b = peek(s, self.at + 2);
         if (first | (a != b'-')) & ((a <= b) & !opens(b, peek(s, self.at + 3))) {
-            return ElementRead::Found(Element::Range(a, b), self.past(3));
+            return Some((Element::Range(a, b), self.past(3)));
         }
-        ElementRead::Fault
+        None
     }
 
     // One byte. "A `-` that begins an element must be first or last".
-    fn byte(self, s: &[u8], first: bool) -> ElementRead
+    fn byte(self, s: &[u8], first: bool) -> Option<(Element, AtomCursor)>
         requires { self.at ≤ length s.now }
         ensures { result ≡ element_shown self.at (read_byte first (drop self.at s.now)) }
     {
         let a = peek(s, self.at);
         if (a != 0) & (first | ((a != b'-') | (peek(s, self.at + 1) == b']'))) {
-            return ElementRead::Found(Element::Byte(a), self.past(1));
+            return Some((Element::Byte(a), self.past(1)));
         }
-        ElementRead::Fault
+        None
     }
 
-    // The element at the cursor, the bracket's first or a later one. In it "a `[.` and a `[=` are refused".
-    pub(crate) fn element(self, s: &[u8], first: bool) -> ElementRead
+    // The element at the cursor, the bracket's first or a later one, and the cursor behind it. In it "a `[.` and a `[=` are refused".
+    pub(crate) fn element(self, s: &[u8], first: bool) -> Option<(Element, AtomCursor)>
         requires { self.at < length s.now }
         ensures { result ≡ element_shown self.at (read_element first (drop self.at s.now)) }
     {
@@ -92,7 +80,7 @@ impl AtomCursor {
             return self.class(s);
         }
         if (a == b'[') & ((b == b'.') | (b == b'=')) {
-            return ElementRead::Fault;
+            return None;
         }
         if self.past(1).starts_range(s) {
             return self.range(s, first);

@@ -10,6 +10,5 @@ mod element;
 mod look;
 mod set;
 
-pub use atom::AtomRead;
 pub use cursor::AtomCursor;
 pub use look::peek;

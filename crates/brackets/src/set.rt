@@ -4,7 +4,7 @@ ghost use Rattle.brackets.specs.Form.{byte, class, dot, plain, range};
 ghost use Rattle.brackets.specs.Promises.{Known, element_of, has_key, with_element, with_key};
 ghost use Rattle.brackets.specs.Answers.{keys_with, map_with};
 
-use crate::class::class_at;
+use crate::class::classes;
 use crate::element::Element;
 use letters::{Case, in_set};
 
@@ -19,25 +19,18 @@ fn add_byte(set: &mut [bool; 256], b: u8)
 fn add_range(set: &mut [bool; 256], first: u8, last: u8)
     ensures { set.new ≡ map_with (with_element (range first last)) 0 set.old }
 {
-    let end = last as usize;
-    let mut k = first as usize;
-    while k <= end {
-        set[k] = true;
-        k += 1;
+    for b in first..=last {
+        set[b as usize] = true;
     }
 }
 
 // Adds the bytes of a class.
-fn add_class(set: &mut [bool; 256], c: u8)
+fn add_class(set: &mut [bool; 256], c: usize)
     requires { c < 12 }
     ensures { set.new ≡ map_with (with_element (class c)) 0 set.old }
 {
-    let class = class_at(c);
-    let n = class.count;
-    let mut j = 0;
-    while j < n {
-        add_range(set, class.first[j], class.last[j]);
-        j += 1;
+    for &(first, last) in classes()[c].ranges {
+        add_range(set, first, last);
     }
 }
 
@@ -72,12 +65,10 @@ pub(crate) fn store(
 )
     ensures { keys.new ≡ map_with (with_key case set.now negated states) 0 keys.old }
 {
-    let mut k = 0;
-    while k < 256 {
+    for (k, word) in keys.iter_mut().enumerate() {
         if has_key(set, case, negated, k) {
-            keys[k] |= states;
+            *word |= states;
         }
-        k += 1;
     }
 }
 

@@ -12,12 +12,11 @@ use lib.Pow.{pow-lt}
 use borrow.Author.Tests.{eq-eqb, ne_eqb, eqb-true, eqb-false, leb-true, leb-false}
 use Rattle.stateset.proofs.Sets.{word-one, word-ext, word_none}
 use Rattle.brackets.specs.declared.cursor.AtomCursor.{AtomCursor}
-use Rattle.brackets.specs.declared.atom.AtomRead.{AtomRead}
+use Rattle.std.specs.Prelude.{Option, Some, None}
 use Rattle.brackets.specs.Form.{Atom}
 use Rattle.brackets.specs.Brackets.{Parsed, parsed, fault, read_atom}
 use Rattle.brackets.specs.Answers.{cursor_at, place_behind, keys_behind}
 use Rattle.pattern.specs.declared.cursor.Cursor.{Cursor}
-use Rattle.pattern.specs.declared.cursor.Part.{Part}
 use Rattle.pattern.specs.declared.shape.Shape.{Shape}
 use Rattle.pattern.specs.Cycle.{AtomDone, ReadsAtom}
 use Rattle.pattern.specs.States.{nothing, first, last, atom_state, atom_word}
@@ -66,7 +65,7 @@ abbrev state_at : Cursor → ℕ
 state_at c = atom_word (eqb c.atoms)
 
 -- what the reader of brackets answers for the atom at a cursor: the place behind it, and the table of keys
-abbrev place_at : List ℕ → Cursor → AtomRead
+abbrev place_at : List ℕ → Cursor → Option AtomCursor
 place_at s c = place_behind (length s) (read_atom (drop c.at s))
 
 abbrev keys_at : List ℕ → Cursor → ℕ → List ℕ → List ℕ
@@ -77,18 +76,18 @@ abbrev one_shape : ℕ → Shape
 one_shape set = record { nothing = false; first = set; last = set }
 
 -- what the reader of an atom answers at a cursor, where `set` is the atom's state
-module _ (s keys after : List ℕ) (c : Cursor) {set : ℕ} (eset : set ≡ state_at c) {w : AtomRead} (place : w ≡ place_at s c) (table : after ≡ keys_at s c set keys) where
-  pub atom-read : (next : AtomCursor) (d : Cursor) → w ≡ AtomRead.At next → d ≡ record { at = next.at; atoms = c.atoms + 1; case = c.case } → ReadsAtom s c keys (Part.Read d (one_shape set)) after
+module _ (s keys after : List ℕ) (c : Cursor) {set : ℕ} (eset : set ≡ state_at c) (table : after ≡ keys_at s c set keys) where
+  pub atom-read : (next : AtomCursor) (d : Cursor) → Some next ≡ place_at s c → d ≡ record { at = next.at; atoms = c.atoms + 1; case = c.case } → ReadsAtom s c keys (Some (d, one_shape set)) after
   unfolding nothing first last
-  atom-read next d e g = go (read_atom (drop c.at s)) place table
+  atom-read next d e g = go (read_atom (drop c.at s)) e table
     where
-      go : (p : Parsed Atom) → w ≡ place_behind (length s) p → after ≡ keys_behind c.case p set keys → AtomDone (length s) c keys (Part.Read d (one_shape set)) after p
+      go : (p : Parsed Atom) → Some next ≡ place_behind (length s) p → after ≡ keys_behind c.case p set keys → AtomDone (length s) c keys (Some (d, one_shape set)) after p
       go (parsed a rest) h k = let there : next ≡ cursor_at (length s - length rest) = cc in (rw (g, there, eset) refl, k ∙ rw eset (keys-atom c.case c.atoms a keys))
       go fault h k = clash (cc)
 
-  pub atom-faulty : w ≡ AtomRead.Fault → ReadsAtom s c keys Part.Fault after
-  atom-faulty e = go (read_atom (drop c.at s)) place
+  pub atom-faulty : None ≡ place_at s c → ReadsAtom s c keys None after
+  atom-faulty e = go (read_atom (drop c.at s)) e
     where
-      go : (p : Parsed Atom) → w ≡ place_behind (length s) p → AtomDone (length s) c keys Part.Fault after p
+      go : (p : Parsed Atom) → None ≡ place_behind (length s) p → AtomDone (length s) c keys None after p
       go (parsed a rest) h = clash (cc)
       go fault h = refl

@@ -18,14 +18,15 @@ use Rattle.brackets.specs.Sets.{set_of}
 use Rattle.pattern.specs.Meaning.{Query, query}
 use Rattle.pattern.specs.declared.automaton.Accepting.{Accepting}
 use Rattle.pattern.specs.declared.cursor.Cursor.{Cursor}
-use Rattle.pattern.specs.declared.branch_list.PatternRead.{PatternRead}
+use Rattle.std.specs.Prelude.{Some, None}
+use Rattle.std.proofs.lemmas.Option.{some_pair_parts}
 use Rattle.pattern.specs.declared.summary.Summary.{Summary}
 use Rattle.brackets.specs.Brackets.{Parsed, parsed, fault}
 use Rattle.pattern.specs.Reader.{Read, accepted, refused, read_branches, counted}
 use Rattle.pattern.specs.States.{nothing_in, in_pieces, first, last, follow, holds, some_branch, first_in_branch, first_in_free, ends_free, ends_anchored, holds_key, empty_branch, empty_free, atom_word}
 use Rattle.pattern.specs.Tables.{is_atom}
 use Rattle.pattern.specs.Branches.{shape_in, keys_in, enter_in}
-use Rattle.pattern.specs.Summaries.{with_branch, summary_of, through, PatternDone, ReadsBranches}
+use Rattle.pattern.specs.Summaries.{with_branch, summary_of, through, PatternDone, ReadsBranches, PatternRead}
 use Rattle.pattern.specs.Moves.{enters}
 use Rattle.pattern.specs.Cycle.{Ready}
 use Rattle.pattern.specs.Automata.{always_of, accepts_of, key_table, enter_table, accepts, accepting_of, tables_of}
@@ -238,7 +239,7 @@ module _ (s k e : List ℕ) (x : PatternRead) (case : Case) (c : Cursor) (start 
   read : Done (read_branches (length s) s)
   read = rw start at h (length s) (omega arith)
 
-  module _ (f : x ≡ PatternRead.Fault) where
+  module _ (f : x ≡ None) where
     faulty : result ≡ refused PatternSyntax
     faulty = go (read_branches (length s) s) read
       where
@@ -249,13 +250,13 @@ module _ (s k e : List ℕ) (x : PatternRead) (case : Case) (c : Cursor) (start 
     pub fault-tables : Err PatternSyntax ≡ tables_of case result
     fault-tables = rw faulty refl
 
-  module _ (n : ℕ) (a : Summary) (f : x ≡ PatternRead.Read n a) where
+  module _ (n : ℕ) (a : Summary) (f : x ≡ Some (n, a)) where
     module _ (over : 29 < n) where
       many : result ≡ refused TooManyAtoms
       many = go (read_branches (length s) s) read
         where
           go : (p : Parsed Pattern) → Done p → counted p ≡ refused TooManyAtoms
-          go (parsed t rest) (i, j, l) = let count : n ≡ 0 + atom_count t = cc in rw (lt-leb (atom_count t) 29 (omega arith)) refl
+          go (parsed t rest) (i, j, l) = let count = (some_pair_parts n (0 + atom_count t) a _ (sym f ∙ i)).0 in rw (lt-leb (atom_count t) 29 (omega arith)) refl
           go fault i = clash (cc)
 
       pub many-tables : Err TooManyAtoms ≡ tables_of case result
@@ -276,8 +277,8 @@ module _ (s k e : List ℕ) (x : PatternRead) (case : Case) (c : Cursor) (start 
         where
           go : (p : Parsed Pattern) → read_branches (length s) s ≡ p → Done p → Fine
           go (parsed t rest) q (i, j, l) =
-              let count : n ≡ 0 + atom_count t = cc in
-              record { tree = t; reading = rw (q, le-leb (atom_count t) 29 (omega arith)) refl; count = count ∙ zero-add (atom_count t); sum = cc; keyed = j; entered = l }
+              let (count, sum) = some_pair_parts n (0 + atom_count t) a _ (sym f ∙ i) in
+              record { tree = t; reading = rw (q, le-leb (atom_count t) 29 (omega arith)) refl; count = count ∙ zero-add (atom_count t); sum = sum; keyed = j; entered = l }
           go fault q i = clash (cc)
 
       pub fine-tables : {p q : ℕ} {v : Accepting} → p ≡ 0 → q ≡ 1 → v ≡ accepting_of a n → made k (set (set e p a.first) q a.free) v ≡ tables_of case result

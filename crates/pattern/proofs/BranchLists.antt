@@ -12,8 +12,9 @@ use lib.Seq.{drop-drop, drop_at}
 use borrow.Author.Tests.{eq-eqb, ne_eqb}
 use Rattle.letters.specs.declared.Case.{Case}
 use Rattle.brackets.specs.Sets.{set_of}
-use Rattle.pattern.specs.declared.branch.BranchRead.{BranchRead}
-use Rattle.pattern.specs.declared.branch_list.PatternRead.{PatternRead}
+use Rattle.std.specs.Prelude.{Some, None}
+use Rattle.std.proofs.lemmas.Option.{some_pair_parts}
+use Rattle.pattern.specs.declared.branch.BranchShape.{BranchShape}
 use Rattle.pattern.specs.declared.cursor.Cursor.{Cursor}
 use Rattle.pattern.specs.declared.shape.Shape.{Shape}
 use Rattle.pattern.specs.declared.summary.Summary.{Summary}
@@ -21,7 +22,7 @@ use Rattle.brackets.specs.Brackets.{Parsed, parsed, fault, at, next, done}
 use Rattle.pattern.specs.Reader.{read_branch, read_branches}
 use Rattle.pattern.specs.Cycle.{past_byte, Ready}
 use Rattle.pattern.specs.Branches.{shape_in, keys_in, enter_in, BranchDone, ReadsBranch}
-use Rattle.pattern.specs.Summaries.{branch_summary, with_branch, summary_of, through, PatternDone, ReadsBranches}
+use Rattle.pattern.specs.Summaries.{branch_summary, with_branch, summary_of, through, PatternRead, PatternDone, ReadsBranches}
 use Rattle.pattern.proofs.Branches.{mark, behind_branch, branch-from}
 use Rattle.pattern.proofs.Cycles.{atoms-some, atoms-written, peeked, past, nonzero}
 use Rattle.pattern.specs.Form.{Expr, Branch, Pattern, atoms_in, atom_count, write_pieces, write_branch, formed_pieces, formed_branch}
@@ -48,14 +49,14 @@ stepped : (f : ℕ) (l m : List ℕ) (t : Branch) (b : ℕ) → read_branch l �
 unfolding read_branches
 stepped f l m t b e g = rw (e, g) refl
 
-same_answer : {n k : ℕ} {a b : Summary} → n ≡ k → a ≡ b → PatternRead.Read n a ≡ PatternRead.Read k b
+same_answer : {n k : ℕ} {a b : Summary} → n ≡ k → a ≡ b → ◌≡◌ {A = PatternRead} (Some (n, a)) (Some (k, b))
 same_answer e f = rw (e, f)
 
 same-summary : (a : Summary) {s t : Bool} {p q : Shape} {e f : Bool} → s ≡ t → p ≡ q → e ≡ f → branch_summary a s p e ≡ branch_summary a t q f
 same-summary a g h i = rw (g, h, i)
 
 -- an answer of the branch's reader says what was read, and where reading goes on
-pub record BranchView (s : List ℕ) (c : Cursor) (keys enter : List ℕ) (d : Cursor) (start : Bool) (p : Shape) (end : Bool) (keys' enter' : List ℕ) : Type 0 where
+pub record BranchView (s : List ℕ) (c : Cursor) (keys enter : List ℕ) (d : Cursor) (b : BranchShape) (keys' enter' : List ℕ) : Type 0 where
   pub tree : Branch
   pub rest : List ℕ
   pub reading : read_branch (drop c.at s) ≡ parsed tree rest
@@ -64,58 +65,59 @@ pub record BranchView (s : List ℕ) (c : Cursor) (keys enter : List ℕ) (d : C
   pub here : rest ≡ drop d.at s
   pub on : c.at < d.at
   pub ready : Ready s d
-  pub starts : start ≡ tree.start
-  pub shape : p ≡ shape_in c.atoms tree.pieces
-  pub ends : end ≡ tree.end
+  pub starts : b.start ≡ tree.start
+  pub shape : b.pieces ≡ shape_in c.atoms tree.pieces
+  pub ends : b.end ≡ tree.end
   pub keyed : keys' ≡ keys_in (set_of c.case) c.atoms tree.pieces keys
   pub entered : enter' ≡ enter_in c.atoms tree.pieces enter
 
-module _ (s : List ℕ) (c : Cursor) (r : Ready s c) (keys enter keys' enter' : List ℕ) (x : BranchRead) (h : ReadsBranch s c keys enter x keys' enter') where
-  pub branch-unread : x ≡ BranchRead.Fault → read_branch (drop c.at s) ≡ fault
-  branch-unread e = go (read_branch (drop c.at s)) refl h
+module _ (s : List ℕ) (c : Cursor) (r : Ready s c) (keys enter keys' enter' : List ℕ) where
+  pub branch-unread : ReadsBranch s c keys enter None keys' enter' → read_branch (drop c.at s) ≡ fault
+  branch-unread h = go (read_branch (drop c.at s)) refl h
     where
-      go : (y : Parsed Branch) → read_branch (drop c.at s) ≡ y → BranchDone (length s) c keys enter x keys' enter' y → read_branch (drop c.at s) ≡ fault
-      go (parsed t rest) q (i, j, k) = cc
+      go : (y : Parsed Branch) → read_branch (drop c.at s) ≡ y → BranchDone (length s) c keys enter None keys' enter' y → read_branch (drop c.at s) ≡ fault
+      go (parsed t rest) q (i, j, k) = clash (cc)
       go fault q i = q
 
-  pub branch-view : (d : Cursor) (start : Bool) (p : Shape) (end : Bool) → x ≡ BranchRead.Read d start p end → BranchView s c keys enter d start p end keys' enter'
-  branch-view d start p end e = go (read_branch (drop c.at s)) refl h
+  pub branch-view : (d : Cursor) (b : BranchShape) → ReadsBranch s c keys enter (Some (d, b)) keys' enter' → BranchView s c keys enter d b keys' enter'
+  branch-view d b h = go (read_branch (drop c.at s)) refl h
     where
-      go : (y : Parsed Branch) → read_branch (drop c.at s) ≡ y → BranchDone (length s) c keys enter x keys' enter' y → BranchView s c keys enter d start p end keys' enter'
+      go : (y : Parsed Branch) → read_branch (drop c.at s) ≡ y → BranchDone (length s) c keys enter (Some (d, b)) keys' enter' y → BranchView s c keys enter d b keys' enter'
       go (parsed t rest) q (i, j, k) =
           let (split, formed-t) = branch-from (drop c.at s) rest t (line-drop c.at s r.clean) q in
           let (enough, not_None) = branch-long t formed-t in
           let w = write_branch t in
           let sum : length s - c.at ≡ length w + length rest = sym (length-drop c.at s) ∙ ap length split ∙ length-append w rest in
           let place : length s - length rest ≡ c.at + length w = omega (arith, r.inside) in
-          let ate : d.at ≡ length s - length rest = cc in
-          let many : d.atoms ≡ c.atoms + atoms_in t.pieces = cc in
+          let (next, shape) = some_pair_parts d _ b _ i in
+          let ate : d.at ≡ length s - length rest = ap (λ (z : Cursor). z.at) next in
+          let many : d.atoms ≡ c.atoms + atoms_in t.pieces = ap (λ (z : Cursor). z.atoms) next in
           record {
             tree = t;
             rest = rest;
             reading = q;
             next = many;
-            held = cc;
+            held = ap (λ (z : Cursor). z.case) next;
             here = sym (drop_at w rest (length w) refl) ∙ ap (drop (length w)) (sym split) ∙ drop-drop (length w) c.at s ∙ ap (λ (i : ℕ). drop i s) (sym (ate ∙ place));
             on = omega arith;
             ready = record { inside = omega (arith, r.inside); short = r.short; few = omega (arith, r.few); clean = r.clean };
-            starts = cc;
-            shape = cc;
-            ends = cc;
+            starts = ap (λ (z : BranchShape). z.start) shape;
+            shape = ap (λ (z : BranchShape). z.pieces) shape;
+            ends = ap (λ (z : BranchShape). z.end) shape;
             keyed = j;
             entered = k;
           }
       go fault q i = clash (cc)
 
   module _ (a : Summary) where
-    pub branches-fault : x ≡ BranchRead.Fault → ReadsBranches s c a keys enter PatternRead.Fault keys' enter'
+    pub branches-fault : ReadsBranch s c keys enter None keys' enter' → ReadsBranches s c a keys enter None keys' enter'
     unfolding read_branches
-    branches-fault e zero g = refl
-    branches-fault e (suc f) g = rw (branch-unread e) refl
+    branches-fault h zero g = refl
+    branches-fault h (suc f) g = rw (branch-unread h) refl
 
-    module _ (d : Cursor) (start : Bool) (p : Shape) (end : Bool) (e : x ≡ BranchRead.Read d start p end) where
-      v : BranchView s c keys enter d start p end keys' enter'
-      v = branch-view d start p end e
+    module _ (d : Cursor) (shape : BranchShape) (h : ReadsBranch s c keys enter (Some (d, shape)) keys' enter') where
+      v : BranchView s c keys enter d shape keys' enter'
+      v = branch-view d shape h
 
       -- bytes are left while there is a branch
       some_left : length s - c.at ≤ 0 → ⊥
@@ -128,19 +130,19 @@ module _ (s : List ℕ) (c : Cursor) (r : Ready s c) (keys enter keys' enter' : 
       branches-atoms = omega (arith, v.ready.few, branches_at)
 
       -- the byte b stands behind it, and `sum` is the summary with it
-      module _ (sum : Summary) (es : sum ≡ branch_summary a start p end) (b : ℕ) (eb : b ≡ get_or s d.at 0) where
+      module _ (sum : Summary) (es : sum ≡ branch_summary a shape.start shape.pieces shape.end) (b : ℕ) (eb : b ≡ get_or s d.at 0) where
         step : (f : ℕ) → read_branches (suc f) (drop c.at s) ≡ behind_branch f v.tree (eqb b 0) (eqb b 124) v.rest
         step f = stepped f (drop c.at s) v.rest v.tree b v.reading (ap (at 0) v.here ∙ peeked s d.at ∙ sym eb)
 
         whole : sum ≡ with_branch c.atoms v.tree a
         whole = es ∙ same-summary a v.starts v.shape v.ends
 
-        pub branches-end : b ≡ 0 → ReadsBranches s c a keys enter (PatternRead.Read d.atoms sum) keys' enter'
+        pub branches-end : b ≡ 0 → ReadsBranches s c a keys enter (Some (d.atoms, sum)) keys' enter'
         unfolding summary_of through atom_count
         branches-end n zero g = absurd (some_left g)
         branches-end n (suc f) g = rw (step f, eq-eqb _ _ n) (same_answer (v.next ∙ rw add-zero) whole, v.keyed, v.entered)
 
-        pub branches-other : (b ≡ 0 → ⊥) → (b ≡ 124 → ⊥) → ReadsBranches s c a keys enter PatternRead.Fault keys' enter'
+        pub branches-other : (b ≡ 0 → ⊥) → (b ≡ 124 → ⊥) → ReadsBranches s c a keys enter None keys' enter'
         branches-other m n zero g = absurd (some_left g)
         branches-other m n (suc f) g = rw (step f, ne_eqb _ _ m, ne_eqb _ _ n) refl
 

@@ -13,14 +13,15 @@ use Rattle.stateset.proofs.Sets.{word_lt}
 use Rattle.letters.specs.declared.Case.{Case}
 use Rattle.brackets.specs.Sets.{Sets, set_of}
 use Rattle.pattern.specs.declared.cursor.Cursor.{Cursor}
-use Rattle.pattern.specs.declared.cursor.Part.{Part}
 use Rattle.pattern.specs.declared.shape.Shape.{Shape}
 use Rattle.brackets.specs.Form.{Atom, write_atom}
 use Rattle.brackets.specs.Brackets.{Parsed, parsed, fault, next, done, at, read_atom}
 use Rattle.pattern.specs.Reader.{Mode, ends_pieces, read_repeat, read_expr}
 use Rattle.pattern.specs.States.{nothing, first, last, follow, holds, atom_state}
 use Rattle.pattern.specs.Tables.{keys_after, enter_after, linked, shape_of, seq_shape, alt_shape}
-use Rattle.pattern.specs.Cycle.{past_byte, Ready, Done, room, ReadsIn, Reads, AtomDone, ReadsAtom, repeat_enter, repeat_part}
+use Rattle.std.specs.Prelude.{Some, None}
+use Rattle.std.proofs.lemmas.Option.{some_pair_parts}
+use Rattle.pattern.specs.Cycle.{Part, past_byte, Ready, Done, room, ReadsIn, Reads, AtomDone, ReadsAtom, repeat_enter, repeat_part}
 use Rattle.pattern.proofs.TreesFrom.{expr-from, group-group, marked_by}
 use Rattle.pattern.proofs.Atoms.{inside}
 use Rattle.pattern.proofs.AtomTables.{keys-seq, keys-alt, enter-seq, enter-alt, enter-again, enter-atom, first-seq, last-seq, first-alt, last-alt}
@@ -95,6 +96,10 @@ pub record View (s : List ℕ) (c : Cursor) (m : Mode) (keys enter : List ℕ) (
   pub behind-it : Behind s c d expr rest
   pub made : Made (set_of c.case) c.atoms expr p keys enter keys' enter'
 
+-- an answer by its parts
+same-part : {d e : Cursor} {p q : Shape} → d ≡ e → p ≡ q → ◌≡◌ {A = Part} (Some (d, p)) (Some (e, q))
+same-part f g = rw (f, g)
+
 -- the byte at the cursor behind what was read
 pub peeked : (s : List ℕ) (i : ℕ) → at 0 (drop i s) ≡ get_or s i 0
 peeked s i = get_or-drop i s 0 0 ∙ ap (λ (j : ℕ). get_or s j 0) (add-zero i)
@@ -124,28 +129,28 @@ module _ (s : List ℕ) (c : Cursor) (r : Ready s c) where
         ready = record { inside = omega (arith, r.inside); short = r.short; few = omega (arith, r.few); clean = r.clean };
       }
 
-  module _ (m : Mode) (keys enter : List ℕ) (x : Part) (keys' enter' : List ℕ) (h : Reads m s c keys enter x keys' enter') where
-    pub view : (d : Cursor) (p : Shape) → x ≡ Part.Read d p → (f : ℕ) → room m (length s - c.at) ≤ f → View s c m keys enter d p keys' enter' f
-    view d p e f g = go (read_expr f m (drop c.at s)) refl (h f g)
+  module _ (m : Mode) (keys enter keys' enter' : List ℕ) where
+    pub view : (d : Cursor) (p : Shape) → Reads m s c keys enter (Some (d, p)) keys' enter' → (f : ℕ) → room m (length s - c.at) ≤ f → View s c m keys enter d p keys' enter' f
+    view d p h f g = go (read_expr f m (drop c.at s)) refl (h f g)
       where
-        go : (y : Parsed Expr) → read_expr f m (drop c.at s) ≡ y → Done (length s) c keys enter x keys' enter' y → View s c m keys enter d p keys' enter' f
+        go : (y : Parsed Expr) → read_expr f m (drop c.at s) ≡ y → Done (length s) c keys enter (Some (d, p)) keys' enter' y → View s c m keys enter d p keys' enter' f
         go (parsed t rest) q (i, j, k) =
             let (w, split, enough) = bytes_of f m (drop c.at s) rest t (line-drop c.at s r.clean) q in
-            let next : d ≡ record { at = length s - length rest; atoms = c.atoms + atoms t; case = c.case } = cc in
-            record { expr = t; rest = rest; reading = q; behind-it = behind d t w rest split enough next; made = record { shape = cc; keyed = j; entered = k } }
+            let (next, shape) = some_pair_parts d _ p _ i in
+            record { expr = t; rest = rest; reading = q; behind-it = behind d t w rest split enough next; made = record { shape = shape; keyed = j; entered = k } }
         go fault q i = clash (cc)
 
-    pub unread : x ≡ Part.Fault → (f : ℕ) → room m (length s - c.at) ≤ f → read_expr f m (drop c.at s) ≡ fault
-    unread e f g = go (read_expr f m (drop c.at s)) refl (h f g)
+    pub unread : Reads m s c keys enter None keys' enter' → (f : ℕ) → room m (length s - c.at) ≤ f → read_expr f m (drop c.at s) ≡ fault
+    unread h f g = go (read_expr f m (drop c.at s)) refl (h f g)
       where
-        go : (y : Parsed Expr) → read_expr f m (drop c.at s) ≡ y → Done (length s) c keys enter x keys' enter' y → read_expr f m (drop c.at s) ≡ fault
-        go (parsed t rest) q (i, j, k) = cc
+        go : (y : Parsed Expr) → read_expr f m (drop c.at s) ≡ y → Done (length s) c keys enter None keys' enter' y → read_expr f m (drop c.at s) ≡ fault
+        go (parsed t rest) q (i, j, k) = clash (cc)
         go fault q i = q
 
     -- What the calls in the cycle ask of a part that was read: each reads on with less room, and where it is ready.
-    module _ (d : Cursor) (p : Shape) (e : x ≡ Part.Read d p) where
+    module _ (d : Cursor) (p : Shape) (h : Reads m s c keys enter (Some (d, p)) keys' enter') where
       seen : View s c m keys enter d p keys' enter' (room m (length s - c.at))
-      seen = view d p e (room m (length s - c.at)) (le_refl (room m (length s - c.at)))
+      seen = view d p h (room m (length s - c.at)) (le_refl (room m (length s - c.at)))
 
       pub read-ready : Ready s d
       read-ready = seen.behind-it.ready
@@ -211,155 +216,152 @@ module _ (n : ℕ) (c d : Cursor) (e1 e2 : Expr) (rest : List ℕ) (b2 : ℕ) (b
   place-two = next ∙ rw (base, same, add_assoc)
 
   module _ {p1 p2 : Shape} {keys keys' keys'' enter enter' enter'' : List ℕ} (one : Made (set_of c.case) c.atoms e1 p1 keys enter keys' enter') (two : Made (set_of f2) b2 e2 p2 keys' enter' keys'' enter'') where
-    done-alt : (q : Shape) → q ≡ alt_shape p1 p2 → Done n c keys enter (Part.Read d q) keys'' enter'' (parsed (alt e1 e2) rest)
+    done-alt : (q : Shape) → q ≡ alt_shape p1 p2 → Done n c keys enter (Some (d, q)) keys'' enter'' (parsed (alt e1 e2) rest)
     unfolding atoms
     done-alt q e =
         let whole : q ≡ shape_of c.atoms (alt e1 e2) = e ∙ rw (one.shape, two.shape, base) (shape-alt c.atoms e1 e2) in
-        (cc (place-two, whole), two.keyed ∙ rw (base, same, one.keyed) (keys-alt c.atoms e1 e2 (set_of c.case) keys), two.entered ∙ rw (base, one.entered) (enter-alt c.atoms e1 e2 enter))
+        (same-part place-two whole, two.keyed ∙ rw (base, same, one.keyed) (keys-alt c.atoms e1 e2 (set_of c.case) keys), two.entered ∙ rw (base, one.entered) (enter-alt c.atoms e1 e2 enter))
 
-    done-seq : (q : Shape) (after : List ℕ) → q ≡ seq_shape p1 p2 → after ≡ linked p1.last p2.first enter'' → Done n c keys enter (Part.Read d q) keys'' after (parsed (seq e1 e2) rest)
+    done-seq : (q : Shape) (after : List ℕ) → q ≡ seq_shape p1 p2 → after ≡ linked p1.last p2.first enter'' → Done n c keys enter (Some (d, q)) keys'' after (parsed (seq e1 e2) rest)
     unfolding atoms
     done-seq q after e f =
         let whole : q ≡ shape_of c.atoms (seq e1 e2) = e ∙ rw (one.shape, two.shape, base) (shape-seq c.atoms e1 e2) in
-        (cc (place-two, whole), two.keyed ∙ rw (base, same, one.keyed) (keys-seq c.atoms e1 e2 (set_of c.case) keys), f ∙ rw (one.shape, two.shape, two.entered, base, one.entered) (enter-seq c.atoms e1 e2 enter))
+        (same-part place-two whole, two.keyed ∙ rw (base, same, one.keyed) (keys-seq c.atoms e1 e2 (set_of c.case) keys), f ∙ rw (one.shape, two.shape, two.entered, base, one.entered) (enter-seq c.atoms e1 e2 enter))
 
 module _ (s : List ℕ) (c : Cursor) (r : Ready s c) (keys enter : List ℕ) where
   module _ {m : Mode} {d : Cursor} {p : Shape} {keys' enter' : List ℕ} {k : ℕ} (v : View s c m keys enter d p keys' enter' k) where
     -- an answer is that of what was read
-    answer : Done (length s) c keys enter (Part.Read d p) keys' enter' (parsed v.expr v.rest)
-    answer = (cc (v.behind-it.next, v.made.shape), v.made.keyed, v.made.entered)
+    answer : Done (length s) c keys enter (Some (d, p)) keys' enter' (parsed v.expr v.rest)
+    answer = (same-part v.behind-it.next v.made.shape, v.made.keyed, v.made.entered)
 
     -- the byte behind it
     byte : (b : ℕ) → b ≡ get_or s d.at 0 → at 0 v.rest ≡ b
     byte b e = ap (at 0) v.behind-it.here ∙ peeked s d.at ∙ sym e
 
   -- an alternative list
-  module _ (x : Part) (keys' enter' : List ℕ) (h : Reads Mode.branch s c keys enter x keys' enter') where
-    pub alts-fault : x ≡ Part.Fault → Reads Mode.alts s c keys enter Part.Fault keys' enter'
+  module _ (keys' enter' : List ℕ) where
+    pub alts-fault : Reads Mode.branch s c keys enter None keys' enter' → Reads Mode.alts s c keys enter None keys' enter'
     unfolding read_expr
-    alts-fault e = deeper Mode.alts s c keys enter Part.Fault keys' enter' (λ k g. rw (unread s c r Mode.branch keys enter x keys' enter' h e k (omega arith)) refl)
+    alts-fault h = deeper Mode.alts s c keys enter None keys' enter' (λ k g. rw (unread s c r Mode.branch keys enter keys' enter' h k (omega arith)) refl)
 
-    module _ (d : Cursor) (p : Shape) (e : x ≡ Part.Read d p) (b : ℕ) (eb : b ≡ get_or s d.at 0) where
+    module _ (d : Cursor) (p : Shape) (h : Reads Mode.branch s c keys enter (Some (d, p)) keys' enter') (b : ℕ) (eb : b ≡ get_or s d.at 0) where
       -- what the answer says of the first branch
       abbrev FirstBranch : ℕ → Type 0
       FirstBranch k = View s c Mode.branch keys enter d p keys' enter' k
 
-      pub alts-one : (b ≡ 124 → ⊥) → Reads Mode.alts s c keys enter (Part.Read d p) keys' enter'
+      pub alts-one : (b ≡ 124 → ⊥) → Reads Mode.alts s c keys enter (Some (d, p)) keys' enter'
       unfolding read_expr
-      alts-one n = deeper Mode.alts s c keys enter (Part.Read d p) keys' enter' (λ k g. go k (view s c r Mode.branch keys enter x keys' enter' h d p e k (omega arith)))
+      alts-one n = deeper Mode.alts s c keys enter (Some (d, p)) keys' enter' (λ k g. go k (view s c r Mode.branch keys enter keys' enter' d p h k (omega arith)))
         where
-          go : (k : ℕ) (v : FirstBranch k) → ReadsIn (suc k) Mode.alts s c keys enter (Part.Read d p) keys' enter'
+          go : (k : ℕ) (v : FirstBranch k) → ReadsIn (suc k) Mode.alts s c keys enter (Some (d, p)) keys' enter'
           go k v = rw (v.reading, byte v b eb, ne_eqb _ _ n) (answer v)
 
-      module _ (n : Cursor) (y : Part) (keys'' enter'' : List ℕ) (hn : Reads Mode.alts s n keys' enter' y keys'' enter'') (en : n ≡ past_byte d) (bar : b ≡ 124) where
-        h2 : Reads Mode.alts s (past_byte d) keys' enter' y keys'' enter''
-        h2 = rw en at hn
-
-        pub alts-more-fault : y ≡ Part.Fault → Reads Mode.alts s c keys enter Part.Fault keys'' enter''
+      module _ (n : Cursor) (keys'' enter'' : List ℕ) (en : n ≡ past_byte d) (bar : b ≡ 124) where
+        pub alts-more-fault : Reads Mode.alts s n keys' enter' None keys'' enter'' → Reads Mode.alts s c keys enter None keys'' enter''
         unfolding read_expr
-        alts-more-fault f = deeper Mode.alts s c keys enter Part.Fault keys'' enter'' (λ k g. go k g (view s c r Mode.branch keys enter x keys' enter' h d p e k (omega arith)))
+        alts-more-fault hn = deeper Mode.alts s c keys enter None keys'' enter'' (λ k g. go k g (view s c r Mode.branch keys enter keys' enter' d p h k (omega arith)))
           where
-            go : (k : ℕ) → room Mode.alts (length s - c.at) ≤ suc k → (v : FirstBranch k) → ReadsIn (suc k) Mode.alts s c keys enter Part.Fault keys'' enter''
+            go : (k : ℕ) → room Mode.alts (length s - c.at) ≤ suc k → (v : FirstBranch k) → ReadsIn (suc k) Mode.alts s c keys enter None keys'' enter''
             go k g v =
                 let r2 = past s d v.behind-it.ready b eb (nonzero b 124 (omega arith) bar) in
-                rw (v.reading, byte v b eb, bar, skipped s c d v.expr v.rest v.behind-it, unread s (past_byte d) r2 Mode.alts keys' enter' y keys'' enter'' h2 f k (omega (arith, v.behind-it.on, r2.inside))) refl
+                rw (v.reading, byte v b eb, bar, skipped s c d v.expr v.rest v.behind-it, unread s (past_byte d) r2 Mode.alts keys' enter' keys'' enter'' (rw en at hn) k (omega (arith, v.behind-it.on, r2.inside))) refl
 
-        pub alts-more : (d2 : Cursor) (p2 q : Shape) → y ≡ Part.Read d2 p2 → q ≡ alt_shape p p2 → Reads Mode.alts s c keys enter (Part.Read d2 q) keys'' enter''
+        pub alts-more : (d2 : Cursor) (p2 q : Shape) → Reads Mode.alts s n keys' enter' (Some (d2, p2)) keys'' enter'' → q ≡ alt_shape p p2 → Reads Mode.alts s c keys enter (Some (d2, q)) keys'' enter''
         unfolding read_expr
-        alts-more d2 p2 q f g = deeper Mode.alts s c keys enter (Part.Read d2 q) keys'' enter'' (λ k i. go k i (view s c r Mode.branch keys enter x keys' enter' h d p e k (omega arith)))
+        alts-more d2 p2 q hn g = deeper Mode.alts s c keys enter (Some (d2, q)) keys'' enter'' (λ k i. go k i (view s c r Mode.branch keys enter keys' enter' d p h k (omega arith)))
           where
             c2 : Cursor
             c2 = past_byte d
 
-            both : (k : ℕ) (v : FirstBranch k) → View s c2 Mode.alts keys' enter' d2 p2 keys'' enter'' k → ReadsIn (suc k) Mode.alts s c keys enter (Part.Read d2 q) keys'' enter''
+            both : (k : ℕ) (v : FirstBranch k) → View s c2 Mode.alts keys' enter' d2 p2 keys'' enter'' k → ReadsIn (suc k) Mode.alts s c keys enter (Some (d2, q)) keys'' enter''
             both k v w =
                 rw (v.reading, byte v b eb, bar, skipped s c d v.expr v.rest v.behind-it, w.reading)
                 (done-alt (length s) c d2 v.expr w.expr w.rest d.atoms (ap (λ (z : Cursor). z.atoms) v.behind-it.next) d.case (ap (λ (z : Cursor). z.case) v.behind-it.next) w.behind-it.next v.made w.made q g)
 
-            go : (k : ℕ) → room Mode.alts (length s - c.at) ≤ suc k → (v : FirstBranch k) → ReadsIn (suc k) Mode.alts s c keys enter (Part.Read d2 q) keys'' enter''
+            go : (k : ℕ) → room Mode.alts (length s - c.at) ≤ suc k → (v : FirstBranch k) → ReadsIn (suc k) Mode.alts s c keys enter (Some (d2, q)) keys'' enter''
             go k i v =
                 let r2 = past s d v.behind-it.ready b eb (nonzero b 124 (omega arith) bar) in
-                both k v (view s c2 r2 Mode.alts keys' enter' y keys'' enter'' h2 d2 p2 f k (omega (arith, v.behind-it.on, r2.inside)))
+                both k v (view s c2 r2 Mode.alts keys' enter' keys'' enter'' d2 p2 (rw en at hn) k (omega (arith, v.behind-it.on, r2.inside)))
 
   -- a branch
-  module _ (x : Part) (keys' enter' : List ℕ) (h : Reads Mode.piece s c keys enter x keys' enter') where
-    pub branch-fault : x ≡ Part.Fault → Reads Mode.branch s c keys enter Part.Fault keys' enter'
+  module _ (keys' enter' : List ℕ) where
+    pub branch-fault : Reads Mode.piece s c keys enter None keys' enter' → Reads Mode.branch s c keys enter None keys' enter'
     unfolding read_expr
-    branch-fault e = deeper Mode.branch s c keys enter Part.Fault keys' enter' (λ k g. rw (unread s c r Mode.piece keys enter x keys' enter' h e k (omega arith)) refl)
+    branch-fault h = deeper Mode.branch s c keys enter None keys' enter' (λ k g. rw (unread s c r Mode.piece keys enter keys' enter' h k (omega arith)) refl)
 
-    module _ (d : Cursor) (p : Shape) (e : x ≡ Part.Read d p) (b : ℕ) (eb : b ≡ get_or s d.at 0) (t : Bool) (et : t ≡ ends_pieces b) where
+    module _ (d : Cursor) (p : Shape) (h : Reads Mode.piece s c keys enter (Some (d, p)) keys' enter') (b : ℕ) (eb : b ≡ get_or s d.at 0) (t : Bool) (et : t ≡ ends_pieces b) where
       -- what the answer says of the first piece
       abbrev FirstPiece : ℕ → Type 0
       FirstPiece k = View s c Mode.piece keys enter d p keys' enter' k
 
-      pub branch-last : t ≡ true → Reads Mode.branch s c keys enter (Part.Read d p) keys' enter'
+      pub branch-last : t ≡ true → Reads Mode.branch s c keys enter (Some (d, p)) keys' enter'
       unfolding read_expr
-      branch-last n = deeper Mode.branch s c keys enter (Part.Read d p) keys' enter' (λ k g. go k (view s c r Mode.piece keys enter x keys' enter' h d p e k (omega arith)))
+      branch-last n = deeper Mode.branch s c keys enter (Some (d, p)) keys' enter' (λ k g. go k (view s c r Mode.piece keys enter keys' enter' d p h k (omega arith)))
         where
-          go : (k : ℕ) (v : FirstPiece k) → ReadsIn (suc k) Mode.branch s c keys enter (Part.Read d p) keys' enter'
+          go : (k : ℕ) (v : FirstPiece k) → ReadsIn (suc k) Mode.branch s c keys enter (Some (d, p)) keys' enter'
           go k v = rw (v.reading, byte v b eb, ← et, n) (answer v)
 
-      module _ (y : Part) (keys'' enter'' : List ℕ) (h2 : Reads Mode.branch s d keys' enter' y keys'' enter'') (more : t ≡ false) where
-        pub branch-more-fault : y ≡ Part.Fault → Reads Mode.branch s c keys enter Part.Fault keys'' enter''
+      module _ (keys'' enter'' : List ℕ) (more : t ≡ false) where
+        pub branch-more-fault : Reads Mode.branch s d keys' enter' None keys'' enter'' → Reads Mode.branch s c keys enter None keys'' enter''
         unfolding read_expr
-        branch-more-fault f = deeper Mode.branch s c keys enter Part.Fault keys'' enter'' (λ k g. go k g (view s c r Mode.piece keys enter x keys' enter' h d p e k (omega arith)))
+        branch-more-fault h2 = deeper Mode.branch s c keys enter None keys'' enter'' (λ k g. go k g (view s c r Mode.piece keys enter keys' enter' d p h k (omega arith)))
           where
-            go : (k : ℕ) → room Mode.branch (length s - c.at) ≤ suc k → (v : FirstPiece k) → ReadsIn (suc k) Mode.branch s c keys enter Part.Fault keys'' enter''
+            go : (k : ℕ) → room Mode.branch (length s - c.at) ≤ suc k → (v : FirstPiece k) → ReadsIn (suc k) Mode.branch s c keys enter None keys'' enter''
             go k g v =
-                rw (v.reading, byte v b eb, ← et, more, v.behind-it.here, unread s d v.behind-it.ready Mode.branch keys' enter' y keys'' enter'' h2 f k (omega (arith, v.behind-it.on, v.behind-it.ready.inside))) refl
+                rw (v.reading, byte v b eb, ← et, more, v.behind-it.here, unread s d v.behind-it.ready Mode.branch keys' enter' keys'' enter'' h2 k (omega (arith, v.behind-it.on, v.behind-it.ready.inside))) refl
 
-        module _ (d2 : Cursor) (p2 : Shape) (f : y ≡ Part.Read d2 p2) where
-          pub branch-more : (q : Shape) (after : List ℕ) → after ≡ linked p.last p2.first enter'' → q ≡ seq_shape p p2 → Reads Mode.branch s c keys enter (Part.Read d2 q) keys'' after
+        module _ (d2 : Cursor) (p2 : Shape) (h2 : Reads Mode.branch s d keys' enter' (Some (d2, p2)) keys'' enter'') where
+          pub branch-more : (q : Shape) (after : List ℕ) → after ≡ linked p.last p2.first enter'' → q ≡ seq_shape p p2 → Reads Mode.branch s c keys enter (Some (d2, q)) keys'' after
           unfolding read_expr
-          branch-more q after l g = deeper Mode.branch s c keys enter (Part.Read d2 q) keys'' after (λ k i. go k i (view s c r Mode.piece keys enter x keys' enter' h d p e k (omega arith)))
+          branch-more q after l g = deeper Mode.branch s c keys enter (Some (d2, q)) keys'' after (λ k i. go k i (view s c r Mode.piece keys enter keys' enter' d p h k (omega arith)))
             where
-              both : (k : ℕ) (v : FirstPiece k) → View s d Mode.branch keys' enter' d2 p2 keys'' enter'' k → ReadsIn (suc k) Mode.branch s c keys enter (Part.Read d2 q) keys'' after
+              both : (k : ℕ) (v : FirstPiece k) → View s d Mode.branch keys' enter' d2 p2 keys'' enter'' k → ReadsIn (suc k) Mode.branch s c keys enter (Some (d2, q)) keys'' after
               both k v w =
                   rw (v.reading, byte v b eb, ← et, more, v.behind-it.here, w.reading)
                   (done-seq (length s) c d2 v.expr w.expr w.rest d.atoms (ap (λ (z : Cursor). z.atoms) v.behind-it.next) d.case (ap (λ (z : Cursor). z.case) v.behind-it.next) w.behind-it.next v.made w.made q after g l)
 
-              go : (k : ℕ) → room Mode.branch (length s - c.at) ≤ suc k → (v : FirstPiece k) → ReadsIn (suc k) Mode.branch s c keys enter (Part.Read d2 q) keys'' after
-              go k i v = both k v (view s d v.behind-it.ready Mode.branch keys' enter' y keys'' enter'' h2 d2 p2 f k (omega (arith, v.behind-it.on, v.behind-it.ready.inside)))
+              go : (k : ℕ) → room Mode.branch (length s - c.at) ≤ suc k → (v : FirstPiece k) → ReadsIn (suc k) Mode.branch s c keys enter (Some (d2, q)) keys'' after
+              go k i v = both k v (view s d v.behind-it.ready Mode.branch keys' enter' keys'' enter'' d2 p2 h2 k (omega (arith, v.behind-it.on, v.behind-it.ready.inside)))
 
   -- a group behind its parenthesis
-  module _ (x : Part) (keys' enter' : List ℕ) (h : Reads Mode.alts s c keys enter x keys' enter') where
-    pub group-fault : x ≡ Part.Fault → Reads Mode.group s c keys enter Part.Fault keys' enter'
+  module _ (keys' enter' : List ℕ) where
+    pub group-fault : Reads Mode.alts s c keys enter None keys' enter' → Reads Mode.group s c keys enter None keys' enter'
     unfolding read_expr
-    group-fault e = deeper Mode.group s c keys enter Part.Fault keys' enter' (λ k g. rw (unread s c r Mode.alts keys enter x keys' enter' h e k (omega arith)) refl)
+    group-fault h = deeper Mode.group s c keys enter None keys' enter' (λ k g. rw (unread s c r Mode.alts keys enter keys' enter' h k (omega arith)) refl)
 
-    module _ (d : Cursor) (p : Shape) (e : x ≡ Part.Read d p) (b : ℕ) (eb : b ≡ get_or s d.at 0) where
-      pub group-open : (b ≡ 41 → ⊥) → Reads Mode.group s c keys enter Part.Fault keys' enter'
+    module _ (d : Cursor) (p : Shape) (h : Reads Mode.alts s c keys enter (Some (d, p)) keys' enter') (b : ℕ) (eb : b ≡ get_or s d.at 0) where
+      pub group-open : (b ≡ 41 → ⊥) → Reads Mode.group s c keys enter None keys' enter'
       unfolding read_expr
-      group-open n = deeper Mode.group s c keys enter Part.Fault keys' enter' (λ k g. go k (view s c r Mode.alts keys enter x keys' enter' h d p e k (omega arith)))
+      group-open n = deeper Mode.group s c keys enter None keys' enter' (λ k g. go k (view s c r Mode.alts keys enter keys' enter' d p h k (omega arith)))
         where
-          go : (k : ℕ) (v : View s c Mode.alts keys enter d p keys' enter' k) → ReadsIn (suc k) Mode.group s c keys enter Part.Fault keys' enter'
+          go : (k : ℕ) (v : View s c Mode.alts keys enter d p keys' enter' k) → ReadsIn (suc k) Mode.group s c keys enter None keys' enter'
           go k v = rw (v.reading, byte v b eb, ne_eqb _ _ n) refl
 
-      closed : b ≡ 41 → Reads Mode.group s c keys enter (Part.Read (past_byte d) p) keys' enter'
+      closed : b ≡ 41 → Reads Mode.group s c keys enter (Some (past_byte d, p)) keys' enter'
       unfolding read_expr atoms nothing first last follow holds
-      closed n = deeper Mode.group s c keys enter (Part.Read (past_byte d) p) keys' enter' (λ k g. go k (view s c r Mode.alts keys enter x keys' enter' h d p e k (omega arith)))
+      closed n = deeper Mode.group s c keys enter (Some (past_byte d, p)) keys' enter' (λ k g. go k (view s c r Mode.alts keys enter keys' enter' d p h k (omega arith)))
         where
-          go : (k : ℕ) (v : View s c Mode.alts keys enter d p keys' enter' k) → ReadsIn (suc k) Mode.group s c keys enter (Part.Read (past_byte d) p) keys' enter'
+          go : (k : ℕ) (v : View s c Mode.alts keys enter d p keys' enter' k) → ReadsIn (suc k) Mode.group s c keys enter (Some (past_byte d, p)) keys' enter'
           go k v =
               let r2 = past s d v.behind-it.ready b eb (nonzero b 41 (omega arith) n) in
               let place : d.at + 1 ≡ length s - length (drop 1 v.rest) = rw (skipped s c d v.expr v.rest v.behind-it, length-drop) (omega (arith, r2.inside)) in
               let many : d.atoms ≡ c.atoms + atoms v.expr = ap (λ (z : Cursor). z.atoms) v.behind-it.next in
               let held : d.case ≡ c.case = ap (λ (z : Cursor). z.case) v.behind-it.next in
-              rw (v.reading, byte v b eb, n) (cc (place, many, held, v.made.shape), v.made.keyed, v.made.entered)
+              rw (v.reading, byte v b eb, n) (rw (place, many, held, v.made.shape), v.made.keyed, v.made.entered)
 
-      pub group-closed : (n : Cursor) → n ≡ past_byte d → b ≡ 41 → Reads Mode.group s c keys enter (Part.Read n p) keys' enter'
+      pub group-closed : (n : Cursor) → n ≡ past_byte d → b ≡ 41 → Reads Mode.group s c keys enter (Some (n, p)) keys' enter'
       group-closed n en h = rw en (closed h)
 
 -- what a mark behind a part makes of it and of the table of states, by the tests for `*`, `+` and `?`
-abbrev part_by : Bool → Bool → Bool → Cursor → Shape → Part
-part_by t u w d p = Part.Read (record { at = cond (t || (u || w)) (d.at + 1) d.at; atoms = d.atoms; case = d.case }) (cond (t || w) (record { nothing = true; first = p.first; last = p.last }) p)
+abbrev part_by : Bool → Bool → Bool → Cursor → Shape → Cursor × Shape
+part_by t u w d p = (record { at = cond (t || (u || w)) (d.at + 1) d.at; atoms = d.atoms; case = d.case }, cond (t || w) (record { nothing = true; first = p.first; last = p.last }) p)
 
 abbrev enter_by : Bool → Bool → Shape → List ℕ → List ℕ
 enter_by t u p enter = cond (t || u) (linked p.last p.first enter) enter
 
 -- an atom or a group was read, and a mark of repetition m or none stands behind it
 module _ {s rest keys enter keys' enter' : List ℕ} {c d : Cursor} {e : Expr} {p : Shape} (v : Behind s c d e rest) (made : Made (set_of c.case) c.atoms e p keys enter keys' enter') where
-  done-repeat : (m : ℕ) → m ≡ get_or s d.at 0 → (y : Part) (after : List ℕ) → y ≡ repeat_part m d p → after ≡ repeat_enter m p enter' → Done (length s) c keys enter y keys' after (read_repeat e rest)
+  done-repeat : (m : ℕ) → m ≡ get_or s d.at 0 → (y : Cursor × Shape) (after : List ℕ) → y ≡ repeat_part m d p → after ≡ repeat_enter m p enter' → Done (length s) c keys enter (Some y) keys' after (read_repeat e rest)
   unfolding read_repeat atoms nothing first last follow holds
   done-repeat m em y after ey ea = rw (ey, ea, front) (go (eqb m 42) (eqb m 43) (eqb m 63) refl refl refl)
     where
@@ -380,59 +382,56 @@ module _ {s rest keys enter keys' enter' : List ℕ} {c d : Cursor} {e : Expr} {
       two : m ≡ 43 → m ≡ 63 → ⊥
       two f g = omega arith
 
-      go : (t u w : Bool) → eqb m 42 ≡ t → eqb m 43 ≡ u → eqb m 63 ≡ w → Done (length s) c keys enter (part_by t u w d p) keys' (enter_by t u p enter') (marked_by t u w e rest)
-      go true u w i j k = (cc (on 42 (omega arith) i, many, held, made.shape), made.keyed, rw (made.shape, made.entered) (enter-again c.atoms e enter))
+      go : (t u w : Bool) → eqb m 42 ≡ t → eqb m 43 ≡ u → eqb m 63 ≡ w → Done (length s) c keys enter (Some (part_by t u w d p)) keys' (enter_by t u p enter') (marked_by t u w e rest)
+      go true u w i j k = (rw (on 42 (omega arith) i, many, held, made.shape), made.keyed, rw (made.shape, made.entered) (enter-again c.atoms e enter))
       go false true true i j k = absurd (two (eqb-true m 43 j) (eqb-true m 63 k))
-      go false true false i j k = (cc (on 43 (omega arith) j, many, held, made.shape), made.keyed, rw (made.shape, made.entered) (enter-again c.atoms e enter))
+      go false true false i j k = (rw (on 43 (omega arith) j, many, held, made.shape), made.keyed, rw (made.shape, made.entered) (enter-again c.atoms e enter))
       go false false true i j k = (rw (on 63 (omega arith) k, many, held, made.shape), made.keyed, made.entered)
-      go false false false i j k = (cc (v.next, made.shape), made.keyed, made.entered)
+      go false false false i j k = (same-part v.next made.shape, made.keyed, made.entered)
 
 module _ (s : List ℕ) (c : Cursor) (r : Ready s c) (keys enter : List ℕ) (b : ℕ) (eb : b ≡ get_or s c.at 0) where
   opened : at 0 (drop c.at s) ≡ b
   opened = peeked s c.at ∙ sym eb
 
   -- a piece that is a group
-  module _ (paren : b ≡ 40) (n : Cursor) (en : n ≡ past_byte c) (x : Part) (keys' enter' : List ℕ) (hn : Reads Mode.group s n keys enter x keys' enter') where
-    h : Reads Mode.group s (past_byte c) keys enter x keys' enter'
-    h = rw en at hn
-
+  module _ (paren : b ≡ 40) (n : Cursor) (en : n ≡ past_byte c) (keys' enter' : List ℕ) where
     r2 : Ready s (past_byte c)
     r2 = past s c r b eb (nonzero b 40 (omega arith) paren)
 
-    pub piece-fault : x ≡ Part.Fault → Reads Mode.piece s c keys enter Part.Fault keys' enter'
+    pub piece-fault : Reads Mode.group s n keys enter None keys' enter' → Reads Mode.piece s c keys enter None keys' enter'
     unfolding read_expr
-    piece-fault e = deeper Mode.piece s c keys enter Part.Fault keys' enter' (λ k g. rw (opened, paren, drop-drop 1 c.at s, unread s (past_byte c) r2 Mode.group keys enter x keys' enter' h e k (omega (arith, r2.inside))) refl)
+    piece-fault hn = deeper Mode.piece s c keys enter None keys' enter' (λ k g. rw (opened, paren, drop-drop 1 c.at s, unread s (past_byte c) r2 Mode.group keys enter keys' enter' (rw en at hn) k (omega (arith, r2.inside))) refl)
 
-    module _ (d : Cursor) (p : Shape) (e : x ≡ Part.Read d p) (m : ℕ) (em : m ≡ get_or s d.at 0) where
-      pub piece-group : (y : Part) (after : List ℕ) → y ≡ repeat_part m d p → after ≡ repeat_enter m p enter' → Reads Mode.piece s c keys enter y keys' after
+    module _ (d : Cursor) (p : Shape) (hn : Reads Mode.group s n keys enter (Some (d, p)) keys' enter') (m : ℕ) (em : m ≡ get_or s d.at 0) where
+      pub piece-group : (y : Cursor × Shape) (after : List ℕ) → y ≡ repeat_part m d p → after ≡ repeat_enter m p enter' → Reads Mode.piece s c keys enter (Some y) keys' after
       unfolding read_expr
-      piece-group y after ey ea = deeper Mode.piece s c keys enter y keys' after (λ k g. go k (view s (past_byte c) r2 Mode.group keys enter x keys' enter' h d p e k (omega (arith, r2.inside))))
+      piece-group y after ey ea = deeper Mode.piece s c keys enter (Some y) keys' after (λ k g. go k (view s (past_byte c) r2 Mode.group keys enter keys' enter' d p (rw en at hn) k (omega (arith, r2.inside))))
         where
-          go : (k : ℕ) (v : View s (past_byte c) Mode.group keys enter d p keys' enter' k) → ReadsIn (suc k) Mode.piece s c keys enter y keys' after
+          go : (k : ℕ) (v : View s (past_byte c) Mode.group keys enter d p keys' enter' k) → ReadsIn (suc k) Mode.piece s c keys enter (Some y) keys' after
           go k v =
               rw (opened, paren, drop-drop 1 c.at s, v.reading)
               (done-repeat {c = c} (record { next = v.behind-it.next; here = v.behind-it.here; on = omega (arith, v.behind-it.on); ready = v.behind-it.ready }) v.made m em y after ey ea)
 
   -- a piece that is an atom
-  module _ (plain-one : b ≡ 40 → ⊥) (x : Part) (keys' : List ℕ) (h : ReadsAtom s c keys x keys') where
-    pub piece-atom-fault : x ≡ Part.Fault → Reads Mode.piece s c keys enter Part.Fault keys' enter
+  module _ (plain-one : b ≡ 40 → ⊥) (keys' : List ℕ) where
+    pub piece-atom-fault : ReadsAtom s c keys None keys' → Reads Mode.piece s c keys enter None keys' enter
     unfolding read_expr
-    piece-atom-fault e = deeper Mode.piece s c keys enter Part.Fault keys' enter (λ k g. rw (opened, ne_eqb _ _ plain-one) (go (read_atom (drop c.at s)) h))
+    piece-atom-fault h = deeper Mode.piece s c keys enter None keys' enter (λ k g. rw (opened, ne_eqb _ _ plain-one) (go (read_atom (drop c.at s)) h))
       where
-        go : (y : Parsed Atom) → AtomDone (length s) c keys x keys' y → Done (length s) c keys enter Part.Fault keys' enter (next (next y (λ a. done (atom a))) read_repeat)
+        go : (y : Parsed Atom) → AtomDone (length s) c keys None keys' y → Done (length s) c keys enter None keys' enter (next (next y (λ a. done (atom a))) read_repeat)
         go (parsed a rest) (i, j) = clash (cc)
         go fault i = refl
 
-    module _ (d : Cursor) (p : Shape) (e : x ≡ Part.Read d p) (m : ℕ) (em : m ≡ get_or s d.at 0) where
-      pub piece-atom : (y : Part) (after : List ℕ) → y ≡ repeat_part m d p → after ≡ repeat_enter m p enter → Reads Mode.piece s c keys enter y keys' after
+    module _ (d : Cursor) (p : Shape) (h : ReadsAtom s c keys (Some (d, p)) keys') (m : ℕ) (em : m ≡ get_or s d.at 0) where
+      pub piece-atom : (y : Cursor × Shape) (after : List ℕ) → y ≡ repeat_part m d p → after ≡ repeat_enter m p enter → Reads Mode.piece s c keys enter (Some y) keys' after
       unfolding read_expr atoms
-      piece-atom y after ey ea = deeper Mode.piece s c keys enter y keys' after (λ k g. rw (opened, ne_eqb _ _ plain-one) (go (read_atom (drop c.at s)) refl h))
+      piece-atom y after ey ea = deeper Mode.piece s c keys enter (Some y) keys' after (λ k g. rw (opened, ne_eqb _ _ plain-one) (go (read_atom (drop c.at s)) refl h))
         where
-          go : (z : Parsed Atom) → read_atom (drop c.at s) ≡ z → AtomDone (length s) c keys x keys' z → Done (length s) c keys enter y keys' after (next (next z (λ a. done (atom a))) read_repeat)
+          go : (z : Parsed Atom) → read_atom (drop c.at s) ≡ z → AtomDone (length s) c keys (Some (d, p)) keys' z → Done (length s) c keys enter (Some y) keys' after (next (next z (λ a. done (atom a))) read_repeat)
           go (parsed a rest) q (i, j) =
-              let there : d ≡ record { at = length s - length rest; atoms = c.atoms + 1; case = c.case } = cc in
+              let (there, shape) = some_pair_parts d _ p _ i in
               let v = behind s c r d (atom a) (write_atom a) rest (atom-from (drop c.at s) rest a (line-drop c.at s r.clean) q).0 (atom-long a) there in
-              let made : Made (set_of c.case) c.atoms (atom a) p keys enter keys' enter = record { shape = cc; keyed = j; entered = enter-atom c.atoms a enter } in
+              let made : Made (set_of c.case) c.atoms (atom a) p keys enter keys' enter = record { shape = shape; keyed = j; entered = enter-atom c.atoms a enter } in
               done-repeat v made m em y after ey ea
           go fault q i = clash (cc)
 
@@ -452,23 +451,22 @@ module _ (s : List ℕ) (c : Cursor) (r : Ready s c) where
     paren-falls t h = omega (arith, paren-ready.inside, ap (λ (z : Cursor). z.at) en)
 
     -- the group that was read
-    module _ (keys enter : List ℕ) (x : Part) (keys' enter' : List ℕ) (h : Reads Mode.group s n keys enter x keys' enter') (d : Cursor) (p : Shape) (e : x ≡ Part.Read d p) where
+    module _ (keys enter keys' enter' : List ℕ) (d : Cursor) (p : Shape) (h : Reads Mode.group s n keys enter (Some (d, p)) keys' enter') where
       pub group-ready : Ready s d
-      group-ready = read-ready s n paren-ready Mode.group keys enter x keys' enter' h d p e
+      group-ready = read-ready s n paren-ready Mode.group keys enter keys' enter' d p h
 
       pub group-small : p.last < 2 ^ 32
-      group-small = read_small s n paren-ready Mode.group keys enter x keys' enter' h d p e
+      group-small = read_small s n paren-ready Mode.group keys enter keys' enter' d p h
 
 -- an atom leaves a cursor that is ready, and a small word
-module _ (s : List ℕ) (c : Cursor) (r : Ready s c) (keys keys' : List ℕ) (x : Part) (h : ReadsAtom s c keys x keys') (d : Cursor) (p : Shape) (e : x ≡ Part.Read d p) where
+module _ (s : List ℕ) (c : Cursor) (r : Ready s c) (keys keys' : List ℕ) (d : Cursor) (p : Shape) (h : ReadsAtom s c keys (Some (d, p)) keys') where
   atom-seen : (Ready s d) × (p.last < 2 ^ 32)
   unfolding atoms
   atom-seen = go (read_atom (drop c.at s)) refl h
     where
-      go : (z : Parsed Atom) → read_atom (drop c.at s) ≡ z → AtomDone (length s) c keys x keys' z → (Ready s d) × (p.last < 2 ^ 32)
+      go : (z : Parsed Atom) → read_atom (drop c.at s) ≡ z → AtomDone (length s) c keys (Some (d, p)) keys' z → (Ready s d) × (p.last < 2 ^ 32)
       go (parsed a rest) q (i, j) =
-          let there : d ≡ record { at = length s - length rest; atoms = c.atoms + 1; case = c.case } = cc in
-          let shape : p ≡ shape_of c.atoms (atom a) = cc in
+          let (there, shape) = some_pair_parts d _ p _ i in
           let v = behind s c r d (atom a) (write_atom a) rest (atom-from (drop c.at s) rest a (line-drop c.at s r.clean) q).0 (atom-long a) there in
           (v.ready, rw shape (word_lt 32 (λ q. atom_state (last c.atoms (atom a)) q)))
       go fault q i = clash (cc)

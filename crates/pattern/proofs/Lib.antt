@@ -17,7 +17,6 @@ pub mod TreesFrom
 pub mod TreesBack
 pub mod Branches
 pub mod Accepts
-pub mod Shapes
 pub mod Linking
 pub mod Repeats
 pub mod Atoms

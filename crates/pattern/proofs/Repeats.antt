@@ -1,19 +1,13 @@
 -- The mark of repetition behind an expression: one law for each way out.
-use Prim.Native.Nat.{ℕ, ◌+◌}
-use native.Mathlib.Nat.{add-zero}
+use Prim.Native.Nat.{ℕ}
 use mathlib.Core.Path.{◌≡◌, refl, sym, ◌∙◌}
 use mathlib.Core.Bool.{true}
 use mathlib.Core.List.{List}
 use borrow.Author.Tests.{ne_eqb}
 use Rattle.pattern.specs.declared.cursor.Cursor.{Cursor}
-use Rattle.pattern.specs.declared.cursor.Part.{Part}
 use Rattle.pattern.specs.declared.shape.Shape.{Shape}
 use Rattle.pattern.specs.Tables.{linked}
-use Rattle.pattern.specs.Cycle.{past_byte, repeat_shape, repeat_enter, repeat_at}
-
--- one byte on, and no atom more
-pub same_count : (c : Cursor) {d : Cursor} → d ≡ record { at = c.at + 1; atoms = c.atoms + 0; case = c.case } → d ≡ past_byte c
-same_count c e = e ∙ rw add-zero refl
+use Rattle.pattern.specs.Cycle.{past_byte, repeat_enter, repeat_part}
 
 module _ (c : Cursor) (p : Shape) {b m : ℕ} (e : m ≡ b) where
   -- what it may match nothing of
@@ -22,7 +16,7 @@ module _ (c : Cursor) (p : Shape) {b m : ℕ} (e : m ≡ b) where
 
   -- what the reader of the mark answers
   abbrev Marked : Cursor → Shape → Type 0
-  Marked d q = Part.Read d q ≡ Part.Read (record { at = repeat_at b c.at; atoms = c.atoms; case = c.case }) (repeat_shape b p)
+  Marked d q = (d, q) ≡ repeat_part b c p
 
   pub star-read : {d : Cursor} → m ≡ 42 → d ≡ past_byte c → Marked d optional
   star-read f g = let h : b ≡ 42 = sym e ∙ f in rw (g, h) refl

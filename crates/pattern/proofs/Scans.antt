@@ -1,14 +1,12 @@
 -- The length of a pattern and its bytes, looked at before it is read.
-use Prim.Native.Nat.{ℕ, ◌+◌, ◌<◌, ◌≤◌}
+use Prim.Native.Nat.{ℕ, suc, ◌<◌, ◌≤◌}
 use native.Mathlib.Omega.{arith}
-use native.Mathlib.Numerals.{add-one}
 use mathlib.Core.Path.{◌≡◌, refl, sym, ap, ◌∙◌}
 use mathlib.Core.Logic.{◌⊎◌, inl, inr}
-use mathlib.Core.Bool.{Bool, true, false, ◌||◌}
-use mathlib.Core.List.{List}
+use mathlib.Core.Bool.{Bool, true, false, not, ◌&&◌, ◌||◌}
+use mathlib.Core.List.{List, [], ◌∷◌}
 use lib.Dec.{ltb, eqb}
-use lib.ListN.{length, get_or, take}
-use lib.Seq.{take-suc, take_all}
+use lib.ListN.{length, get_or}
 use borrow.Author.Tests.{le-leb, lt-leb, eqb-true, eqb-false, ltb-true, ltb-false}
 use Rattle.refusal.specs.declared.Refusal.TheVariants.{PatternLength, PatternSyntax}
 use Rattle.letters.specs.declared.Case.{Case}
@@ -18,27 +16,26 @@ use Rattle.std.specs.Prelude.{Result, Err}
 use Rattle.refusal.specs.declared.Refusal.{Refusal}
 use Rattle.pattern.specs.declared.automaton.Tables.{Tables}
 use Rattle.pattern.specs.Automata.{tables_of}
+use Rattle.std.specs.List.{list_all}
+use Rattle.std.proofs.Common.{Fits, w8}
 use Rattle.runs.specs.Keys.{is_line, line_key}
-use Rattle.runs.proofs.KeyLaws.{line-lacks, line-more, key-test}
+use Rattle.runs.proofs.KeyLaws.{key-test}
 use Rattle.runs.proofs.Tests.{neither, or_cases}
 
-module _ (s : List ℕ) (i : ℕ) where
-  module _ (inside : i < length s) where
-    pub scan-bad : (eqb (get_or s i 0) 0 || eqb (get_or s i 0) 10) ≡ true → false ≡ is_line s
-    scan-bad e = sym (line-lacks s i inside (go (get_or s i 0) (or_cases (eqb (get_or s i 0) 0) (eqb (get_or s i 0) 10) e)))
-      where
-        go : (b : ℕ) → (eqb b 0 ≡ true) ⊎ (eqb b 10 ≡ true) → line_key b ≡ false
-        go b (inl z) = rw (eqb-true b 0 z) refl
-        go b (inr z) = rw (eqb-true b 10 z) refl
+-- the test of a byte, and of all
+abbrev pub tested : ℕ → Bool
+tested b = not (eqb b 0) && not (eqb b 10)
 
-    pub scan-on : get_or s i 0 < 256 → (eqb (get_or s i 0) 0 || eqb (get_or s i 0) 10) ≡ false → is_line (take i s) ≡ true → is_line (take (i + 1) s) ≡ true
-    scan-on small w h =
-        let b = get_or s i 0 in
-        let (zero-not, ten-not) = neither (eqb b 0) (eqb b 10) w in
-        rw (add-one i, take-suc s i 0 inside) (line-more (take i s) b h (sym (key-test b small zero-not) ∙ rw ten-not refl))
+byte-test : (b : ℕ) → b < 256 → tested b ≡ line_key b
+byte-test b h = go (eqb b 0) refl
+  where
+    go : (t : Bool) → eqb b 0 ≡ t → not t && not (eqb b 10) ≡ line_key b
+    go true e = rw (eqb-true b 0 e) refl
+    go false e = key-test b h e
 
-  pub scan-end : length s ≤ i → is_line (take i s) ≡ true → true ≡ is_line s
-  scan-end e h = sym (rw (take_all i s e) at h)
+pub line-tests : (l : List ℕ) → ((i : ℕ) → Fits w8 (get_or l i 0)) → list_all tested l ≡ is_line l
+line-tests [] h = refl
+line-tests (b ∷ l) h = let small : b < 256 = omega (arith, h 0) in rw (byte-test b small, line-tests l (λ i. h (suc i)))
 
 -- what a pattern is read as
 module _ (s : List ℕ) where

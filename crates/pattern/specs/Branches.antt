@@ -1,7 +1,8 @@
 -- What the readers of whole branches promise: the tree of the bytes at the cursor, in the form of its shape and tables.
-use Rattle.std.specs.Prelude.{ℕ, ◌+◌, ◌-◌, ◌≡◌, Bool, true, false, cond, List, eqb, length, drop, get_or}
+use Rattle.std.specs.Prelude.{ℕ, ◌+◌, ◌-◌, ◌≡◌, Bool, true, false, cond, List, eqb, length, drop, get_or, Some, None}
+use Rattle.std.specs.Prelude as prelude
 use Rattle.std.proofs.Math.Option.{Option, none, some}
-use Rattle.pattern.specs.declared.branch.BranchRead.{BranchRead}
+use Rattle.pattern.specs.declared.branch.BranchShape.{BranchShape}
 use Rattle.pattern.specs.declared.cursor.Cursor.{Cursor}
 use Rattle.pattern.specs.declared.shape.Shape.{Shape}
 use Rattle.brackets.specs.Sets.{Sets, set_of}
@@ -29,20 +30,24 @@ enter_in b none enter = enter
 enter_in b (some e) enter = enter_after b e enter
 
 -- a branch read up to the cursor, where t tells whether a `$` stands there
-abbrev pub end_read : Bool → Cursor → Bool → Shape → BranchRead
-end_read t c start p = cond t (BranchRead.Read (past_byte c) start p true) (BranchRead.Read c start p false)
+abbrev pub end_read : Bool → Cursor → Bool → Shape → Cursor × BranchShape
+end_read t c start p = cond t (past_byte c, record { start = start; pieces = p; end = true }) (c, record { start = start; pieces = p; end = false })
 
 -- the optional `$` at the cursor
-abbrev pub EndDone : List ℕ → Cursor → Bool → Shape → BranchRead → Type 0
+abbrev pub EndDone : List ℕ → Cursor → Bool → Shape → Cursor × BranchShape → Type 0
 EndDone s c start p r = r ≡ end_read (eqb (get_or s c.at 0) 36) c start p
+
+-- what a reader of a branch hands out: the cursor behind it, and its shape; or none
+abbrev pub BranchRead : Type 0
+BranchRead = prelude.Option (Cursor × BranchShape)
 
 -- what a reader of a branch at cursor c of n bytes answers, and what it makes of the tables
 abbrev pub BranchDone : ℕ → Cursor → List ℕ → List ℕ → BranchRead → List ℕ → List ℕ → Parsed Branch → Type 0
 BranchDone n c keys enter r keys' enter' (parsed b rest) =
-    (r ≡ BranchRead.Read (record { at = n - length rest; atoms = c.atoms + atoms_in b.pieces; case = c.case }) b.start (shape_in c.atoms b.pieces) b.end)
+    (r ≡ Some (record { at = n - length rest; atoms = c.atoms + atoms_in b.pieces; case = c.case }, record { start = b.start; pieces = shape_in c.atoms b.pieces; end = b.end }))
     × (keys' ≡ keys_in (set_of c.case) c.atoms b.pieces keys)
     × (enter' ≡ enter_in c.atoms b.pieces enter)
-BranchDone n c keys enter r keys' enter' fault = r ≡ BranchRead.Fault
+BranchDone n c keys enter r keys' enter' fault = r ≡ None
 
 -- the answer at cursor c of the bytes s for a branch, and for what is left of one behind its `^` or without one
 abbrev pub ReadsBranch : List ℕ → Cursor → List ℕ → List ℕ → BranchRead → List ℕ → List ℕ → Type 0

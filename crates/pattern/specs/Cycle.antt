@@ -1,7 +1,6 @@
 -- What the readers that read each other in a cycle promise: the tree of the bytes at the cursor, in the form of its shape and tables.
-use Rattle.std.specs.Prelude.{ℕ, ◌+◌, ◌-◌, ◌*◌, ◌≤◌, ◌≡◌, true, ◌||◌, cond, List, eqb, length, drop}
+use Rattle.std.specs.Prelude.{ℕ, ◌+◌, ◌-◌, ◌*◌, ◌≤◌, ◌≡◌, true, ◌||◌, cond, List, eqb, length, drop, Option, Some, None}
 use Rattle.pattern.specs.declared.cursor.Cursor.{Cursor}
-use Rattle.pattern.specs.declared.cursor.Part.{Part}
 use Rattle.pattern.specs.declared.shape.Shape.{Shape}
 use Rattle.brackets.specs.Form.{Atom}
 use Rattle.brackets.specs.Sets.{set_of}
@@ -18,13 +17,17 @@ pub record Ready (s : List ℕ) (c : Cursor) : Type 0 where
   pub few : c.atoms ≤ c.at
   pub clean : is_line s ≡ true
 
+-- what a reader hands out: the cursor behind what was read, and its shape; or none
+abbrev pub Part : Type 0
+Part = Option (Cursor × Shape)
+
 -- what a reader at cursor c of n bytes answers, and what it makes of the tables
 abbrev pub Done : ℕ → Cursor → List ℕ → List ℕ → Part → List ℕ → List ℕ → Parsed Expr → Type 0
 Done n c keys enter r keys' enter' (parsed e rest) =
-    (r ≡ Part.Read (record { at = n - length rest; atoms = c.atoms + atoms e; case = c.case }) (shape_of c.atoms e))
+    (r ≡ Some (record { at = n - length rest; atoms = c.atoms + atoms e; case = c.case }, shape_of c.atoms e))
     × (keys' ≡ keys_after (set_of c.case) c.atoms e keys)
     × (enter' ≡ enter_after c.atoms e enter)
-Done n c keys enter r keys' enter' fault = r ≡ Part.Fault
+Done n c keys enter r keys' enter' fault = r ≡ None
 
 -- the cursor behind the byte at it
 abbrev pub past_byte : Cursor → Cursor
@@ -48,8 +51,8 @@ Reads m s c keys enter r keys' enter' = (f : ℕ) → room m (length s - c.at) �
 -- an atom: no state may enter anything more
 abbrev pub AtomDone : ℕ → Cursor → List ℕ → Part → List ℕ → Parsed Atom → Type 0
 AtomDone n c keys r keys' (parsed a rest) =
-    (r ≡ Part.Read (record { at = n - length rest; atoms = c.atoms + 1; case = c.case }) (shape_of c.atoms (atom a))) × (keys' ≡ keys_after (set_of c.case) c.atoms (atom a) keys)
-AtomDone n c keys r keys' fault = r ≡ Part.Fault
+    (r ≡ Some (record { at = n - length rest; atoms = c.atoms + 1; case = c.case }, shape_of c.atoms (atom a))) × (keys' ≡ keys_after (set_of c.case) c.atoms (atom a) keys)
+AtomDone n c keys r keys' fault = r ≡ None
 
 -- the answer at cursor c of the bytes s
 abbrev pub ReadsAtom : List ℕ → Cursor → List ℕ → Part → List ℕ → Type 0
@@ -66,5 +69,5 @@ abbrev pub repeat_at : ℕ → ℕ → ℕ
 repeat_at b at = cond (eqb b 42 || (eqb b 43 || eqb b 63)) (at + 1) at
 
 -- a part that was read up to the cursor d, with the mark b behind it, or none
-abbrev pub repeat_part : ℕ → Cursor → Shape → Part
-repeat_part b d p = Part.Read (record { at = repeat_at b d.at; atoms = d.atoms; case = d.case }) (repeat_shape b p)
+abbrev pub repeat_part : ℕ → Cursor → Shape → Cursor × Shape
+repeat_part b d p = (record { at = repeat_at b d.at; atoms = d.atoms; case = d.case }, repeat_shape b p)

@@ -1,8 +1,8 @@
 -- What the branches of a pattern come to, by the definitions on its tree.
-use Rattle.std.specs.Prelude.{ℕ, ◌+◌, ◌-◌, ◌≤◌, ◌≡◌, Bool, not, ◌&&◌, ◌||◌, cond, List, [], ◌∷◌, length, drop}
+use Rattle.std.specs.Prelude.{ℕ, ◌+◌, ◌-◌, ◌≤◌, ◌≡◌, Bool, not, ◌&&◌, ◌||◌, cond, List, [], ◌∷◌, length, drop, Some, None}
+use Rattle.std.specs.Prelude as prelude
 use Rattle.std.proofs.Math.Option.{Option}
 use Rattle.std.specs.Int.Bits.{bit_or}
-use Rattle.pattern.specs.declared.branch_list.PatternRead.{PatternRead}
 use Rattle.pattern.specs.declared.cursor.Cursor.{Cursor}
 use Rattle.pattern.specs.declared.shape.Shape.{Shape}
 use Rattle.pattern.specs.declared.summary.Summary.{Summary}
@@ -49,13 +49,17 @@ unfoldable pub through : (ℕ → Option Expr → List ℕ → List ℕ) → ℕ
 through f b [] l = l
 through f b (r ∷ rs) l = through f (b + atoms_in r.pieces) rs (f b r.pieces l)
 
+-- what the reader of branches hands out: how many atoms there are, and what the branches come to; or none
+abbrev pub PatternRead : Type 0
+PatternRead = prelude.Option (ℕ × Summary)
+
 -- what the reader of branches at cursor c answers, where those before come to a
 abbrev pub PatternDone : Cursor → Summary → List ℕ → List ℕ → PatternRead → List ℕ → List ℕ → Parsed Pattern → Type 0
 PatternDone c a keys enter r keys' enter' (parsed t rest) =
-    (r ≡ PatternRead.Read (c.atoms + atom_count t) (summary_of c.atoms t a))
+    (r ≡ Some (c.atoms + atom_count t, summary_of c.atoms t a))
     × (keys' ≡ through (keys_in (set_of c.case)) c.atoms t keys)
     × (enter' ≡ through enter_in c.atoms t enter)
-PatternDone c a keys enter r keys' enter' fault = r ≡ PatternRead.Fault
+PatternDone c a keys enter r keys' enter' fault = r ≡ None
 
 abbrev pub ReadsBranches : List ℕ → Cursor → Summary → List ℕ → List ℕ → PatternRead → List ℕ → List ℕ → Type 0
 ReadsBranches s c a keys enter r keys' enter' = (f : ℕ) → length s - c.at ≤ f → PatternDone c a keys enter r keys' enter' (read_branches f (drop c.at s))

@@ -4,7 +4,6 @@ ghost use Rattle.pattern.specs.Reader.{counted, read_branches, read_pattern};
 ghost use Rattle.pattern.specs.Cycle.{Ready};
 ghost use Rattle.pattern.specs.Automata.{accepting_of, read_figures, tables_of, verdict_figures};
 
-use crate::branch_list::PatternRead;
 use crate::clean::clean;
 use crate::cursor::Cursor;
 use crate::state::State;
@@ -71,7 +70,7 @@ fn read_clean(s: &[u8], case: Case) -> Result<Tables, Refusal>
         jump: false,
     };
     let read = Cursor::start(case).branches(s, none, &mut keys, &mut enter);
-    let PatternRead::Read(atoms, sum) = read else {
+    let Some((atoms, sum)) = read else {
         return Err(Refusal::PatternSyntax);
     };
     if atoms > 29 {

@@ -4,27 +4,27 @@ ghost use Rattle.pattern.specs.Reader.{read_branch, read_rest};
 ghost use Rattle.pattern.specs.Cycle.{Ready};
 ghost use Rattle.pattern.specs.Branches.{BranchDone, EndDone};
 
-use crate::cursor::{Cursor, Part, ends_pieces};
+use crate::cursor::{Cursor, ends_pieces};
 use crate::shape::Shape;
 use brackets::peek;
 
-// The cursor behind a branch, whether it has `^`, its pieces' shape, and whether it has `$`; or a fault.
+// Whether a branch has `^`, its pieces' shape, and whether it has `$`.
 #[derive(Clone, Copy)]
-pub(crate) enum BranchRead {
-    Read(Cursor, bool, Shape, bool),
-    Fault,
+pub(crate) struct BranchShape {
+    pub start: bool,
+    pub pieces: Shape,
+    pub end: bool,
 }
 
 impl Cursor {
     // The optional `$` behind pieces.
-    fn branch_end(self, s: &[u8], start: bool, p: Shape) -> BranchRead
+    fn branch_end(self, s: &[u8], start: bool, pieces: Shape) -> (Cursor, BranchShape)
         requires { Ready s.now self }
-        ensures { EndDone s.now self start p result }
+        ensures { EndDone s.now self start pieces result }
     {
-        if peek(s, self.at) == b'$' {
-            return BranchRead::Read(self.past(), start, p, true);
-        }
-        BranchRead::Read(self, start, p, false)
+        let end = peek(s, self.at) == b'$';
+        let here = if end { self.past() } else { self };
+        (here, BranchShape { start, pieces, end })
     }
 
     // A branch whose optional `^` is passed.
@@ -34,36 +34,28 @@ impl Cursor {
         start: bool,
         keys: &mut [u64; 256],
         enter: &mut [u64; 32],
-    ) -> BranchRead
+    ) -> Option<(Cursor, BranchShape)>
         requires { Ready s.now self }
         ensures { BranchDone (length s.now) self keys.old enter.old result keys.new enter.new (read_rest start (drop self.at s.now)) }
     {
         let next = peek(s, self.at);
         if ends_pieces(next) {
-            let none = Shape {
-                nothing: true,
-                first: 0,
-                last: 0,
-            };
             if start | (next == b'$') {
-                return self.branch_end(s, start, none);
+                return Some(self.branch_end(s, start, Shape::EMPTY));
             }
-            return BranchRead::Fault;
+            return None;
         }
-        let part = self.branch(s, keys, enter);
-        let Part::Read(here, shape) = part else {
-            return BranchRead::Fault;
-        };
-        here.branch_end(s, start, shape)
+        let (here, pieces) = self.branch(s, keys, enter)?;
+        Some(here.branch_end(s, start, pieces))
     }
 
-    // The branch of the whole pattern at the cursor.
+    // The branch of the whole pattern at the cursor, and the cursor behind it.
     pub(crate) fn pattern_branch(
         self,
         s: &[u8],
         keys: &mut [u64; 256],
         enter: &mut [u64; 32],
-    ) -> BranchRead
+    ) -> Option<(Cursor, BranchShape)>
         requires { Ready s.now self }
         ensures { BranchDone (length s.now) self keys.old enter.old result keys.new enter.new (read_branch (drop self.at s.now)) }
     {

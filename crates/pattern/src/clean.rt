@@ -6,13 +6,5 @@ ghost use Rattle.runs.specs.Keys.{is_line};
 pub(crate) fn clean(s: &[u8]) -> bool
     ensures { result ≡ is_line s.now }
 {
-    let mut i = 0;
-    while i < s.len() {
-        let b = s[i];
-        if (b == 0) | (b == 10) {
-            return false;
-        }
-        i += 1;
-    }
-    true
+    s.iter().all(|&b| (b != 0) & (b != b'\n'))
 }

@@ -2,7 +2,7 @@
 // bytes left fall. Tables of keys and states are lent; the cursor and an expression's shape go by value.
 ghost use Rattle.std.specs.Prelude.{◌≡◌, ◌+◌, ◌^◌, ◌≤◌, ◌<◌, get_or};
 ghost use Rattle.pattern.specs.Reader.{Mode, ends_pieces};
-ghost use Rattle.pattern.specs.Cycle.{Reads, Ready, past_byte, repeat_at, repeat_enter, repeat_shape};
+ghost use Rattle.pattern.specs.Cycle.{Reads, Ready, past_byte, repeat_enter, repeat_part};
 
 use crate::shape::{Shape, either, in_sequence, link};
 use brackets::peek;
@@ -16,13 +16,7 @@ pub(crate) struct Cursor {
     pub case: Case,
 }
 
-// The cursor behind an expression and the expression's shape, or a fault.
-#[derive(Clone, Copy)]
-pub(crate) enum Part {
-    Read(Cursor, Shape),
-    Fault,
-}
-
+// A reader hands out the cursor behind what it read and the shape of that, or none at a fault.
 impl Cursor {
     // The cursor at a pattern's start.
     pub(crate) fn start(case: Case) -> Cursor
@@ -40,11 +34,10 @@ impl Cursor {
         requires { (self.atoms ≤ 128) × (more ≤ 1) }
         ensures { result ≡ record { at = at; atoms = self.atoms + more; case = self.case } }
     {
-        let case = self.case;
         Cursor {
             at,
             atoms: self.atoms + more,
-            case,
+            case: self.case,
         }
     }
 
@@ -57,111 +50,102 @@ impl Cursor {
     }
 
     // The mark of repetition behind an expression, if there is one.
-    fn repetition(self, s: &[u8], p: Shape, enter: &mut [u64; 32]) -> Part
+    fn repetition(self, s: &[u8], p: Shape, enter: &mut [u64; 32]) -> (Cursor, Shape)
         requires ready { Ready s.now self }
         requires last_bound { p.last < 2 ^ 32 }
-        ensures read { result ≡ Part.Read (record { at = repeat_at (get_or s.now self.at 0) self.at; atoms = self.atoms; case = self.case }) (repeat_shape (get_or s.now self.at 0) p) }
+        ensures read { result ≡ repeat_part (get_or s.now self.at 0) self p }
         ensures table { enter.new ≡ repeat_enter (get_or s.now self.at 0) p enter.old }
     {
-        let first = p.first;
-        let last = p.last;
         let mark = peek(s, self.at);
-        let optional = Shape {
-            nothing: true,
-            first,
-            last,
-        };
+        let optional = Shape { nothing: true, ..p };
         if mark == b'*' {
-            link(enter, last, first);
-            return Part::Read(self.past(), optional);
+            link(enter, p.last, p.first);
+            return (self.past(), optional);
         }
         if mark == b'+' {
-            link(enter, last, first);
-            return Part::Read(self.past(), p);
+            link(enter, p.last, p.first);
+            return (self.past(), p);
         }
         if mark == b'?' {
-            return Part::Read(self.past(), optional);
+            return (self.past(), optional);
         }
-        Part::Read(self, p)
+        (self, p)
     }
 
     // An alternative list: branches parted by `|`.
     #[cycle(alternatives_branch_group_piece)]
-    fn alternatives(self, s: &[u8], keys: &mut [u64; 256], enter: &mut [u64; 32]) -> Part
+    fn alternatives(
+        self,
+        s: &[u8],
+        keys: &mut [u64; 256],
+        enter: &mut [u64; 32],
+    ) -> Option<(Cursor, Shape)>
         requires { Ready s.now self }
         ensures { Reads Mode.alts s.now self keys.old enter.old result keys.new enter.new }
     {
-        let part = self.branch(s, keys, enter);
-        let Part::Read(here, left) = part else {
-            return Part::Fault;
-        };
+        let (here, left) = self.branch(s, keys, enter)?;
         if peek(s, here.at) != b'|' {
-            return Part::Read(here, left);
+            return Some((here, left));
         }
-        let other = here.past().alternatives(s, keys, enter);
-        let Part::Read(end, right) = other else {
-            return Part::Fault;
-        };
-        Part::Read(end, either(left, right))
+        let (end, right) = here.past().alternatives(s, keys, enter)?;
+        Some((end, either(left, right)))
     }
 
     // A branch without its anchors: pieces up to the end, a `|`, a `)` or a `$`.
     #[cycle(alternatives_branch_group_piece)]
-    pub(crate) fn branch(self, s: &[u8], keys: &mut [u64; 256], enter: &mut [u64; 32]) -> Part
+    pub(crate) fn branch(
+        self,
+        s: &[u8],
+        keys: &mut [u64; 256],
+        enter: &mut [u64; 32],
+    ) -> Option<(Cursor, Shape)>
         requires { Ready s.now self }
         ensures { Reads Mode.branch s.now self keys.old enter.old result keys.new enter.new }
     {
-        let part = self.piece(s, keys, enter);
-        let Part::Read(here, left) = part else {
-            return Part::Fault;
-        };
+        let (here, left) = self.piece(s, keys, enter)?;
         if ends_pieces(peek(s, here.at)) {
-            return Part::Read(here, left);
+            return Some((here, left));
         }
-        let other = here.branch(s, keys, enter);
-        let Part::Read(end, right) = other else {
-            return Part::Fault;
-        };
-        let last = left.last;
-        let first = right.first;
-        link(enter, last, first);
-        Part::Read(end, in_sequence(left, right))
+        let (end, right) = here.branch(s, keys, enter)?;
+        link(enter, left.last, right.first);
+        Some((end, in_sequence(left, right)))
     }
 
     // A piece: an atom or a group, then at most one mark of repetition.
     #[cycle(alternatives_branch_group_piece)]
-    fn piece(self, s: &[u8], keys: &mut [u64; 256], enter: &mut [u64; 32]) -> Part
+    fn piece(
+        self,
+        s: &[u8],
+        keys: &mut [u64; 256],
+        enter: &mut [u64; 32],
+    ) -> Option<(Cursor, Shape)>
         requires { Ready s.now self }
         ensures { Reads Mode.piece s.now self keys.old enter.old result keys.new enter.new }
     {
         if peek(s, self.at) == b'(' {
-            let part = self.past().group(s, keys, enter);
-            let Part::Read(here, shape) = part else {
-                return Part::Fault;
-            };
-            return here.repetition(s, shape, enter);
+            let (here, shape) = self.past().group(s, keys, enter)?;
+            return Some(here.repetition(s, shape, enter));
         }
-        let part = self.atom(s, keys);
-        let Part::Read(here, shape) = part else {
-            return Part::Fault;
-        };
-        here.repetition(s, shape, enter)
+        let (here, shape) = self.atom(s, keys)?;
+        Some(here.repetition(s, shape, enter))
     }
 
     // A group, whose `(` is passed.
     #[cycle(alternatives_branch_group_piece)]
-    fn group(self, s: &[u8], keys: &mut [u64; 256], enter: &mut [u64; 32]) -> Part
+    fn group(
+        self,
+        s: &[u8],
+        keys: &mut [u64; 256],
+        enter: &mut [u64; 32],
+    ) -> Option<(Cursor, Shape)>
         requires { Ready s.now self }
         ensures { Reads Mode.group s.now self keys.old enter.old result keys.new enter.new }
     {
-        let part = self.alternatives(s, keys, enter);
-        let Part::Read(here, shape) = part else {
-            return Part::Fault;
-        };
+        let (here, shape) = self.alternatives(s, keys, enter)?;
         if peek(s, here.at) != b')' {
-            return Part::Fault;
+            return None;
         }
-        Part::Read(here.past(), shape)
+        Some((here.past(), shape))
     }
 }
 

@@ -13,6 +13,15 @@ pub(crate) struct Shape {
     pub last: u64,
 }
 
+impl Shape {
+    // That of the empty part.
+    pub(crate) const EMPTY: Shape = Shape {
+        nothing: true,
+        first: 0,
+        last: 0,
+    };
+}
+
 // Both sets if t, and the first alone if not.
 pub(crate) fn union_if(t: bool, a: u64, b: u64) -> u64
     ensures { result ≡ cond t (bit_or a b) a }
@@ -24,12 +33,10 @@ pub(crate) fn union_if(t: bool, a: u64, b: u64) -> u64
 pub(crate) fn in_sequence(p: Shape, q: Shape) -> Shape
     ensures { result ≡ seq_shape p q }
 {
-    let first = union_if(p.nothing, p.first, q.first);
-    let last = union_if(q.nothing, q.last, p.last);
     Shape {
         nothing: p.nothing & q.nothing,
-        first,
-        last,
+        first: union_if(p.nothing, p.first, q.first),
+        last: union_if(q.nothing, q.last, p.last),
     }
 }
 
@@ -37,12 +44,10 @@ pub(crate) fn in_sequence(p: Shape, q: Shape) -> Shape
 pub(crate) fn either(p: Shape, q: Shape) -> Shape
     ensures { result ≡ alt_shape p q }
 {
-    let first = union(p.first, q.first);
-    let last = union(p.last, q.last);
     Shape {
         nothing: p.nothing | q.nothing,
-        first,
-        last,
+        first: union(p.first, q.first),
+        last: union(p.last, q.last),
     }
 }
 
@@ -52,11 +57,8 @@ pub(crate) fn link(enter: &mut [u64; 32], from: u64, to: u64)
     ensures { enter.new ≡ linked from to enter.old }
 {
     let mut rest = from;
-    let mut q = 0;
-    while q < 32 {
-        let old = enter[q];
-        enter[q] = union_if(rest % 2 == 1, old, to);
-        rest = rest / 2;
-        q += 1;
+    for word in enter {
+        *word = union_if(rest % 2 == 1, *word, to);
+        rest /= 2;
     }
 }

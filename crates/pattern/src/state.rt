@@ -18,21 +18,21 @@ impl State {
     pub fn atom(k: u8) -> State
         ensures { result.0 ≡ 3 + k }
     {
-        State(3 + k as u16)
+        State(3 + u16::from(k))
     }
 
     // The set of this state alone; one that no word holds gives the empty set.
     pub fn set(self) -> u64
         ensures { result ≡ 2 ^ self.0 % 2 ^ 64 }
     {
-        only(self.0 as u32)
+        only(u32::from(self.0))
     }
 
     // Its place in a table of states.
     pub fn place(self) -> usize
         ensures { result ≡ self.0 }
     {
-        self.0 as usize
+        usize::from(self.0)
     }
 
     // How many states there are with so many atoms: the place behind the last one's.

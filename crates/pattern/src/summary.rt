@@ -2,7 +2,8 @@
 ghost use Rattle.std.specs.Prelude.{◌≡◌};
 ghost use Rattle.pattern.specs.Summaries.{branch_summary};
 
-use crate::shape::{Shape, union_if};
+use crate::branch::BranchShape;
+use crate::shape::union_if;
 use stateset::union;
 
 #[derive(Clone, Copy)]
@@ -18,20 +19,19 @@ pub(crate) struct Summary {
     pub jump: bool,
 }
 
-// The summary with one branch more.
-pub(crate) fn with_branch(a: Summary, start: bool, p: Shape, end: bool) -> Summary
-    ensures { result ≡ branch_summary a start p end }
-{
-    let first = union(a.first, p.first);
-    let free = union_if(!start, a.free, p.first);
-    let ends = union_if(!end, a.ends, p.last);
-    let anchored = union_if(end, a.anchored, p.last);
-    Summary {
-        first,
-        free,
-        ends,
-        anchored,
-        empty: a.empty | p.nothing,
-        jump: a.jump | (p.nothing & !(start & end)),
+impl Summary {
+    // The summary with one branch more.
+    pub(crate) fn with_branch(self, branch: BranchShape) -> Summary
+        ensures { result ≡ branch_summary self branch.start branch.pieces branch.end }
+    {
+        let BranchShape { start, pieces, end } = branch;
+        Summary {
+            first: union(self.first, pieces.first),
+            free: union_if(!start, self.free, pieces.first),
+            ends: union_if(!end, self.ends, pieces.last),
+            anchored: union_if(end, self.anchored, pieces.last),
+            empty: self.empty | pieces.nothing,
+            jump: self.jump | (pieces.nothing & !(start & end)),
+        }
     }
 }

@@ -1,67 +1,74 @@
 -- The ways out of `reach_list`: one law for each, and what the walk needs.
-use Prim.Native.Nat.{ℕ, ◌+◌, ◌<◌, ◌≤◌}
+use Prim.Native.Nat.{ℕ, suc, ◌+◌, ◌*◌, ◌<◌, ◌≤◌}
 use native.Mathlib.Omega.{arith}
-use mathlib.Core.Path.{◌≡◌, refl, ap}
+use mathlib.Core.Path.{◌≡◌, refl, sym, ap, ◌∙◌}
 use mathlib.Core.Logic.{◌⊎◌, inl, inr}
-use mathlib.Core.Bool.{Bool, true, false}
+use mathlib.Core.Bool.{Bool, true, false, cond}
 use mathlib.Core.List.{List, []}
 use lib.Dec.{ltb}
 use lib.ListN.{length}
-use borrow.Author.Tests.{lt-ltb, le-ltb, ltb-true, ltb-false}
+use borrow.Author.Tests.{le-ltb, ltb-true, ltb-false}
+use Rattle.runs.proofs.Tests.{by-test}
 use Rattle.refusal.specs.declared.Refusal.{Refusal}
 use Rattle.refusal.specs.declared.Refusal.TheVariants.{NoSuchMacro, InsufficientSpace}
 use Rattle.refusal.specs.Figures.{Figures, answered, refused_for}
 use Rattle.runs.specs.Kept.{over}
-use Rattle.book.specs.declared.layout.Checked.{Checked}
-use Rattle.book.specs.declared.layout.Layout.{Layout}
+use Rattle.book.specs.declared.layout.Book.{Book}
+use Rattle.std.specs.Prelude.{Ok, Err}
 use Rattle.book.specs.Format.{Macro}
 use Rattle.book.specs.Reading.{Reading, got, refused, read_book, macros_in}
-use Rattle.book.specs.Answer.{layout_figures, book_layout, require_macro}
-use Rattle.book.proofs.LayoutLaws.{layout-figures, layout-table, layout-refused, layout-sound, layout-count, macros-few}
+use Rattle.book.specs.Answer.{check_result, offsets_in, opened_figures, require_macro}
+use Rattle.book.specs.Steps.{Settled, settled, ◌>>=◌, answer_by, space_step, settled_by}
+use Rattle.book.proofs.LayoutLaws.{opened-refused, opened-sound, opened-count, macros-few}
+use Rattle.book.proofs.StepLaws.{space-answer, space-inside, space-room}
 use Rattle.book.proofs.Requiring.{require-refused, require-out, require-in, require-alike}
 use Rattle.book.proofs.Refusals.{BookNumber, book-refusals}
 use Rattle.reach.specs.Entries.{reach_list}
 use Rattle.reach.specs.Answer.{ReachAnswer, require_entries}
 use Rattle.reach.specs.Promises.{MacroOf}
 
--- a refusal of the book or the macro, which comes before 11
-none-listed : (b before : List ℕ) (m : ℕ) (r : Refusal) → require_macro m b ≡ refused r → ReachAnswer (require_entries m (length before) b) m (refused_for r) before before
-unfolding require_entries
-none-listed b before m r e = rw e (refl, refl)
+-- What is read of macro m and a list of so many entries, by the steps that the code takes.
+module _ (b : List ℕ) (entries m : ℕ) where
+  entries-refused : {r : Refusal} → require_macro m b ≡ refused r → require_entries m entries b ≡ refused r
+  unfolding require_entries
+  entries-refused e = rw e refl
 
--- a macro of a book that was read
-module _ (b : List ℕ) (m : ℕ) (l : Layout) (e : layout_figures l ≡ book_layout b) {n : ℕ} (f : l.answer ≡ Checked.Sound n) (h : m < n) where
-  inside : m < length (macros_in b)
-  inside = omega (arith, layout-count b (layout-figures b e) f)
+  entries-tested : {ms : List Macro} {rest : List ℕ} → read_book b ≡ got ms rest → require_entries m entries b ≡ cond (ltb m (length ms)) (cond (ltb entries (m + 1)) (refused InsufficientSpace) (got ms rest)) (refused NoSuchMacro)
+  unfolding require_entries
+  entries-tested {ms} {rest} e =
+      by-test (ltb m (length ms))
+      (λ h. rw (h, require-in m b e (ltb-true m (length ms) h)) refl)
+      (λ h. rw (h, require-out m b e (ltb-false m (length ms) h)) refl)
 
-  required : require_macro m b ≡ got (macros_in b) []
-  required = require-in m b (layout-sound b (layout-figures b e) f) inside
+  entries-stepped : {ms : List Macro} {rest : List ℕ} → read_book b ≡ got ms rest → require_entries m entries b ≡ answer_by refused (λ (u : Unit {0}). got ms rest) (◌>>=◌ (space_step (length ms) m (suc m * 1) entries) settled)
+  entries-stepped {ms} {rest} e =
+      let one : suc m * 1 ≡ m + 1 = omega arith in
+      entries-tested e ∙ sym (rw one (space-answer refused (λ (u : Unit {0}). got ms rest) tt (length ms) m (m + 1) entries))
 
-  pub list-place : MacroOf b l.offsets m
-  list-place = record { table = layout-table b l e; inside = inside }
+-- Each way out.
+module _ (b before : List ℕ) (m : ℕ) where
+  none-listed : {r : Refusal} → require_entries m (length before) b ≡ refused r → ReachAnswer (require_entries m (length before) b) m (refused_for r) before before
+  none-listed e = rw e (refl, refl)
 
--- each way out
-module _ (b before : List ℕ) (m : ℕ) (l : Layout) (e : layout_figures l ≡ book_layout b) where
-  pub list-refused : {r : Refusal} → l.answer ≡ Checked.Refused r → ReachAnswer (require_entries m (length before) b) m (refused_for r) before before
-  list-refused {r} f = none-listed b before m r (require-refused m b (layout-refused b (layout-figures b e) f))
+  pub list-refused : (r : Refusal) → opened_figures (Err r) ≡ check_result (read_book b) → ReachAnswer (require_entries m (length before) b) m (refused_for r) before before
+  list-refused r e = none-listed (entries-refused b (length before) m (require-refused m b (opened-refused b e)))
 
-  module _ {n : ℕ} (f : l.answer ≡ Checked.Sound n) where
-    pub list-missing : n ≤ m → ReachAnswer (require_entries m (length before) b) m (refused_for NoSuchMacro) before before
-    list-missing h = none-listed b before m NoSuchMacro (require-out m b (layout-sound b (layout-figures b e) f) (omega (arith, layout-count b (layout-figures b e) f)))
+  module _ (k : Book) (e : opened_figures (Ok k) ≡ check_result (read_book b)) where
+    stepped : {s : Settled (Unit {0})} → s ≡ space_step k.macros m (suc m * 1) (length before) → require_entries m (length before) b ≡ answer_by refused (λ (u : Unit {0}). got (macros_in b) []) (◌>>=◌ s settled)
+    stepped f = entries-stepped b (length before) m (opened-sound b k e) ∙ rw (← opened-count b k e, ← f) refl
 
-    module _ (h : m < n) where
-      pub list-short : length before ≤ m → ReachAnswer (require_entries m (length before) b) m (refused_for InsufficientSpace) before before
-      unfolding require_entries
-      list-short g =
-          let less : length before < m + 1 = omega arith in
-          rw (required b m l e f h, lt-ltb _ _ less) (refl, refl)
+    pub list-short : {r : Refusal} → settled_by (Err r) ≡ space_step k.macros m (suc m * 1) (length before) → ReachAnswer (require_entries m (length before) b) m (refused_for r) before before
+    list-short f = none-listed (stepped f)
 
-      module _ (g : m < length before) {k : ℕ} {after : List ℕ} where
-        pub list_written : k ≡ length (reach_list (macros_in b) m) → after ≡ over (reach_list (macros_in b) m) before → ReachAnswer (require_entries m (length before) b) m (answered k) before after
-        unfolding require_entries
-        list_written c w =
-            let enough : m + 1 ≤ length before = omega arith in
-            rw (required b m l e f h, le-ltb _ _ enough) (ap answered c, w)
+    module _ (f : settled_by (Ok tt) ≡ space_step k.macros m (suc m * 1) (length before)) where
+      pub list-place : {offsets : List ℕ} → offsets ≡ offsets_in b → MacroOf b offsets m
+      list-place t = record { table = t; inside = rw (opened-count b k e) at (space-inside k.macros m (suc m * 1) (length before) (Ok tt) f refl) }
+
+      pub list-room : m < length before
+      list-room = omega (arith, space-room k.macros m (suc m * 1) (length before) (Ok tt) f refl)
+
+      pub list-written : {n : ℕ} {after : List ℕ} → n ≡ length (reach_list (macros_in b) m) → after ≡ over (reach_list (macros_in b) m) before → ReachAnswer (require_entries m (length before) b) m (answered n) before after
+      list-written c w = rw (stepped f) (ap answered c, w)
 
 -- What is answered, for those who lend a list.
 
@@ -71,10 +78,6 @@ unfolding require_entries
 entries-alike m entries b c e = rw (require-alike m b c e) refl
 
 -- no book has a macro from 1,024 on: all such numbers are refused alike
-entries-refused : (b : List ℕ) (entries m : ℕ) {r : Refusal} → require_macro m b ≡ refused r → require_entries m entries b ≡ refused r
-unfolding require_entries
-entries-refused b entries m e = rw e refl
-
 entries-beyond : (b : List ℕ) (entries m k : ℕ) → 1024 ≤ m → 1024 ≤ k → (r : Refusal) × (require_entries m entries b ≡ refused r) × (require_entries k entries b ≡ refused r)
 entries-beyond b entries m k h l = go (read_book b) refl
   where

@@ -8,26 +8,25 @@ use mathlib.Core.Bool.{Bool, true, false, or-false, or-true}
 use mathlib.Core.List.{List, [], ◌∷◌, ◌++◌, Memᴰ}
 use lib.Dec.{eqb}
 use lib.ListN.{length, get_or, set, take, drop, replicate, length-append, length-set, length-replicate, get_or-replicate, take-append-drop}
-use lib.Seq.{drop-set-lt, get_or-set_same, get_or-set_other, take_at, take-suc-set}
+use lib.Seq.{drop-set-lt, get_or-set_same, get_or-set_other, take_all, take_at, take-suc-set}
 use borrow.Author.Tests.{eqb-true, eqb-false}
 use Rattle.runs.specs.Keys.{member}
 use Rattle.runs.specs.Kept.{over, times}
 use Rattle.runs.proofs.KeptLaws.{over-length, over-behind}
 use Rattle.runs.proofs.Tests.{by-test, or_cases, or_left, or_right, torn}
-use Rattle.book.specs.declared.item.Item.{Item}
+use Rattle.book.specs.declared.item.Repeated.{Repeated}
 use Rattle.book.specs.declared.item.Item.TheVariants.{Key, Call}
-use Rattle.book.specs.declared.macro_items.Items.{Items}
+use Rattle.std.specs.Prelude.{Option, Some, None, slice_get}
 use Rattle.book.specs.Format.{Macro, repeated, well_formed}
 use Rattle.book.specs.Expansion.{unrolled}
 use Rattle.book.specs.MacroItems.{decoded, items_from}
-use Rattle.book.specs.Reading.{macros_in, item_of}
-use Rattle.book.proofs.Expansion.{unrolled-none, well-call, well-times}
+use Rattle.book.specs.Reading.{macros_in}
+use Rattle.book.proofs.Expansion.{unrolled-none, well-call, well-short, well-times}
 use Rattle.book.proofs.Reach.{reach-trans}
 use Rattle.book.proofs.LayoutLaws.{macros-few, well-in}
-use Rattle.book.proofs.MacroItems.{count-few, items-all, items_more, item-among}
+use Rattle.book.proofs.MacroItems.{item-in, item-more, items-are, items-end}
 use Rattle.reach.specs.Entries.{entries_of, entries, reach_list}
-use Rattle.reach.specs.declared.listing.Codes.{Codes}
-use Rattle.reach.specs.Promises.{codes_from, MacroOf, Entering, Entered, called_by, extend, Walk, Closed}
+use Rattle.reach.specs.Promises.{MacroOf, Entering, Entered, called_by, extend, Walk, Closed}
 use Rattle.reach.proofs.Firsts.{member-append, extend-none, extend-new, extend-append, extend-all, extend-times, extend-has, extend-longer, extend-firsts, once-none, once_more, once-room}
 use Rattle.reach.proofs.Entries.{entries_of-none, entries_of-key, entries_of-call, entries-law, entries-iff}
 
@@ -75,12 +74,12 @@ member-last : (k : ℕ) (l : List ℕ) (x : ℕ) → member k (l ++ (x ∷ [])) 
 member-last k l x h = or_cases (member k l) (eqb k x) (rw (member-append k l (x ∷ []), or-false (eqb k x)) at h)
 
 -- In the items of macro i: `front` is listed before them, and then what the first k of them enter.
-abbrev listed_by : List Macro → List ℕ → Macro → List ℕ
-listed_by ms front is = extend front (entries_of (λ j. entries ms j) (unrolled is))
+abbrev listed_by : List Macro → ℕ → List ℕ → ℕ → List ℕ
+listed_by ms i front k = extend front (entries_of (λ j. entries ms j) (unrolled (take k (get_or ms i []))))
 
-pub record Within (ms : List Macro) (i : ℕ) (front before : List ℕ) (is : Macro) (k : ℕ) (list : List ℕ) (marks : List Bool) (n : ℕ) : Type 0 where
-  pub walk : Walk (listed_by ms front (take k is)) before list marks n
-  pub closed : Closed ms i (listed_by ms front (take k is))
+pub record Within (ms : List Macro) (i : ℕ) (front before : List ℕ) (k : ℕ) (list : List ℕ) (marks : List Bool) (n : ℕ) : Type 0 where
+  pub walk : Walk (listed_by ms i front k) before list marks n
+  pub closed : Closed ms i (listed_by ms i front k)
 
 -- Macro i, behind the numbers `take n list`.
 module _ (b offsets : List ℕ) (i n : ℕ) (marks : List Bool) (list : List ℕ) (x : Entering b offsets i n marks list) where
@@ -102,9 +101,6 @@ module _ (b offsets : List ℕ) (i n : ℕ) (marks : List Bool) (list : List ℕ
 
     pub enter-room : n < length list
     enter-room = omega (arith, x.walk.count, once-room (length list) (take n list) i x.walk.single (λ j m. (x.walk.low j m).1) x.room new)
-
-    pub enter-small : n < 1024
-    enter-small = omega (arith, x.walk.count, once-room 1024 (take n list) i x.walk.single (λ j m. (x.walk.low j m).0) enter-macro new)
 
     front-is : take (n + 1) (set list n i) ≡ take n list ++ (i ∷ [])
     front-is = rw (add-one n) (take-suc-set list n i enter-room)
@@ -136,121 +132,90 @@ module _ (b offsets : List ℕ) (i n : ℕ) (marks : List Bool) (list : List ℕ
         rw (member-append q (take n list) (i ∷ [])) (or_left (member q (take n list)) (member q (i ∷ [])) old)
 
     -- then it is listed, and its items come next
-    module _ (next : List ℕ) (p : ℕ) (e : next ≡ set list n i) (f : p ≡ n + 1) where
-      front-next : take p next ≡ take n list ++ (i ∷ [])
-      front-next = rw (e, f) front-is
+    pub enter-items : Entered b offsets i (n + 1) (set marks i true) (set list n i)
+    enter-items =
+        record {
+          place = x.place;
+          room = rw (length-set list n i) x.room;
+          walk = rw front-is walk_more;
+          closed = rw front-is closed-first;
+        }
 
-      pub enter-items : Entered b offsets i p (set marks i true) next
-      enter-items =
-          record {
-            place = x.place;
-            room = rw (e, length-set list n i) x.room;
-            walk = rw (front-next, e, f) walk_more;
-            closed = rw front-next closed-first;
-          }
-
-      -- what they enter is what it enters
-      pub enter-left : {after : List ℕ} {made : List Bool} {r : ℕ} → Walk (extend (take p next) (called_by (macros_in b) i)) next after made r → Walk (extend (take n list) (entries (macros_in b) i)) list after made r
-      enter-left {after} {made} {r} v =
-          let L = take n list in
-          let whole : extend (L ++ (i ∷ [])) (called_by (macros_in b) i) ≡ extend L (entries (macros_in b) i) = sym (extend-new L i (called_by (macros_in b) i) new) ∙ ap (extend L) (sym (entries-law (macros_in b) well i)) in
-          let done : Walk (extend L (entries (macros_in b) i)) (set list n i) after made r = rw (front-next, whole, e) at v in
-          let long = extend-longer (L ++ (i ∷ [])) (called_by (macros_in b) i) in
-          let behind : n < length (extend L (entries (macros_in b) i)) = rw (← whole) (omega (arith, long, length-append L (i ∷ []), x.walk.count)) in
-          walk-under list done (length-set list n i) (drop-set-lt (length (extend L (entries (macros_in b) i))) list n i behind)
-
--- In the items of a macro.
-module _ {ms : List Macro} {i : ℕ} {front before : List ℕ} {is : Macro} {k : ℕ} {list : List ℕ} {marks : List Bool} {n : ℕ} (x : Within ms i front before is k list marks n) where
-  -- a key enters nothing
-  within-key : (c t : ℕ) → take (k + 1) is ≡ take k is ++ (repeated (Key c) t ∷ []) → Within ms i front before is (k + 1) list marks n
-  within-key c t e =
-      let same : listed_by ms front (take (k + 1) is) ≡ listed_by ms front (take k is) = rw e (ap (extend front) (entries_of-key (λ j. entries ms j) (take k is) t c)) in
-      record { walk = rw same x.walk; closed = rw same x.closed }
-
-  -- a call of a lower macro finds the walk as it must, and leaves it so
-  within-found : Walk (take n list) list list marks n
-  within-found = walk-found x.walk
-
-  within-closed : (j : ℕ) → j < i → Closed ms (j + 1) (take n list)
-  within-closed j l = rw (walk-front x.walk) (λ p q h. x.closed p q (omega arith))
-
-  within-room : (j : ℕ) → j < length before → j < length list
-  within-room j h = rw (walk-long x.walk) h
-
-  within-call : well_formed ms ≡ true → (j t : ℕ) → 1 ≤ t → take (k + 1) is ≡ take k is ++ (repeated (Call j) t ∷ []) → {after : List ℕ} {made : List Bool} {r : ℕ} → Walk (extend (take n list) (entries ms j)) list after made r → Within ms i front before is (k + 1) after made r
-  within-call sound j t some e v =
-      let same : listed_by ms front (take (k + 1) is) ≡ extend (listed_by ms front (take k is)) (entries ms j) =
-      rw e (ap (extend front) (entries_of-call (λ j. entries ms j) (take k is) t j) ∙ extend-append front (entries_of (λ j. entries ms j) (unrolled (take k is))) (times t (entries ms j)) ∙ extend-times (listed_by ms front (take k is)) (entries ms j) t some) in
-      record {
-        walk = rw same (walk-made x.walk (extend-longer (listed_by ms front (take k is)) (entries ms j)) (rw (walk-front x.walk) at v));
-        closed = rw same (closed-more ms sound i (listed_by ms front (take k is)) j x.closed);
-      }
-
--- what `codes_of` keeps of a macro's items
-pub codes-told : (b offsets : List ℕ) (i : ℕ) {r : Items} → r ≡ items_from b offsets i → record { codes = r.codes; count = r.count } ≡ codes_from b offsets i
-codes-told b offsets i e = ap (λ (x : Items). record { codes = x.codes; count = x.count }) e
+    -- what they enter is what it enters
+    pub enter-left : {after : List ℕ} {made : List Bool} {r : ℕ} → Walk (extend (take (n + 1) (set list n i)) (called_by (macros_in b) i)) (set list n i) after made r → Walk (extend (take n list) (entries (macros_in b) i)) list after made r
+    enter-left {after} {made} {r} v =
+        let L = take n list in
+        let whole : extend (L ++ (i ∷ [])) (called_by (macros_in b) i) ≡ extend L (entries (macros_in b) i) = sym (extend-new L i (called_by (macros_in b) i) new) ∙ ap (extend L) (sym (entries-law (macros_in b) well i)) in
+        let done : Walk (extend L (entries (macros_in b) i)) (set list n i) after made r = rw (front-is, whole) at v in
+        let long = extend-longer (L ++ (i ∷ [])) (called_by (macros_in b) i) in
+        let behind : n < length (extend L (entries (macros_in b) i)) = rw (← whole) (omega (arith, long, length-append L (i ∷ []), x.walk.count)) in
+        walk-under list done (length-set list n i) (drop-set-lt (length (extend L (entries (macros_in b) i))) list n i behind)
 
 -- The turns of the loop over a macro's items.
-module _ (b offsets : List ℕ) (i n : ℕ) (marks : List Bool) (list : List ℕ) (x : Entered b offsets i n marks list) (numbers : Codes) (e : numbers ≡ codes_from b offsets i) where
-  abbrev items : Items
-  items = items_from b offsets i
+module _ {b offsets : List ℕ} {i n : ℕ} {marks : List Bool} {list : List ℕ} (x : Entered b offsets i n marks list) where
+  abbrev ms : List Macro
+  ms = macros_in b
 
-  count-is : numbers.count ≡ items.count
-  count-is = ap (λ (c : Codes). c.count) e
+  abbrev items : Macro
+  items = get_or ms i []
 
-  code_is : (k : ℕ) → get_or numbers.codes k 0 ≡ get_or items.codes k 0
-  code_is k = ap (λ (c : Codes). get_or c.codes k 0) e
+  -- item k, as it is read
+  item-is : (k : ℕ) {r s : Option Repeated} → r ≡ slice_get (decoded (items_from b offsets i)) k → r ≡ s → slice_get items k ≡ s
+  item-is k e f = rw (items-are b offsets i x.place.table x.place.inside) at (sym e ∙ f)
 
-  abbrev Turn : ℕ → List ℕ → List Bool → ℕ → Type 0
-  Turn k now made listed = Within (macros_in b) i (take n list) list (decoded items) k now made listed
-
-  pub turn-first : Turn 0 list marks n
+  pub turn-first : Within ms i (take n list) list 0 list marks n
   turn-first =
-      let none : listed_by (macros_in b) (take n list) (take 0 (decoded items)) ≡ take n list = rw (unrolled-none, entries_of-none (λ j. entries (macros_in b) j)) (extend-none (take n list)) in
+      let none : listed_by ms i (take n list) 0 ≡ take n list = rw (unrolled-none, entries_of-none (λ j. entries ms j)) (extend-none (take n list)) in
       record { walk = rw none x.walk; closed = rw none x.closed }
 
-  pub turn-few : (k : ℕ) → k < numbers.count → k < 64
-  turn-few k h = omega (arith, count-is, count-few b offsets i {r = items} refl)
+  module _ {k : ℕ} {now : List ℕ} {made : List Bool} {listed : ℕ} (v : Within ms i (take n list) list k now made listed) where
+    -- behind the last item
+    ended : take k items ≡ items → Walk (extend (take n list) (called_by ms i)) list now made listed
+    ended e = rw (← e) v.walk
 
-  module _ (k : ℕ) (now : List ℕ) (made : List Bool) (listed : ℕ) (v : Turn k now made listed) where
-    pub turn-long : length now ≡ length list
-    turn-long = walk-long v.walk
+    pub turn-end : {r : Option Repeated} → r ≡ slice_get (decoded (items_from b offsets i)) k → r ≡ None → Walk (extend (take n list) (called_by ms i)) list now made listed
+    turn-end e f = ended (items-end items k (item-is k e f))
 
-    pub turn_end : numbers.count ≤ k → Walk (extend (take n list) (called_by (macros_in b) i)) list now made listed
-    turn_end l = rw (← items-all b offsets i x.place.table x.place.inside {r = items} refl k (omega (arith, count-is))) v.walk
+    pub turn-full : 64 ≤ k → Walk (extend (take n list) (called_by ms i)) list now made listed
+    turn-full h = ended (take_all k items (omega (arith, well-short ms (well-in b x.place.inside) i)))
 
-    module _ (h : k < numbers.count) (item : Item) (told : item ≡ item_of (get_or numbers.codes k 0)) where
-      inside : k < items.count
-      inside = omega (arith, count-is)
+    module _ {r : Option Repeated} (e : r ≡ slice_get (decoded (items_from b offsets i)) k) {next : Repeated} (f : r ≡ Some next) where
+      among : Memᴰ (repeated next.item next.times) items
+      among = item-in items k (item-is k e f)
 
-      here : item ≡ item_of (get_or items.codes k 0)
-      here = told ∙ ap item_of (code_is k)
+      more : take (k + 1) items ≡ take k items ++ (repeated next.item next.times ∷ [])
+      more = item-more items k (item-is k e f)
 
-      -- the item is one of the macro's, as often as it stands there
-      among : Memᴰ (repeated item (get_or items.times k 0)) (get_or (macros_in b) i [])
-      among = item-among b offsets i x.place.table x.place.inside {r = items} refl k inside here
+      -- a key enters nothing
+      pub turn-key : {c : ℕ} → next.item ≡ Key c → Within ms i (take n list) list (k + 1) now made listed
+      turn-key {c} g =
+          let same : listed_by ms i (take n list) (k + 1) ≡ listed_by ms i (take n list) k = rw (more, g) (ap (extend (take n list)) (entries_of-key (λ j. entries ms j) (take k items) next.times c)) in
+          record { walk = rw same v.walk; closed = rw same v.closed }
 
-      next : take (k + 1) (decoded items) ≡ take k (decoded items) ++ (repeated item (get_or items.times k 0) ∷ [])
-      next = items_more b offsets i x.place.table x.place.inside {r = items} refl k inside here
-
-      pub turn-key : (c : ℕ) → item ≡ Key c → Turn (k + 1) now made listed
-      turn-key c g = within-key v c (get_or items.times k 0) (rw g at next)
-
-      module _ (j : ℕ) (g : item ≡ Call j) where
+      -- a call of a lower macro finds the walk as it must, and leaves it so
+      module _ {j : ℕ} (g : next.item ≡ Call j) where
         pub turn-lower : j < i
-        turn-lower = well-call (macros_in b) (well-in b x.place.inside) i (rw g at among)
+        turn-lower = well-call ms (well-in b x.place.inside) i (rw g at among)
 
         pub turn-enters : Entering b offsets j listed made now
         turn-enters =
             record {
               place = record { table = x.place.table; inside = omega (arith, turn-lower, x.place.inside) };
-              room = within-room v j (omega (arith, turn-lower, x.room));
-              walk = within-found v;
-              closed = within-closed v j turn-lower;
+              room = rw (walk-long v.walk) (omega (arith, turn-lower, x.room));
+              walk = walk-found v.walk;
+              closed = rw (walk-front v.walk) (λ p q h. v.closed p q (omega (arith, turn-lower)));
             }
 
-        pub turn-call : {after : List ℕ} {more : List Bool} {t : ℕ} → Walk (extend (take listed now) (entries (macros_in b) j)) now after more t → Turn (k + 1) after more t
-        turn-call w = within-call v (well-in b x.place.inside) j (get_or items.times k 0) (well-times (macros_in b) (well-in b x.place.inside) i among) (rw g at next) w
+        pub turn-call : {after : List ℕ} {most : List Bool} {t : ℕ} → Walk (extend (take listed now) (entries ms j)) now after most t → Within ms i (take n list) list (k + 1) after most t
+        turn-call w =
+            let well = well-in b x.place.inside in
+            let front = take n list in
+            let same : listed_by ms i front (k + 1) ≡ extend (listed_by ms i front k) (entries ms j) =
+            rw (more, g) (ap (extend front) (entries_of-call (λ j. entries ms j) (take k items) next.times j) ∙ extend-append front (entries_of (λ j. entries ms j) (unrolled (take k items))) (times next.times (entries ms j)) ∙ extend-times (listed_by ms i front k) (entries ms j) next.times (well-times ms well i among)) in
+            record {
+              walk = rw same (walk-made v.walk (extend-longer (listed_by ms i front k) (entries ms j)) (rw (walk-front v.walk) at w));
+              closed = rw same (closed-more ms well i (listed_by ms i front k) j v.closed);
+            }
 
 -- The whole walk.
 

@@ -1,12 +1,12 @@
 -- What `reach_list` answers.
-use Rattle.std.specs.Prelude.{ℕ, ◌+◌, ◌≡◌, cond, List, ltb, length}
+use Rattle.std.specs.Prelude.{ℕ, ◌+◌, ◌≡◌, cond, List, Result, Ok, Err, ltb, length}
+use Rattle.refusal.specs.declared.Refusal.{Refusal}
 use Rattle.refusal.specs.declared.Refusal.TheVariants.{InsufficientSpace}
 use Rattle.refusal.specs.Figures.{Figures, answered, refused_for}
 use Rattle.runs.specs.Kept.{over}
 use Rattle.book.specs.Format.{Macro}
 use Rattle.book.specs.Reading.{Reading, Reader, got, refused, ◌>>=◌}
 use Rattle.book.specs.Answer.{require_macro}
-use Rattle.reach.specs.declared.listing.Reached.{Reached}
 use Rattle.reach.specs.Entries.{reach_list}
 
 -- 11 after 10: "fewer .. entries than stated", which is m + 1
@@ -29,6 +29,6 @@ list_after (refused r) m list = list
 abbrev pub ReachAnswer : Reading (List Macro) → ℕ → Figures ℕ → List ℕ → List ℕ → Type 0
 ReachAnswer g m f before after = (f ≡ reach_result g m) × (after ≡ list_after g m before)
 
-abbrev pub reached_figures : Reached → Figures ℕ
-reached_figures (Reached.Written n) = answered n
-reached_figures (Reached.Refused r) = refused_for r
+abbrev pub reached_figures : Result ℕ Refusal → Figures ℕ
+reached_figures (Ok n) = answered n
+reached_figures (Err r) = refused_for r

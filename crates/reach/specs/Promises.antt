@@ -3,22 +3,16 @@ use Rattle.std.specs.Prelude.{ℕ, ◌+◌, ◌<◌, ◌≤◌, ◌≡◌, Bool,
 use Rattle.runs.specs.Keys.{member}
 use Rattle.runs.specs.Kept.{over}
 use Rattle.book.specs.Format.{Macro}
-use Rattle.book.specs.Answer.{layout}
+use Rattle.book.specs.Answer.{offsets_in}
 use Rattle.book.specs.Expansion.{unrolled}
-use Rattle.book.specs.MacroItems.{items_from}
 use Rattle.book.specs.Reach.{Reaches}
 use Rattle.book.specs.Reading.{macros_in}
-use Rattle.reach.specs.declared.listing.Codes.{Codes}
 use Rattle.reach.specs.Entries.{entries_of, entries}
 
--- the offsets of a book's layout, and a macro of the book
+-- the places of a book's macros, and a macro of the book
 pub record MacroOf (b offsets : List ℕ) (m : ℕ) : Type 0 where
-  pub table : offsets ≡ (layout b).offsets
+  pub table : offsets ≡ offsets_in b
   pub inside : m < length (macros_in b)
-
--- the numbers of macro i's items, where `offsets` says where the macros start
-abbrev pub codes_from : List ℕ → List ℕ → ℕ → Codes
-codes_from b offsets i = record { codes = (items_from b offsets i).codes; count = (items_from b offsets i).count }
 
 -- some numbers, and behind them those of others that are new
 unfoldable pub extend : List ℕ → List ℕ → List ℕ

@@ -3,4 +3,4 @@
 
 mod listing;
 
-pub use listing::{Reached, reach_list};
+pub use listing::reach_list;

@@ -16,6 +16,6 @@ three x y z trimmed = record { s = 3; rows = x ∷ y ∷ z ∷ replicate 29 0; f
 
 -- The first has that word set, though its run would not end in CR. The second leads from line-start to found, and the third from found to
 -- line-start: together they look like the empty run, and neither does alone.
-pub words-differ : ((join_result (join_result (three 0 0 0 1) (three 4 0 0 0)).report (three 0 0 1 0)).report.trimmed ≡ 0) × ((join_result (three 0 0 0 1) (join_result (three 4 0 0 0) (three 0 0 1 0)).report).report.trimmed ≡ 1)
+pub words-differ : ((join_result (join_result (three 0 0 0 1) (three 4 0 0 0)).value (three 0 0 1 0)).value.trimmed ≡ 0) × ((join_result (three 0 0 0 1) (join_result (three 4 0 0 0) (three 0 0 1 0)).value).value.trimmed ≡ 1)
 unfolding bit word any_below tabled joined_edges joined_spans report_of joined_counts in_report joined_reports
 words-differ = (refl, refl)

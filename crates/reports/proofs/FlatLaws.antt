@@ -20,7 +20,7 @@ use Rattle.spans.proofs.RowLaws.{states-all}
 use Rattle.spans.proofs.SpanLaws.{span-by, closed-by, joined_by}
 use Rattle.reports.specs.declared.report.Report.{Report}
 use Rattle.reports.specs.declared.span_count.SpanCount.{SpanCount}
-use Rattle.reports.specs.declared.total.Total.{Total}
+use Rattle.std.specs.Prelude.{Option, Some, None}
 use Rattle.reports.specs.Totals.{most, total_of, both_totals}
 use Rattle.reports.specs.Reports.{flag_of, shown_of, edges_word, span_in, span_count, report_of, report, with_line, joined_counts, closed_in, in_report, joined_reports}
 use Rattle.reports.proofs.TotalLaws.{few-lines, many-lines, total-sum}
@@ -45,7 +45,7 @@ with_end s H n T d =
     }
 
 -- a span without a line end
-pub open-flat : (s : ℕ) (X : ℕ → ℕ → Bool) (d : Edges) (n : Total) → report_of (record { span = open_span s X d; closed = n }) ≡ without_end s X d
+pub open-flat : (s : ℕ) (X : ℕ → ℕ → Bool) (d : Edges) (n : Option ℕ) → report_of (record { span = open_span s X d; closed = n }) ≡ without_end s X d
 unfolding report_of
 open-flat s X d n = refl
 
@@ -57,7 +57,7 @@ ended_flat s H T d n = go (leb n most)
     fields : ℕ → ℕ → Report
     fields flag closed = record { s = s; rows = no_rows; flag = flag; heads = word s H; closed = closed; tail = word s T; trimmed = d.trimmed; edges = edges_word d }
 
-    go : (b : Bool) → fields (flag_of true (cond b (Total.Lines n) Total.TooMany)) (shown_of true (cond b (Total.Lines n) Total.TooMany)) ≡ fields (cond b 1 2) (cond b n 0)
+    go : (b : Bool) → fields (flag_of true (cond b (Some n) None)) (shown_of true (cond b (Some n) None)) ≡ fields (cond b 1 2) (cond b n 0)
     go true = refl
     go false = refl
 
@@ -96,7 +96,7 @@ module _ (a : Report) (small : a.closed ≤ most) where
   number true e = rw e refl
   number false e = rw e (go (leb 2 a.flag))
     where
-      go : (b : Bool) → cond b Total.TooMany (Total.Lines a.closed) ≡ total_of (cond b (suc most) a.closed)
+      go : (b : Bool) → cond b None (Some a.closed) ≡ total_of (cond b (suc most) a.closed)
       go true = sym (many-lines (suc most) (omega arith))
       go false = sym (few-lines a.closed small)
 

@@ -27,7 +27,7 @@ use Rattle.spans.specs.Spans.{no_rows, open_span, edges}
 use Rattle.spans.specs.Joining.{no_edges}
 use Rattle.spans.proofs.RowLaws.{states-all, row_of, rows_long_lem, row-above}
 use Rattle.spans.proofs.EdgeLaws.{span-edges, edges-begin, edges-finish, edges-below, edges-plain}
-use Rattle.reports.specs.declared.report.Joined.{Joined}
+use Rattle.refusal.specs.Figures.{Figures, answered}
 use Rattle.reports.specs.declared.report.Report.{Report}
 use Rattle.reports.specs.Totals.{most, total_of}
 use Rattle.reports.specs.Reports.{span_count, edges_word, report_of, report, empty_count, joined_reports, alike}
@@ -36,10 +36,6 @@ use Rattle.reports.specs.Proper.{Canonical, Proper, empty_report}
 use Rattle.reports.proofs.ReportLaws.{empty-count, report-is, report-size, join-reports}
 use Rattle.reports.proofs.FlatLaws.{without_end, with_end, open-flat, ended_flat, run_fields, report-fields}
 use Rattle.reports.proofs.EffectLaws.{Effect, within, across, shown, and_then, then-assoc, then-left, then-right, shown-join, proper-shown}
-
--- the answer with a report
-abbrev joined_to : Report → Joined
-joined_to r = record { refused = 0; report = r }
 
 -- Reports by their fields keep the rules.
 module _ (s : ℕ) (low : 3 ≤ s) (high : s ≤ 32) (d : Edges) where
@@ -114,7 +110,7 @@ alike-by s a b low high e f =
     and_both (eqb a.s b.s) (leb 3 a.s && leb a.s 32) (eq-eqb a.s b.s (e ∙ sym f))
     (and_both (leb 3 a.s) (leb a.s 32) (le-leb 3 a.s (omega arith)) (le-leb a.s 32 (omega arith)))
 
-joined_by : (s : ℕ) (a b : Report) → 3 ≤ s → s ≤ 32 → a.s ≡ s → b.s ≡ s → join_result a b ≡ record { refused = 0; report = joined_reports a b }
+joined_by : (s : ℕ) (a b : Report) → 3 ≤ s → s ≤ 32 → a.s ≡ s → b.s ≡ s → join_result a b ≡ answered (joined_reports a b)
 joined_by s a b low high e f = rw (alike-by s a b low high e f) refl
 
 -- "The report of the empty run, each state reaching itself and S-4's words 0" is proper,
@@ -127,32 +123,32 @@ empty-made s high =
     ap (λ (k : ℕ). report_of (record { span = open_span k (λ q p. eqb q p) no_edges; closed = total_of 0 })) (states-all s high) ∙ open-flat s (λ q p. eqb q p) no_edges (total_of 0)
 
 -- Two proper reports of one s are joined,
-pub proper-joined : {s : ℕ} {a b : Report} → Proper s a → Proper s b → join_result a b ≡ record { refused = 0; report = joined_reports a b }
+pub proper-joined : {s : ℕ} {a b : Report} → Proper s a → Proper s b → join_result a b ≡ answered (joined_reports a b)
 proper-joined {s} {a} {b} p q = joined_by s a b p.canonical.least p.canonical.largest p.canonical.size q.canonical.size
 
 -- with the one effect and then the other,
 joined-shown : (s : ℕ) → s ≤ 32 → {a b : Report} (x y : Effect) → a ≡ shown s x → b ≡ shown s y → joined_reports a b ≡ shown s (and_then s x y)
 joined-shown s high x y e f = rw (e, f) (shown-join s high x y)
 
-result-shown : {s : ℕ} {a b : Report} → Proper s a → Proper s b → (x y : Effect) → a ≡ shown s x → b ≡ shown s y → (join_result a b).report ≡ shown s (and_then s x y)
-result-shown {s} p q x y e f = ap (λ (j : Joined). j.report) (proper-joined p q) ∙ joined-shown s p.canonical.largest x y e f
+result-shown : {s : ℕ} {a b : Report} → Proper s a → Proper s b → (x y : Effect) → a ≡ shown s x → b ≡ shown s y → (join_result a b).value ≡ shown s (and_then s x y)
+result-shown {s} p q x y e f = ap (λ (j : Figures Report). j.value) (proper-joined p q) ∙ joined-shown s p.canonical.largest x y e f
 
 -- and the report that this gives is proper.
-pub join-proper : {s : ℕ} {a b : Report} → Proper s a → Proper s b → Proper s (join_result a b).report
+pub join-proper : {s : ℕ} {a b : Report} → Proper s a → Proper s b → Proper s (join_result a b).value
 join-proper {s} {a} {b} p q =
     let x = proper-shown s a p in
     let y = proper-shown s b q in
     rw (result-shown p q x.0 y.0 x.1 y.1) (shown-proper s p.canonical.least p.canonical.largest (and_then s x.0 y.0))
 
 -- "joining the first two and then the third gives the same report as joining the last two first"
-pub join-assoc : {s : ℕ} {a b c : Report} → Proper s a → Proper s b → Proper s c → join_result (join_result a b).report c ≡ join_result a (join_result b c).report
+pub join-assoc : {s : ℕ} {a b c : Report} → Proper s a → Proper s b → Proper s c → join_result (join_result a b).value c ≡ join_result a (join_result b c).value
 join-assoc {s} {a} {b} {c} p q r =
     let x = proper-shown s a p in
     let y = proper-shown s b q in
     let z = proper-shown s c r in
     let small = p.canonical.largest in
     proper-joined (join-proper p q) r
-    ∙ ap joined_to
+    ∙ ap answered
     (joined-shown s small (and_then s x.0 y.0) z.0 (result-shown p q x.0 y.0 x.1 y.1) z.1
     ∙ then-assoc s x.0 y.0 z.0
     ∙ sym (joined-shown s small x.0 (and_then s y.0 z.0) x.1 (result-shown q r y.0 z.0 y.1 z.1)))
@@ -169,15 +165,15 @@ module _ {s : ℕ} {a : Report} (p : Proper s a) where
   empty-is : Proper s (empty_report s)
   empty-is = empty-proper s p.canonical.least p.canonical.largest
 
-  pub join-empty-left : join_result (empty_report s) a ≡ record { refused = 0; report = a }
+  pub join-empty-left : join_result (empty_report s) a ≡ answered a
   join-empty-left =
       let x = proper-shown s a p in
-      proper-joined empty-is p ∙ ap joined_to (joined-shown s p.canonical.largest identity x.0 (empty-shown s) x.1 ∙ then-left s x.0 ∙ sym x.1)
+      proper-joined empty-is p ∙ ap answered (joined-shown s p.canonical.largest identity x.0 (empty-shown s) x.1 ∙ then-left s x.0 ∙ sym x.1)
 
-  pub join-empty-right : join_result a (empty_report s) ≡ record { refused = 0; report = a }
+  pub join-empty-right : join_result a (empty_report s) ≡ answered a
   join-empty-right =
       let x = proper-shown s a p in
-      proper-joined p empty-is ∙ ap joined_to (joined-shown s p.canonical.largest x.0 identity x.1 (empty-shown s) ∙ then-right s x.0 ∙ sym x.1)
+      proper-joined p empty-is ∙ ap answered (joined-shown s p.canonical.largest x.0 identity x.1 (empty-shown s) ∙ then-right s x.0 ∙ sym x.1)
 
 -- Reports of runs.
 module _ (t : Query) (w : List ℕ) where
@@ -246,17 +242,17 @@ module _ (c : Case) (p : List ℕ) (t : Pattern) (e : read_pattern p ≡ accepte
   empty-report = sym (report-is under []) ∙ ap report_of (sym (empty-count under (accepted-few p t e))) ∙ empty-made (states under) few
 
   -- "With those words set, all this is said of any three reports that come from runs under one pattern."
-  pub runs-joined : (u v : List ℕ) → is_run u ≡ true → is_run v ≡ true → join_result (report under u) (report under v) ≡ record { refused = 0; report = report under (u ++ v) }
+  pub runs-joined : (u v : List ℕ) → is_run u ≡ true → is_run v ≡ true → join_result (report under u) (report under v) ≡ answered (report under (u ++ v))
   runs-joined u v g h =
       joined_by (states under) (report under u) (report under v) (omega arith) few (report-size under u) (report-size under v)
-      ∙ ap joined_to (join-reports under (accepted-few p t e) u v g h)
+      ∙ ap answered (join-reports under (accepted-few p t e) u v g h)
 
-  pub runs-assoc : (u v w : List ℕ) → is_run u ≡ true → is_run v ≡ true → is_run w ≡ true → join_result (join_result (report under u) (report under v)).report (report under w) ≡ join_result (report under u) (join_result (report under v) (report under w)).report
+  pub runs-assoc : (u v w : List ℕ) → is_run u ≡ true → is_run v ≡ true → is_run w ≡ true → join_result (join_result (report under u) (report under v)).value (report under w) ≡ join_result (report under u) (join_result (report under v) (report under w)).value
   runs-assoc u v w f g h =
       rw (runs-joined u v f g, runs-joined v w g h, runs-joined (u ++ v) w (run-append u v f g) h, runs-joined u (v ++ w) f (run-append v w g h), append_assoc u v w) refl
 
-  pub runs-empty-left : (w : List ℕ) → is_run w ≡ true → join_result (empty_report (states under)) (report under w) ≡ record { refused = 0; report = report under w }
+  pub runs-empty-left : (w : List ℕ) → is_run w ≡ true → join_result (empty_report (states under)) (report under w) ≡ answered (report under w)
   runs-empty-left w h = ap (λ (r : Report). join_result r (report under w)) (sym empty-report) ∙ runs-joined [] w refl h
 
-  pub runs-empty-right : (w : List ℕ) → is_run w ≡ true → join_result (report under w) (empty_report (states under)) ≡ record { refused = 0; report = report under w }
-  runs-empty-right w h = ap (join_result (report under w)) (sym empty-report) ∙ runs-joined w [] h refl ∙ ap (λ (v : List ℕ). joined_to (report under v)) (append-nil w)
+  pub runs-empty-right : (w : List ℕ) → is_run w ≡ true → join_result (report under w) (empty_report (states under)) ≡ answered (report under w)
+  runs-empty-right w h = ap (join_result (report under w)) (sym empty-report) ∙ runs-joined w [] h refl ∙ ap (λ (v : List ℕ). answered (report under v)) (append-nil w)

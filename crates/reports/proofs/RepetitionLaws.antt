@@ -23,13 +23,6 @@ use Rattle.reports.specs.Reports.{span_count, empty_count, joined_counts}
 use Rattle.reports.specs.Repetition.{doubled, by_digits, repeated_count}
 use Rattle.reports.proofs.ReportLaws.{empty-count, empty-small, count-size, join-counts, joined_small}
 
--- the two ways out of `joined_if`
-pub joined-both : (both : Bool) (a b : SpanCount) {r : SpanCount} → both ≡ true → r ≡ joined_counts a b → r ≡ cond both (joined_counts a b) a
-joined-both both a b h e = rw h e
-
-pub joined-first : (both : Bool) (a b : SpanCount) → both ≡ false → a ≡ cond both (joined_counts a b) a
-joined-first both a b h = rw h refl
-
 -- one digit more
 digits_more : (n k : ℕ) (a : SpanCount) → by_digits n (k + 1) a ≡ cond (bit n k) (joined_counts (by_digits n k a) (doubled k a)) (by_digits n k a)
 unfolding by_digits

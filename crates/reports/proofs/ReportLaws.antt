@@ -27,7 +27,7 @@ use Rattle.spans.proofs.EndLaws.{matching-ends, ends-few}
 use Rattle.spans.proofs.PairLaws.{pairs_of}
 use Rattle.spans.proofs.SpanLaws.{span-size, empty-span, closed-empty, closed_none, joined-few, extended-few}
 use Rattle.reports.specs.declared.span_count.SpanCount.{SpanCount}
-use Rattle.reports.specs.declared.total.Total.{Total}
+use Rattle.std.specs.Prelude.{Option, Some, None}
 use Rattle.reports.specs.Totals.{total_of, both_totals}
 use Rattle.reports.specs.Reports.{span_count, flag_of, shown_of, edges_word, edges_in, flat, report_of, report, with_line, empty_count, extended_count, joined_counts, total_in, closed_in, in_report, joined_reports}
 use Rattle.reports.proofs.TotalLaws.{few-lines, total-sum, line-told}
@@ -40,7 +40,7 @@ empty-count t few = rw (empty-span t few, closed-empty t) refl
 -- n closed lines and perhaps one more
 pub with-line : (x : Span) (b : Bool) (n m : ℕ) → m ≡ n + cond b 1 0 → with_line (record { span = x; closes = b }) (total_of n) ≡ record { span = x; closed = total_of m }
 with-line x b n m e =
-    ap (λ (c : Total). record { span = x; closed = c }) (ap (both_totals (total_of n)) (line-told b) ∙ total-sum n (cond b 1 0) ∙ ap total_of (sym e))
+    ap (λ (c : Option ℕ). record { span = x; closed = c }) (ap (both_totals (total_of n)) (line-told b) ∙ total-sum n (cond b 1 0) ∙ ap total_of (sym e))
 
 -- What is kept of u and of v, joined, is what is kept of u followed by v.
 pub join-counts : (t : Query) → atom_count t.tree ≤ 29 → (u v : List ℕ) → is_run u ≡ true → is_run v ≡ true → joined_counts (span_count t u) (span_count t v) ≡ span_count t (u ++ v)
@@ -121,21 +121,21 @@ edges-back : (e : Edges) → edges_in e.trimmed (edges_word e) ≡ e
 edges-back e = rw (low_bit e.leading e.trailing, high_bit e.leading e.trailing) refl
 
 -- Flat and back, where there is no closed line without a line end.
-pub in-flat : (a : SpanCount) → (a.span.ended ≡ false → a.closed ≡ Total.Lines 0) → in_report (report_of a) ≡ a
+pub in-flat : (a : SpanCount) → (a.span.ended ≡ false → a.closed ≡ Some 0) → in_report (report_of a) ≡ a
 unfolding in_report report_of
 in-flat a none = both (ended a.span.ended a.closed) (edges-back a.span.edges) (closed a.span.ended a.closed none)
   where
-    ended : (b : Bool) (n : Total) → not (eqb (flag_of b n) 0) ≡ b
+    ended : (b : Bool) (n : Option ℕ) → not (eqb (flag_of b n) 0) ≡ b
     ended false n = refl
-    ended true (Total.Lines k) = refl
-    ended true Total.TooMany = refl
+    ended true (Some k) = refl
+    ended true None = refl
 
-    closed : (b : Bool) (n : Total) → (b ≡ false → n ≡ Total.Lines 0) → closed_in (flat (flag_of b n) (shown_of b n) a) ≡ n
+    closed : (b : Bool) (n : Option ℕ) → (b ≡ false → n ≡ Some 0) → closed_in (flat (flag_of b n) (shown_of b n) a) ≡ n
     closed false n e = sym (e refl)
-    closed true (Total.Lines k) e = refl
-    closed true Total.TooMany e = refl
+    closed true (Some k) e = refl
+    closed true None e = refl
 
-    both : {b : Bool} {d : Edges} {n : Total} → b ≡ a.span.ended → d ≡ a.span.edges → n ≡ a.closed
+    both : {b : Bool} {d : Edges} {n : Option ℕ} → b ≡ a.span.ended → d ≡ a.span.edges → n ≡ a.closed
         → record { span = record { s = a.span.s; rows = a.span.rows; ended = b; heads = a.span.heads; tail = a.span.tail; edges = d }; closed = n } ≡ a
     both e g f = rw (e, g, f) refl
 

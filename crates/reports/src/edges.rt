@@ -3,13 +3,12 @@ ghost use Rattle.std.specs.Prelude.{◌≡◌};
 ghost use Rattle.reports.specs.Reports.{edges_in, edges_word};
 
 use spans::Edges;
-use stateset::chosen;
 
 // The second word: 1 if the run begins with a line end, plus 2 if it ends in CR.
 pub(crate) fn edges_word(e: Edges) -> u64
     ensures { result ≡ edges_word e }
 {
-    chosen(e.leading, 1) + chosen(e.trailing, 2)
+    u64::from(e.leading) + 2 * u64::from(e.trailing)
 }
 
 // The edges that the two words tell; bits of the second of value 4 and above are ignored.
@@ -17,7 +16,7 @@ pub(crate) fn edges_in(trimmed: u64, word: u64) -> Edges
     ensures { result ≡ edges_in trimmed word }
 {
     Edges {
-        trimmed: trimmed,
+        trimmed,
         leading: word % 2 == 1,
         trailing: word / 2 % 2 == 1,
     }

@@ -10,7 +10,7 @@ mod total;
 mod words;
 
 pub use repetition::repeated;
-pub use report::{BEHIND_ROWS, Joined, Report, in_report, join, report_of};
+pub use report::{BEHIND_ROWS, Report, in_report, join, report_of};
 pub use span_count::{SpanCount, empty_count, extended, joined, total_in};
-pub use total::{Total, sum};
+pub use total::sum;
 pub use words::{load, store};

@@ -9,10 +9,7 @@ use crate::span_count::{SpanCount, empty_count, joined};
 fn joined_if(both: bool, a: SpanCount, b: SpanCount) -> SpanCount
     ensures { result ≡ cond both (joined_counts a b) a }
 {
-    if both {
-        return joined(a, b);
-    }
-    a
+    if both { joined(a, b) } else { a }
 }
 
 // A run n times.

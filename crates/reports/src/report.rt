@@ -1,12 +1,11 @@
 // Reports of runs: a span and the number of its closed lines, flat (document 01, "Reports", with document 02, S-4); and joining.
 ghost use Rattle.std.specs.Prelude.{◌≡◌, ◌&&◌, eqb, leb};
-ghost use Rattle.reports.specs.Reports.{closed_in, in_report, no_report, report_of};
-ghost use Rattle.reports.specs.Answers.{join_result};
+ghost use Rattle.reports.specs.Reports.{closed_in, in_report, report_of};
+ghost use Rattle.reports.specs.Answers.{join_result, joined_figures};
 
 use crate::edges::{edges_in, edges_word};
 use crate::span_count::{SpanCount, joined};
-use crate::total::Total;
-use refusal::{Refusal, code};
+use refusal::Refusal;
 use spans::Span;
 
 // The work words of a report behind its rows: flag, heads, closed, tail, trimmed, edges.
@@ -34,61 +33,48 @@ pub struct Report {
     pub edges: u64,
 }
 
-// What joining two reports answers: the refusal's number, 0 if there is none, and the report, zeros if it is refused.
-#[derive(Clone, Copy)]
-pub struct Joined {
-    pub refused: u8,
-    pub report: Report,
-}
-
-// The report of zeros.
-pub(crate) fn no_report() -> Report
-    ensures { result ≡ no_report }
-{
-    let rows = [0; 32];
-    Report {
+impl Report {
+    // The report of zeros.
+    pub(crate) const ZEROS: Report = Report {
         s: 0,
-        rows: rows,
+        rows: [0; 32],
         flag: 0,
         heads: 0,
         closed: 0,
         tail: 0,
         trimmed: 0,
         edges: 0,
-    }
+    };
 }
 
 // The closed lines in a report; a flag over 2 is read as 2.
-fn closed_in(a: Report) -> Total
+fn closed_in(a: Report) -> Option<u64>
     ensures { result ≡ closed_in a }
 {
-    if a.flag == 0 {
-        return Total::Lines(0);
+    match a.flag {
+        0 => Some(0),
+        1 => Some(a.closed),
+        _ => None,
     }
-    if 2 <= a.flag {
-        return Total::TooMany;
-    }
-    Total::Lines(a.closed)
 }
 
 // The span and the closed lines in a report.
 pub fn in_report(a: Report) -> SpanCount
     ensures { result ≡ in_report a }
 {
+    // A literal takes an array from a variable.
     let rows = a.rows;
-    let edges = edges_in(a.trimmed, a.edges);
     let span = Span {
         s: a.s,
-        rows: rows,
+        rows,
         ended: a.flag != 0,
         heads: a.heads,
         tail: a.tail,
-        edges: edges,
+        edges: edges_in(a.trimmed, a.edges),
     };
-    let closed = closed_in(a);
     SpanCount {
-        span: span,
-        closed: closed,
+        span,
+        closed: closed_in(a),
     }
 }
 
@@ -98,31 +84,20 @@ pub fn report_of(a: SpanCount) -> Report
 {
     let span = a.span;
     let rows = span.rows;
-    let edges = span.edges;
-    let word = edges_word(edges);
-    let closed = a.closed;
-    let mut flag = 0;
-    let mut lines = 0;
-    if span.ended {
-        match closed {
-            Total::Lines(n) => {
-                flag = 1;
-                lines = n;
-            }
-            Total::TooMany => {
-                flag = 2;
-            }
-        }
-    }
+    let (flag, closed) = match (span.ended, a.closed) {
+        (false, _) => (0, 0),
+        (true, Some(n)) => (1, n),
+        (true, None) => (2, 0),
+    };
     Report {
         s: span.s,
-        rows: rows,
-        flag: flag,
+        rows,
+        flag,
         heads: span.heads,
-        closed: lines,
+        closed,
         tail: span.tail,
-        trimmed: edges.trimmed,
-        edges: word,
+        trimmed: span.edges.trimmed,
+        edges: edges_word(span.edges),
     }
 }
 
@@ -130,23 +105,15 @@ pub fn report_of(a: SpanCount) -> Report
 fn sizes_alike(s: u64, t: u64) -> bool
     ensures { result ≡ (eqb s t && (leb 3 s && leb s 32)) }
 {
-    (s == t) & ((3 <= s) & (s <= 32))
+    s == t && (3..=32).contains(&s)
 }
 
 // Joins the reports of two runs into that of the one run after the other. Refused with 13 for reports that are not of one pattern's size.
-pub fn join(a: Report, b: Report) -> Joined
-    ensures { result ≡ join_result a b }
+pub fn join(a: Report, b: Report) -> Result<Report, Refusal>
+    ensures { joined_figures result ≡ join_result a b }
 {
     if !sizes_alike(a.s, b.s) {
-        let zeros = no_report();
-        return Joined {
-            refused: code(Refusal::ReportMismatch),
-            report: zeros,
-        };
+        return Err(Refusal::ReportMismatch);
     }
-    let report = report_of(joined(in_report(a), in_report(b)));
-    Joined {
-        refused: 0,
-        report: report,
-    }
+    Ok(report_of(joined(in_report(a), in_report(b))))
 }

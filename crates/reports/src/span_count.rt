@@ -2,72 +2,57 @@
 ghost use Rattle.std.specs.Prelude.{◌≡◌};
 ghost use Rattle.reports.specs.Reports.{empty_count, extended_count, joined_counts, total_in, with_line};
 
-use crate::total::{Total, sum};
-use pattern::Accepting;
+use crate::total::sum;
+use pattern::{Accepting, Tables};
 use spans::{JoinedSpan, Span, empty_span, end_lines, extended_span, join_spans};
-use stateset::chosen;
 
 // A run's span, and how many closed lines it has.
 #[derive(Clone, Copy)]
 pub struct SpanCount {
     pub span: Span,
-    // How many lines match between the first line end and the last.
-    pub closed: Total,
+    // How many lines match between the first line end and the last; none where there are more than 64 bits count.
+    pub closed: Option<u64>,
 }
 
 // The empty run of a pattern with s states.
 pub fn empty_count(s: u64) -> SpanCount
     ensures { result ≡ empty_count s }
 {
-    let span = empty_span(s);
     SpanCount {
-        span: span,
-        closed: Total::Lines(0),
+        span: empty_span(s),
+        closed: Some(0),
     }
 }
 
 // A span after so many closed lines, and the line that it closes.
-fn with_line(j: JoinedSpan, closed: Total) -> SpanCount
+fn with_line(j: JoinedSpan, closed: Option<u64>) -> SpanCount
     ensures { result ≡ with_line j closed }
 {
-    let span = j.span;
-    let line = Total::Lines(chosen(j.closes, 1));
-    let lines = sum(closed, line);
+    let line = u64::from(j.closes);
     SpanCount {
-        span: span,
-        closed: lines,
+        span: j.span,
+        closed: sum(closed, Some(line)),
     }
 }
 
 // A run with one key more.
-pub fn extended(
-    a: SpanCount,
-    key: u8,
-    keys: &[u64; 256],
-    enter: &[u64; 32],
-    p: Accepting,
-) -> SpanCount
-    ensures { result ≡ extended_count keys.now enter.now p a key }
+pub fn extended(a: SpanCount, key: u8, tables: &Tables) -> SpanCount
+    ensures { result ≡ extended_count tables.now.keys tables.now.enter tables.now.accepting a key }
 {
-    let closed = a.closed;
-    with_line(extended_span(a.span, key, keys, enter, p), closed)
+    with_line(extended_span(a.span, key, tables), a.closed)
 }
 
 // One run after the other: the line between is closed, too.
 pub fn joined(a: SpanCount, b: SpanCount) -> SpanCount
     ensures { result ≡ joined_counts a b }
 {
-    let left = a.closed;
-    let right = b.closed;
-    let both = sum(left, right);
-    with_line(join_spans(a.span, b.span), both)
+    with_line(join_spans(a.span, b.span), sum(a.closed, b.closed))
 }
 
 // How many lines of the run match.
-pub fn total_in(a: SpanCount, p: Accepting) -> Total
+pub fn total_in(a: SpanCount, p: Accepting) -> Option<u64>
     ensures { result ≡ total_in p a }
 {
-    let closed = a.closed;
-    let ends = Total::Lines(end_lines(a.span, p));
-    sum(closed, ends)
+    let ends = end_lines(a.span, p);
+    sum(a.closed, Some(ends))
 }

@@ -1,18 +1,14 @@
 // The work words of reports (document 01, "Reports", with document 02, S-4): rows, flag, heads, closed, tail, trimmed, edges.
 ghost use Rattle.std.specs.Prelude.{◌+◌, ◌-◌, ◌≤◌, ◌≡◌, ◌++◌, length, take, drop, replicate};
-ghost use Rattle.std.proofs.Math.Seq.{paste};
 ghost use Rattle.reports.specs.Words.{behind_rows, loaded, loaded_at, report_words, room_for, stored_at};
 
-use crate::report::{BEHIND_ROWS, Report, no_report};
+use crate::report::{BEHIND_ROWS, Report};
 
 // Whether n words hold those of a report of s states from `at` on.
 fn room_for(n: usize, at: usize, s: u64) -> bool
     ensures { result ≡ room_for n at s }
 {
-    if (s > 32) | (at > n) {
-        return false;
-    }
-    s as usize + BEHIND_ROWS <= n - at
+    s <= 32 && at <= n && s as usize + BEHIND_ROWS <= n - at
 }
 
 // The rows whose words start at `at`, and zeros for the states that there are not.
@@ -20,12 +16,8 @@ fn load_rows(work: &[u64], at: usize, s: usize) -> [u64; 32]
     requires { (s ≤ 32) × (at + s ≤ length work.now) }
     ensures { result ≡ take s (drop at work.now) ++ replicate (32 - s) 0 }
 {
-    let mut rows: [u64; 32] = [0; 32];
-    let mut q = 0;
-    while q < s {
-        rows[q] = work[at + q];
-        q += 1;
-    }
+    let mut rows = [0; 32];
+    rows[..s].copy_from_slice(&work[at..at + s]);
     rows
 }
 
@@ -34,11 +26,10 @@ fn load_words(work: &[u64], at: usize, s: usize) -> Report
     requires { (s ≤ 32) × (at + (s + behind_rows) ≤ length work.now) }
     ensures { result ≡ loaded s (drop at work.now) }
 {
-    let rows = load_rows(work, at, s);
     let end = at + s;
     Report {
         s: s as u64,
-        rows: rows,
+        rows: load_rows(work, at, s),
         flag: work[end],
         heads: work[end + 1],
         closed: work[end + 2],
@@ -55,20 +46,7 @@ pub fn load(work: &[u64], at: usize, s: u64) -> Report
     if room_for(work.len(), at, s) {
         return load_words(work, at, s as usize);
     }
-    no_report()
-}
-
-// Writes the first s rows from `at` on.
-fn store_rows(work: &mut [u64], at: usize, rows: &[u64; 32], s: usize)
-    requires { (s ≤ 32) × (at + s ≤ length work.old) }
-    ensures { work.new ≡ paste work.old at rows.now s }
-{
-    let all: &[u64] = rows;
-    let mut q = 0;
-    while q < s {
-        work[at + q] = all[q];
-        q += 1;
-    }
+    Report::ZEROS
 }
 
 // Writes a report's words from `at` on.
@@ -76,16 +54,11 @@ fn store_words(work: &mut [u64], at: usize, r: Report)
     requires { (r.s ≤ 32) × (at + (r.s + behind_rows) ≤ length work.old) }
     ensures { work.new ≡ take at work.old ++ (report_words r ++ drop (at + (r.s + behind_rows)) work.old) }
 {
-    let rows = r.rows;
     let s = r.s as usize;
-    store_rows(work, at, &rows, s);
     let end = at + s;
-    work[end] = r.flag;
-    work[end + 1] = r.heads;
-    work[end + 2] = r.closed;
-    work[end + 3] = r.tail;
-    work[end + 4] = r.trimmed;
-    work[end + 5] = r.edges;
+    let behind = [r.flag, r.heads, r.closed, r.tail, r.trimmed, r.edges];
+    work[at..end].copy_from_slice(&r.rows[..s]);
+    work[end..end + BEHIND_ROWS].copy_from_slice(&behind);
 }
 
 // The same where there is room for all of them; else nothing is written.

@@ -5,5 +5,5 @@ use Rattle.pattern.proofs.atom.atom_set.Goals as goal
 pub returns-then-k-lt29 : goal.returns-then-k-lt29
 returns-then-k-lt29 c = search (atom-state)
 
-pub returns : goal.returns
-returns c = search (atom-high)
+pub returns-else-k-lt29 : goal.returns-else-k-lt29
+returns-else-k-lt29 c = search (atom-high)

@@ -1,8 +1,9 @@
 -- `enter` and `enter_items`, which call each other.
 use native.Mathlib.Omega.{arith}
+use Prim.Native.Nat.{◌<◌}
 use Rattle.reach.proofs.Walks as laws
 use Rattle.reach.proofs.listing.+enter_enter_items.Goals as goal
-use Rattle.reach.proofs.listing.+enter_enter_items.Goals.{enter_items-in-Call, enter_items-in_default}
+use Rattle.reach.proofs.listing.+enter_enter_items.Goals.{enter_items-in-Call, enter_items-in_default-item}
 
 pub enter-bounds-marks-i : goal.enter-bounds-marks-i
 enter-bounds-marks-i t c = search laws.enter-macro
@@ -13,8 +14,11 @@ enter-returns-then-marks-i t c = search laws.enter-known
 pub enter-bounds-marks-i-2 : goal.enter-bounds-marks-i-2
 enter-bounds-marks-i-2 t c = search laws.enter-macro
 
-pub enter-put-listed-requires : goal.enter-put-listed-requires
-enter-put-listed-requires t c = (search laws.enter-room, search laws.enter-small, search laws.enter-macro)
+pub enter-bounds-list-n : goal.enter-bounds-list-n
+enter-bounds-list-n t c = search laws.enter-room
+
+pub enter-overflow_cast-list : goal.enter-overflow_cast-list
+enter-overflow_cast-list t c = omega (arith, laws.enter-macro _ _ _ _ _ _ c.requires)
 
 pub enter-enter_items-requires : goal.enter-enter_items-requires
 enter-enter_items-requires t c = (omega arith, search laws.enter-items)
@@ -25,27 +29,18 @@ enter-returns t c = search laws.enter-left
 pub enter_items-loop-k-init : goal.enter_items-loop-k-init
 enter_items-loop-k-init t c = search laws.turn-first
 
-pub enter_items-offset_bounds-items-k : goal.enter_items-offset_bounds-items-k
-enter_items-offset_bounds-items-k t c = omega (arith, laws.turn-few _ _ _ _ _ _ c.requires _ c.codes_of-items.ensures _ c.loop-k-test.true)
-
-pub enter_items-bounds-items-k : goal.enter_items-bounds-items-k
-enter_items-bounds-items-k t c = search laws.turn-few
-
 pub enter_items-enter-listed-requires : goal.enter_items-enter-listed-requires
-enter_items-enter-listed-requires t c =
-    let lower = laws.turn-lower _ _ _ _ _ _ c.requires _ c.codes_of-items.ensures _ _ _ _ c.loop-k.invariant c.loop-k-test.true _ c.item_of.ensures _ c.in-Call.is in (
-      omega (arith, lower),
-      laws.turn-enters _ _ _ _ _ _ c.requires _ c.codes_of-items.ensures _ _ _ _ c.loop-k.invariant c.loop-k-test.true _ c.item_of.ensures _ c.in-Call.is,
-    )
+enter_items-enter-listed-requires t c = let lower : c.in-Call.j < c.args.i = search laws.turn-lower in (omega (arith, lower), search laws.turn-enters)
+
+pub enter_items-returns-after-loop-k : goal.enter_items-returns-after-loop-k
+enter_items-returns-after-loop-k t c = search laws.turn-full
+
+pub enter_items-returns-in_default : goal.enter_items-returns-in_default
+enter_items-returns-in_default t c = search laws.turn-end
 
 pub enter_items-loop-k-preserved : goal.enter_items-loop-k-preserved
 enter_items-loop-k-preserved t c =
-    elim c.match-item_of.branch [
-      | enter_items-in-Call w ↦
-          rw (w.marks-is, w.list-is, w.listed-is) (laws.turn-call _ _ _ _ _ _ c.requires _ c.codes_of-items.ensures _ _ _ _ c.loop-k.invariant c.loop-k-test.true _ c.item_of.ensures _ w.in-Call.is w.enter-listed.ensures)
-      | enter_items-in_default w ↦
-          rw (w.marks-is, w.list-is, w.listed-is) (laws.turn-key _ _ _ _ _ _ c.requires _ c.codes_of-items.ensures _ _ _ _ c.loop-k.invariant c.loop-k-test.true _ c.item_of.ensures _ w.in_default.is)
+    elim c.match-next.branch [
+      | enter_items-in-Call w ↦ rw (w.marks-is, w.list-is, w.listed-is) (laws.turn-call c.requires c.loop-k.invariant c.item.ensures c.in-Some.is w.in-Call.is w.enter-listed.ensures)
+      | enter_items-in_default-item w ↦ rw (w.marks-is, w.list-is, w.listed-is) (laws.turn-key c.requires c.loop-k.invariant c.item.ensures c.in-Some.is w.in_default-item.is)
     ]
-
-pub enter_items-returns : goal.enter_items-returns
-enter_items-returns t c = search laws.turn_end

@@ -2,7 +2,6 @@
 -- listed stands what the first k items enter.
 use Prim.Native.Nat.{◌+◌, ◌*◌}
 use lib.ListN.{take}
-use Rattle.book.specs.MacroItems.{decoded, items_from}
 use Rattle.book.specs.Reading.{macros_in}
 use Rattle.reach.proofs.Walks as laws
 use Rattle.reach.proofs.listing.+enter_enter_items.Given as goal
@@ -14,4 +13,4 @@ abbrev pub decreases-enter_items : goal.decreases-enter_items
 decreases-enter_items l = 2 * l.i
 
 abbrev pub invariant-enter_items-loop-k : goal.invariant-enter_items-loop-k
-invariant-enter_items-loop-k l = laws.Within (macros_in l.book) l.i (take l.n l.initial.list) l.initial.list (decoded (items_from l.book l.offsets l.i)) l.k l.list l.marks l.listed
+invariant-enter_items-loop-k l = laws.Within (macros_in l.book.bytes.now) l.i (take l.n l.initial.list) l.initial.list l.k l.list l.marks l.listed

@@ -1,12 +1,6 @@
--- `load_rows`. Invariant: the rows below q are read.
-use Rattle.reports.proofs.WordLaws.{loading-none, loading-more, loading-done}
+-- `load_rows`: the words, and zeros behind them.
+use Rattle.reports.proofs.WordLaws.{rows-read}
 use Rattle.reports.proofs.words.load_rows.Goals as goal
 
-pub loop-q-init : goal.loop-q-init
-loop-q-init c = search (loading-none)
-
-pub loop-q-preserved : goal.loop-q-preserved
-loop-q-preserved c = search (loading-more)
-
 pub returns : goal.returns
-returns c = search (loading-done)
+returns c = rows-read c.args.work.now c.args.at c.args.s c.copy_from_slice.ensures.after

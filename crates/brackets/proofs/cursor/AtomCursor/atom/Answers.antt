@@ -3,23 +3,25 @@ use Rattle.brackets.proofs.Answers.{fault-place, fault-table}
 use Rattle.brackets.proofs.Atoms.{atom-end, dot-place, dot-table, bracket-place, bracket-table, atom-unescaped, escaped-place, escaped-table, atom-mark, plain-place, plain-table}
 use Rattle.brackets.proofs.cursor.AtomCursor.atom.Goals as goal
 
-pub returns-then-self-s : goal.returns-then-self-s
-returns-then-self-s c = record { place = search (fault-place, atom-end); table = search (fault-table, atom-end) }
+pub returns-in_err-b : goal.returns-in_err-b
+returns-in_err-b c =
+    let h = atom-end _ _ c.in_err-b.ensures.lookup.3 in
+    record { place = rw c.from_residual.ensures (fault-place _ _ h); table = fault-table _ _ _ _ h }
 
-pub returns-then-b-eq46 : goal.returns-then-b-eq46
-returns-then-b-eq46 c = record { place = search dot-place; table = search dot-table }
+pub returns-in-46 : goal.returns-in-46
+returns-in-46 c = let (inside, h) = c.in_ok-b.ensures.lookup.3 in record { place = search (dot-place, inside, h 0); table = search (dot-table, h 0) }
 
-pub returns-then-b-eq91 : goal.returns-then-b-eq91
-returns-then-b-eq91 c = record { place = search bracket-place; table = search bracket-table }
+pub returns-in-91 : goal.returns-in-91
+returns-in-91 c = let h = c.in_ok-b.ensures.lookup.3.1 0 in record { place = search (bracket-place, h); table = search (bracket-table, h) }
 
 pub returns-then-not-is_mark : goal.returns-then-not-is_mark
-returns-then-not-is_mark c = record { place = search (fault-place, atom-unescaped); table = search (fault-table, atom-unescaped) }
+returns-then-not-is_mark c = let h = c.in_ok-b.ensures.lookup.3.1 0 in record { place = search (fault-place, atom-unescaped, h); table = search (fault-table, atom-unescaped, h) }
 
-pub returns-then-b-eq92 : goal.returns-then-b-eq92
-returns-then-b-eq92 c = record { place = search escaped-place; table = search escaped-table }
+pub returns-else-not-is_mark : goal.returns-else-not-is_mark
+returns-else-not-is_mark c = let h = c.in_ok-b.ensures.lookup.3.1 0 in record { place = search (escaped-place, h); table = search (escaped-table, h) }
 
 pub returns-then-b-is_mark : goal.returns-then-b-is_mark
-returns-then-b-is_mark c = record { place = search (fault-place, atom-mark); table = search (fault-table, atom-mark) }
+returns-then-b-is_mark c = let h = c.in_ok-b.ensures.lookup.3.1 0 in record { place = search (fault-place, atom-mark, h); table = search (fault-table, atom-mark, h) }
 
-pub returns : goal.returns
-returns c = record { place = search plain-place; table = search plain-table }
+pub returns-else-b-is_mark : goal.returns-else-b-is_mark
+returns-else-b-is_mark c = let (inside, h) = c.in_ok-b.ensures.lookup.3 in record { place = search (plain-place, inside, h 0); table = search (plain-table, h 0) }

@@ -7,8 +7,8 @@ use Rattle.brackets.proofs.cursor.AtomCursor.bracket.Goals as goal
 pub past-requires : goal.past-requires
 past-requires c = start_fits c.args.s.now _ c.peek-negated.result c.peek-negated.ensures (search rules) (search rules)
 
-pub returns-in-At : goal.returns-in-At
-returns-in-At c = record { place = search read-place; table = search read_table }
+pub returns : goal.returns
+returns c = record { place = search (read-place, c.in_ok-end.ensures); table = search (read_table, c.in_ok-end.ensures) }
 
-pub returns-in-Fault : goal.returns-in-Fault
-returns-in-Fault c = record { place = search (fault-place, read-fault); table = search (fault-table, read-fault) }
+pub returns-in_err-end : goal.returns-in_err-end
+returns-in_err-end c = let d = c.in_err-end.ensures in record { place = rw c.from_residual.ensures (search (fault-place, read-fault, d)); table = search (fault-table, read-fault, d) }

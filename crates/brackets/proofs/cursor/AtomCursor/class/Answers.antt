@@ -5,14 +5,14 @@ use Rattle.brackets.proofs.cursor.AtomCursor.class.Goals as goal
 pub find_class-requires : goal.find_class-requires
 find_class-requires c = search name-near
 
+pub returns-in_err-c : goal.returns-in_err-c
+returns-in_err-c c = rw c.from_residual.ensures (search (class-unknown, c.in_err-c.ensures))
+
 pub starts_range-requires : goal.starts_range-requires
-starts_range-requires c = search class-near
+starts_range-requires c = search (class-near, c.in_ok-c.ensures)
 
 pub returns-then-starts_range : goal.returns-then-starts_range
-returns-then-starts_range c = search class-range
+returns-then-starts_range c = search (class-range, c.in_ok-c.ensures)
 
-pub returns-else-starts_range : goal.returns-else-starts_range
-returns-else-starts_range c = search class-found
-
-pub returns-in-Unknown : goal.returns-in-Unknown
-returns-in-Unknown c = search class-unknown
+pub returns : goal.returns
+returns c = search (class-found, c.in_ok-c.ensures)

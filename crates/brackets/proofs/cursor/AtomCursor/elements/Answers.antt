@@ -10,16 +10,16 @@ pub returns-then-first-peek : goal.returns-then-first-peek
 returns-then-first-peek c = search going-closed
 
 pub add_element-requires : goal.add_element-requires
-add_element-requires c = search found-known
+add_element-requires c = search (found-known, c.in_ok-e.ensures)
 
-pub returns-in-Fault : goal.returns-in-Fault
-returns-in-Fault c = search going-fault
+pub returns-in_err-e : goal.returns-in_err-e
+returns-in_err-e c = rw c.from_residual.ensures (search (going-fault, c.in_err-e.ensures))
 
 pub loop-here-smaller : goal.loop-here-smaller
-loop-here-smaller c = search found-less
+loop-here-smaller c = search (found-less, c.in_ok-e.ensures)
 
 pub loop-here-preserved : goal.loop-here-preserved
-loop-here-preserved c = search going_on
+loop-here-preserved c = search (going_on, c.in_ok-e.ensures)
 
 pub returns : goal.returns
 returns c = search going_end

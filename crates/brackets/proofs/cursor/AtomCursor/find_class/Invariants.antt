@@ -1,12 +1,8 @@
 -- `AtomCursor::find_class`. Invariant: the classes from c on decide as all twelve do.
 use Prim.Native.Nat.{◌-◌}
 use mathlib.Core.Path.{◌≡◌}
-use lib.ListN.{drop}
 use Rattle.brackets.specs.Brackets.{find_class}
 use Rattle.brackets.proofs.cursor.AtomCursor.find_class.Given as goal
 
 abbrev pub invariant-loop-c : goal.invariant-loop-c
-invariant-loop-c l = find_class (12 - l.c) l.c (drop l.self.at l.s) ≡ find_class 12 0 (drop l.self.at l.s)
-
-abbrev pub decreases-loop-c : goal.decreases-loop-c
-decreases-loop-c l = 12 - l.c
+invariant-loop-c l = find_class (12 - l.c) l.c l.rest ≡ find_class 12 0 l.rest

@@ -2,74 +2,74 @@
 use Rattle.pattern.proofs.Cycles as laws
 use Rattle.pattern.proofs.cursor.Cursor.+alternatives_branch_group_piece.Goals as goal
 
-pub alternatives-returns-in_default-part : goal.alternatives-returns-in_default-part
-alternatives-returns-in_default-part t c = search (laws.alts-fault)
+pub alternatives-returns-in_err-here : goal.alternatives-returns-in_err-here
+alternatives-returns-in_err-here t c = rw c.from_residual.ensures (search (laws.alts-fault, c.in_err-here.ensures))
 
 pub alternatives-returns-then-peek-ne124 : goal.alternatives-returns-then-peek-ne124
-alternatives-returns-then-peek-ne124 t c = search (laws.alts-one)
+alternatives-returns-then-peek-ne124 t c = search (laws.alts-one, c.in_ok-here.ensures)
 
 pub alternatives-past-requires : goal.alternatives-past-requires
-alternatives-past-requires t c = (search (laws.read_at), search (laws.read-atoms))
+alternatives-past-requires t c = (search (laws.read_at, c.in_ok-here.ensures), search (laws.read-atoms, c.in_ok-here.ensures))
 
-pub alternatives-alternatives-other-requires : goal.alternatives-alternatives-other-requires
-alternatives-alternatives-other-requires t c = (search (laws.bar-falls), search (laws.bar-ready))
+pub alternatives-alternatives-requires : goal.alternatives-alternatives-requires
+alternatives-alternatives-requires t c = (search (laws.bar-falls, c.in_ok-here.ensures), search (laws.bar-ready, c.in_ok-here.ensures))
 
-pub alternatives-returns-in_default : goal.alternatives-returns-in_default
-alternatives-returns-in_default t c = search (laws.alts-more-fault)
+pub alternatives-returns-in_err-end : goal.alternatives-returns-in_err-end
+alternatives-returns-in_err-end t c = rw c.from_residual-in_err-end.ensures (search (laws.alts-more-fault, c.in_ok-here.ensures, c.in_err-end.ensures))
 
 pub alternatives-returns : goal.alternatives-returns
-alternatives-returns t c = laws.alts-more c.args.s.now c.args.self c.requires _ _ _ _ _ c.branch-part.ensures _ _ c.in_Read-part.is _ c.peek.ensures _ _ _ _ c.alternatives-other.ensures c.past.ensures c.if-peek-ne124.false _ _ _ c.in-Read.is c.either.ensures
+alternatives-returns t c = search (laws.alts-more, c.in_ok-here.ensures, c.in_ok-end.ensures)
 
-pub branch-returns-in_default : goal.branch-returns-in_default
-branch-returns-in_default t c = search (laws.branch-fault)
+pub branch-returns-in_err-here : goal.branch-returns-in_err-here
+branch-returns-in_err-here t c = rw c.from_residual.ensures (search (laws.branch-fault, c.in_err-here.ensures))
 
 pub branch-returns-then-ends_pieces : goal.branch-returns-then-ends_pieces
-branch-returns-then-ends_pieces t c = search (laws.branch-last)
+branch-returns-then-ends_pieces t c = search (laws.branch-last, c.in_ok-here.ensures)
 
-pub branch-branch-other-requires : goal.branch-branch-other-requires
-branch-branch-other-requires t c = (search (laws.on-falls), search (laws.read-ready))
+pub branch-branch-here-requires-2 : goal.branch-branch-here-requires-2
+branch-branch-here-requires-2 t c = (search (laws.on-falls, c.in_ok-here.ensures), search (laws.read-ready, c.in_ok-here.ensures))
 
-pub branch-returns-in_default-other : goal.branch-returns-in_default-other
-branch-returns-in_default-other t c = search (laws.branch-more-fault)
+pub branch-returns-in_err-end : goal.branch-returns-in_err-end
+branch-returns-in_err-end t c = rw c.from_residual-in_err-end.ensures (search (laws.branch-more-fault, c.in_ok-here.ensures, c.in_err-end.ensures))
 
 pub branch-link-requires : goal.branch-link-requires
-branch-link-requires t c = search (laws.read_small)
+branch-link-requires t c = search (laws.read_small, c.in_ok-here.ensures)
 
 pub branch-returns : goal.branch-returns
-branch-returns t c = laws.branch-more c.args.s.now c.args.self c.requires _ _ _ _ _ c.piece-part.ensures _ _ c.in-Read.is _ c.peek.ensures _ c.ends_pieces.ensures _ _ _ c.branch-other.ensures c.if-ends_pieces.false _ _ c.in_Read-other.is _ _ c.link.ensures c.in_sequence.ensures
+branch-returns t c = search (laws.branch-more, c.in_ok-here.ensures, c.in_ok-end.ensures)
 
-pub group-returns-in_default : goal.group-returns-in_default
-group-returns-in_default t c = search (laws.group-fault)
+pub group-returns-in_err-here : goal.group-returns-in_err-here
+group-returns-in_err-here t c = rw c.from_residual.ensures (search (laws.group-fault, c.in_err-here.ensures))
 
 pub group-returns-then-peek-ne41 : goal.group-returns-then-peek-ne41
-group-returns-then-peek-ne41 t c = search (laws.group-open)
+group-returns-then-peek-ne41 t c = search (laws.group-open, c.in_ok-here.ensures)
 
 pub group-past-requires : goal.group-past-requires
-group-past-requires t c = (search (laws.read_at), search (laws.read-atoms))
+group-past-requires t c = (search (laws.read_at, c.in_ok-here.ensures), search (laws.read-atoms, c.in_ok-here.ensures))
 
 pub group-returns : goal.group-returns
-group-returns t c = search (laws.group-closed)
+group-returns t c = search (laws.group-closed, c.in_ok-here.ensures)
 
 pub piece-past-requires : goal.piece-past-requires
 piece-past-requires t c = (search (laws.ready_at), search (laws.ready-atoms))
 
-pub piece-group-part-requires : goal.piece-group-part-requires
-piece-group-part-requires t c = (search (laws.paren-falls), search (laws.paren-ready))
+pub piece-group-requires : goal.piece-group-requires
+piece-group-requires t c = (search (laws.paren-falls), search (laws.paren-ready))
 
-pub piece-returns-in_default : goal.piece-returns-in_default
-piece-returns-in_default t c = search (laws.piece-fault)
+pub piece-returns-in_err-here : goal.piece-returns-in_err-here
+piece-returns-in_err-here t c = rw c.from_residual.ensures (search (laws.piece-fault, c.in_err-here.ensures))
 
 pub piece-repetition-requires : goal.piece-repetition-requires
-piece-repetition-requires t c = record { ready = search (laws.group-ready); last_bound = search (laws.group-small) }
+piece-repetition-requires t c = record { ready = search (laws.group-ready, c.in_ok-here.ensures); last_bound = search (laws.group-small, c.in_ok-here.ensures) }
 
 pub piece-returns-then-peek-eq40 : goal.piece-returns-then-peek-eq40
-piece-returns-then-peek-eq40 t c = search (laws.piece-group)
+piece-returns-then-peek-eq40 t c = search (laws.piece-group, c.in_ok-here.ensures)
 
-pub piece-returns-in_default-part : goal.piece-returns-in_default-part
-piece-returns-in_default-part t c = search (laws.piece-atom-fault)
+pub piece-returns-in_err-here-2 : goal.piece-returns-in_err-here-2
+piece-returns-in_err-here-2 t c = rw c.from_residual-in_err-here-2.ensures (search (laws.piece-atom-fault, c.in_err-here-2.ensures))
 
 pub piece-repetition-requires-2 : goal.piece-repetition-requires-2
-piece-repetition-requires-2 t c = record { ready = search (laws.atom-ready); last_bound = search (laws.atom-small) }
+piece-repetition-requires-2 t c = record { ready = search (laws.atom-ready, c.in_ok-here-2.ensures); last_bound = search (laws.atom-small, c.in_ok-here-2.ensures) }
 
 pub piece-returns : goal.piece-returns
-piece-returns t c = search (laws.piece-atom)
+piece-returns t c = search (laws.piece-atom, c.in_ok-here-2.ensures)

@@ -2,20 +2,20 @@
 use Rattle.pattern.proofs.BranchLists as laws
 use Rattle.pattern.proofs.cursor.Cursor.+branches.Goals as goal
 
-pub returns-in_default : goal.returns-in_default
-returns-in_default t c = search (laws.branches-fault)
+pub returns-in_err-here : goal.returns-in_err-here
+returns-in_err-here t c = rw c.from_residual.ensures (search (laws.branches-fault, c.in_err-here.ensures))
 
-pub returns-then-next-eq0 : goal.returns-then-next-eq0
-returns-then-next-eq0 t c = search (laws.branches-end)
-
-pub returns-then-next-ne124 : goal.returns-then-next-ne124
-returns-then-next-ne124 t c = search (laws.branches-other)
+pub returns-in-0 : goal.returns-in-0
+returns-in-0 t c = search (laws.branches-end, c.in_ok-here.ensures)
 
 pub past-requires : goal.past-requires
-past-requires t c = (search (laws.branches_at), search (laws.branches-atoms))
+past-requires t c = (search (laws.branches_at, c.in_ok-here.ensures), search (laws.branches-atoms, c.in_ok-here.ensures))
 
 pub branches-requires : goal.branches-requires
-branches-requires t c = (search (laws.branches-falls), search (laws.branches-ready))
+branches-requires t c = (search (laws.branches-falls, c.in_ok-here.ensures), search (laws.branches-ready, c.in_ok-here.ensures))
 
-pub returns : goal.returns
-returns t c = laws.branches-more _ _ c.requires _ _ _ _ _ c.pattern_branch-read.ensures _ _ _ _ _ c.in-Read.is _ c.with_branch-sum.ensures _ c.peek-next.ensures c.if-next-ne124.false _ c.past.ensures _ _ _ c.branches.ensures
+pub returns-in-124 : goal.returns-in-124
+returns-in-124 t c = search (laws.branches-more, c.in_ok-here.ensures)
+
+pub returns-in_default : goal.returns-in_default
+returns-in_default t c = search (laws.branches-other, c.in_ok-here.ensures)

@@ -9,11 +9,11 @@ returns-then-start-next c = search rest-bare
 pub returns-then-ends_pieces : goal.returns-then-ends_pieces
 returns-then-ends_pieces c = search rest-none
 
-pub returns-in_default-part : goal.returns-in_default-part
-returns-in_default-part c = search rest-fault
+pub returns-in_err-here : goal.returns-in_err-here
+returns-in_err-here c = rw c.from_residual.ensures (search (rest-fault, c.in_err-here.ensures))
 
 pub branch_end-requires-2 : goal.branch_end-requires-2
-branch_end-requires-2 c = search read-ready
+branch_end-requires-2 c = search (read-ready, c.in_ok-here.ensures)
 
 pub returns : goal.returns
-returns c = search rest-pieces
+returns c = search (rest-pieces, c.in_ok-here.ensures)
