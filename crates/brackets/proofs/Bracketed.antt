@@ -1,15 +1,13 @@
 -- The reading of a bracket: one law for each way out of the code.
-use Prim.Native.Nat.{ℕ, suc, ◌+◌, ◌-◌, ◌^◌, ◌<◌, ◌≤◌}
+use Prim.Native.Nat.{ℕ, suc, ◌+◌, ◌-◌, ◌<◌, ◌≤◌}
 use native.Mathlib.Omega.{arith}
 use native.Mathlib.Nat.{add-zero}
-use native.Mathlib.Decide.{dec_le}
 use mathlib.Core.Path.{◌≡◌, refl, sym, ap, ◌∙◌}
 use mathlib.Core.Bool.{Bool, true, false, not, ◌&&◌, cond, or-false, or_assoc}
 use mathlib.Core.List.{List, [], ◌∷◌}
 use lib.Dec.{eqb}
-use lib.ListN.{length, get_or, drop, replicate, length-drop, drop_of_length-le, get_or-eq_default}
+use lib.ListN.{length, get_or, drop, replicate, length-drop, drop_of_length-le}
 use lib.Seq.{drop-drop}
-use borrow.Author.Tests.{eqb-true}
 use mir.Val.{bool_byte}
 use Rattle.letters.specs.declared.Case.{Case}
 use Rattle.std.specs.Prelude.{Option, Some, None}
@@ -130,18 +128,6 @@ module _ (l : List ℕ) (start : ℕ) (s : List Bool) where
       go : (a : Parsed (List Element)) → ElementsDone (length l) a (replicate 256 false) s None → a ≡ fault
       go (parsed es rest) (f, g) = clash (cc)
       go fault f = refl
-
--- a `^` that is there stands inside
-pub start_fits : (s : List ℕ) (p b : ℕ) → b ≡ get_or s p 0 → length s < 2 ^ 63 → p < 2 ^ 64 → p + bool_byte (eqb b 94) < 2 ^ 64
-start_fits s p b e n h = go (eqb b 94) refl
-  where
-    go : (t : Bool) → eqb b 94 ≡ t → p + bool_byte t < 2 ^ 64
-    go true f =
-        elim (dec_le (length s) p) [
-          | yes l ↦ absurd (omega (arith, eqb-true b 94 f, e, get_or-eq_default s 0 l))
-          | no l ↦ omega arith
-        ]
-    go false f = omega arith
 
 -- the bracket at a place: whether it is negated, the set that the elements fill, and what it puts into the table
 module _ (s : List ℕ) (p b : ℕ) (e : b ≡ get_or s p 0) (start : AtomCursor) (f : start ≡ cursor_at (p + bool_byte (eqb b 94))) where

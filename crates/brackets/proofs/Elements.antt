@@ -1,7 +1,7 @@
 -- The reading of one element: one law for each way out of the code.
 use Prim.Native.Nat.{ℕ, suc, ◌+◌, ◌<◌, ◌≤◌}
 use native.Mathlib.Omega.{arith}
-use mathlib.Core.Path.{◌≡◌, refl, sym, ap, ◌∙◌}
+use mathlib.Core.Path.{◌≡◌, sym, ap, ◌∙◌}
 use mathlib.Core.Bool.{Bool, true, false, not, ◌&&◌, ◌||◌, cond, or-false}
 use mathlib.Core.List.{List, [], ◌∷◌}
 use mathlib.Core.Option as math
@@ -13,7 +13,7 @@ use Rattle.brackets.specs.declared.cursor.AtomCursor.{AtomCursor}
 use Rattle.brackets.specs.declared.element.Element as declared
 use Rattle.brackets.specs.declared.element.Element.TheVariants as variant
 use Rattle.brackets.specs.Form.{byte, range, class, class_name, write_element, Element}
-use Rattle.brackets.specs.Brackets.{parsed, fault, at, starts_range, find_class, class_found, read_class, read_range, read_byte, read_element, Parsed}
+use Rattle.brackets.specs.Brackets.{parsed, fault, at, starts_range, find_class, read_class, read_range, read_byte, read_element, Parsed}
 use Rattle.brackets.specs.Answers.{cursor_at}
 use Rattle.brackets.specs.Promises.{class_shown, element_shown}
 use Rattle.brackets.proofs.Bytes.{first-at}
@@ -22,10 +22,6 @@ use Rattle.brackets.proofs.Classes.{found-class}
 use Rattle.runs.specs.Keys.{member}
 use Rattle.runs.proofs.Tests.{clash}
 use Rattle.std.proofs.lemmas.Option.{some_pair_parts}
-
--- `[.`, `[=` or `[:`
-pub opens_one : (b c : ℕ) → eqb b 91 && (eqb c 46 || (eqb c 61 || eqb c 58)) ≡ eqb b 91 && member c (46 ∷ 61 ∷ 58 ∷ [])
-opens_one b c = rw (or-false (eqb c 58))
 
 module _ (s : List ℕ) (p : ℕ) where
   -- bytes behind a place
@@ -47,9 +43,6 @@ module _ (s : List ℕ) (p : ℕ) where
     unfolding write_element
     byte-found h d k = rw (byte-read, h, k)
 
-    pub byte-fault : ByteTest ≡ false → None ≡ element_shown p (read_byte first (drop p s))
-    byte-fault h = rw (byte-read, h)
-
   -- a range
   module _ (first : Bool) (a b c : ℕ) (e : a ≡ get_or s p 0) (f : b ≡ get_or s (p + 2) 0) (g : c ≡ get_or s (p + 3) 0) (o : Bool) (n : o ≡ eqb b 91 && member c (46 ∷ 61 ∷ 58 ∷ [])) where
     abbrev RangeTest : Bool
@@ -66,17 +59,7 @@ module _ (s : List ℕ) (p : ℕ) where
     range-fault h = rw (range-read, h)
 
   -- a class, whose name is read behind the `[:`
-  pub name-near : (here : AtomCursor) → here ≡ cursor_at (p + 2) → p ≤ length s → here.at ≤ length s + 2
-  name-near here two low = rw two (omega arith)
-
   module _ (here : AtomCursor) (two : here ≡ cursor_at (p + 2)) where
-    pub class-unknown : None ≡ class_shown here.at (find_class 12 0 (drop here.at s)) → None ≡ element_shown p (read_class (drop (p + 2) s))
-    class-unknown e = go (find_class 12 0 (drop (p + 2) s)) (sym (rw two at e))
-      where
-        go : (o : math.Option ℕ) → class_shown (p + 2) o ≡ None → None ≡ element_shown p (class_found o (drop (p + 2) s))
-        go math.none f = refl
-        go (math.some c) f = clash (cc)
-
     module _ (c : ℕ) (d : AtomCursor) (e : Some (c, d) ≡ class_shown here.at (find_class 12 0 (drop here.at s))) where
       found : (find_class 12 0 (drop (p + 2) s) ≡ math.some c) × (d ≡ cursor_at (p + 2 + (length (class_name c) + 2)))
       found = go (find_class 12 0 (drop (p + 2) s)) (sym (rw two at e))
@@ -105,9 +88,6 @@ module _ (s : List ℕ) (p : ℕ) where
             rw (class-read-found, k, length-append, ← g) (ap (λ (n : AtomCursor). Some (variant.Class c, n)) found.1)
 
   -- which of the three it is
-  pub range-near : (next : AtomCursor) → next ≡ cursor_at (p + 1) → p < length s → next.at ≤ length s + 10
-  range-near next one low = rw one (omega arith)
-
   module _ (first : Bool) (a b : ℕ) (e : a ≡ get_or s p 0) (f : b ≡ get_or s (p + 1) 0) where
     abbrev ByTests : Parsed Element
     ByTests =

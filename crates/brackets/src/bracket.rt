@@ -17,6 +17,7 @@ impl AtomCursor {
     {
         let mut here = self;
         let mut first = true;
+        // By a cursor and no `for`: an element has one to ten bytes.
         while here.at < s.len() {
             if !first & (peek(s, here.at) == b']') {
                 return Some(here.past(1));

@@ -19,7 +19,7 @@ pub(crate) enum Element {
 fn opens(b: u8, c: u8) -> bool
     ensures { result ≡ eqb b 91 && member c (46 ∷ 61 ∷ 58 ∷ []) }
 {
-    (b == b'[') & ((c == b'.') | ((c == b'=') | (c == b':')))
+    (b == b'[') & matches!(c, b'.' | b'=' | b':')
 }
 
 impl AtomCursor {

@@ -12,10 +12,8 @@ use Rattle.refusal.specs.declared.Refusal.TheVariants.{CountOverflow}
 use Rattle.book.specs.Expansion.{expansion}
 use Rattle.book.specs.Format.{Macro}
 use Rattle.book.specs.Reading.{Reading, read_book, macros_in, version_in}
-use Rattle.book.specs.Answer.{layout_figures, book_layout}
-use Rattle.book.specs.declared.layout.Checked.{Checked}
-use Rattle.book.specs.declared.layout.Layout.{Layout}
-use Rattle.book.specs.declared.space.Space.{Space}
+use Rattle.std.specs.Prelude.{Option, Some, None, Result, Ok, Err}
+use Rattle.book.specs.Answer.{opened_figures, check_result}
 use Rattle.book.specs.Steps.{refused, settled, space_step, InBook, settled_by}
 use Rattle.book.proofs.LayoutLaws.{well-in}
 use Rattle.book.proofs.StepLaws.{book-refuses, space-inside, space-room}
@@ -24,18 +22,17 @@ use Rattle.pattern.specs.Meaning.{Query, query}
 use Rattle.letters.specs.declared.Case.{Case}
 use Rattle.pattern.specs.Form.{Pattern}
 use Rattle.pattern.specs.Reader as reader
-use Rattle.pattern.specs.Automata.{Automaton, VerdictOn, KeysFrom, EnterFrom}
+use Rattle.pattern.specs.Automata.{Automaton, TablesOn}
 use Rattle.pattern.specs.declared.automaton.Accepting.{Accepting}
-use Rattle.pattern.specs.declared.automaton.Verdict.{Verdict}
+use Rattle.pattern.specs.declared.automaton.Tables.{Tables}
 use Rattle.pattern.proofs.Readings.{states-of}
 use Rattle.reports.specs.declared.report.Report.{Report}
-use Rattle.reports.specs.declared.total.Total.{Total}
 use Rattle.reports.specs.Totals.{total_of}
 use Rattle.reports.specs.declared.span_count.SpanCount.{SpanCount}
 use Rattle.reports.specs.Reports.{report, in_report, total_in}
 use Rattle.reports.specs.Words.{behind_rows, loaded_at}
 use Rattle.reports.proofs.ReportLaws.{in-report, total-run}
-use Rattle.counter.specs.declared.counting.BookCount.{BookCount}
+use Rattle.counter.specs.declared.counting.Count.{Count}
 use Rattle.counter.specs.Front.{front, InPattern}
 use Rattle.counter.specs.Counting.{steps, steps_in, stopped, finished_by, matching_lines, needed, count_of, count_result, book_result}
 use Rattle.counter.specs.Answers.{outcome}
@@ -53,7 +50,7 @@ steps-none version n e = rw (ne_eqb version 1 e) refl
 -- Macro m.
 module _ {book offsets : List ℕ} {m : ℕ} {p : Accepting} {before : List ℕ} (g : MacroFits book offsets m p before) where
   module _ {keys enter after : List ℕ} {n : ℕ} (f : Filled keys enter p (macros_in book) m before after n) {version k : ℕ} (v : version ≡ version_in book) (often : k ≡ steps_in version n) where
-    module _ {r : Report} {a : SpanCount} {x : Total} (l : r ≡ loaded_at after (place_of p m) p.states) (i : a ≡ in_report r) (z : x ≡ total_in p a) where
+    module _ {r : Report} {a : SpanCount} {x : Option ℕ} (l : r ≡ loaded_at after (place_of p m) p.states) (i : a ≡ in_report r) (z : x ≡ total_in p a) where
       -- the count is that of the run
       counted : (t : Query) → Automaton t keys enter p → x ≡ total_of (matching_lines t (macros_in book) m)
       counted t d =
@@ -67,15 +64,15 @@ module _ {book offsets : List ℕ} {m : ℕ} {p : Accepting} {before : List ℕ}
       told t d =
           let both = f.counts t d in
           let own : k ≡ steps_in (version_in book) (steps t (macros_in book) m) = often ∙ rw (v, both.1) refl in
-          ap (λ (y : Total). finished_by y k after) (counted t d) ∙ rw (own, both.0) refl
+          ap (λ (y : Option ℕ). finished_by y k after) (counted t d) ∙ rw (own, both.0) refl
 
-      pub macro-lines : {l : ℕ} → x ≡ Total.Lines l → BookCounted (version_in book) keys enter p (macros_in book) m before after (BookCount.Lines l k)
+      pub macro-lines : {l : ℕ} → x ≡ Some l → BookCounted (version_in book) keys enter p (macros_in book) m before after (Ok (record { lines = l; steps = k }))
       unfolding BookCounted
-      macro-lines e t d = ap (λ (y : Total). finished_by y k after) (sym e) ∙ told t d
+      macro-lines e t d = ap (λ (y : Option ℕ). finished_by y k after) (sym e) ∙ told t d
 
-      pub macro-over : x ≡ Total.TooMany → BookCounted (version_in book) keys enter p (macros_in book) m before after (BookCount.Refused CountOverflow)
+      pub macro-over : x ≡ None → BookCounted (version_in book) keys enter p (macros_in book) m before after (Err CountOverflow)
       unfolding BookCounted
-      macro-over e t d = ap (λ (y : Total). finished_by y k after) (sym e) ∙ told t d
+      macro-over e t d = ap (λ (y : Option ℕ). finished_by y k after) (sym e) ∙ told t d
 
 -- A refusal leaves the work words; what is settled is counted.
 module _ (c : Case) (version : ℕ) (book : Reading (List Macro)) (pattern : reader.Read) (m : ℕ) (before : List ℕ) where
@@ -88,49 +85,47 @@ module _ (c : Case) (version : ℕ) (book : Reading (List Macro)) (pattern : rea
   counted-by e = rw e refl
 
 -- Any book.
-module _ (book : List ℕ) (l : Layout) (e : layout_figures l ≡ book_layout book) where
-  pub book-refused : {r : Refusal} (c : Case) (p : reader.Read) (m : ℕ) (before : List ℕ) → l.answer ≡ Checked.Refused r → stopped r before ≡ count_result c (version_in book) (read_book book) p m before
-  book-refused c p m before f = stopped_by c (version_in book) (read_book book) p m before (front-book (read_book book) p (λ t. needed (query c t) m) m (length before) (book-refuses book l e f))
+pub book-refused : (c : Case) (book : List ℕ) (p : reader.Read) (m : ℕ) (before : List ℕ) (r : Refusal) → opened_figures (Err r) ≡ check_result (read_book book) → stopped r before ≡ count_result c (version_in book) (read_book book) p m before
+book-refused c book p m before r e = stopped_by c (version_in book) (read_book book) p m before (front-book (read_book book) p (λ t. needed (query c t) m) m (length before) (book-refuses book e))
 
--- A sound book, and a pattern that is refused.
-module _ {book offsets : List ℕ} {macros : ℕ} (i : InBook book offsets macros) (s : List ℕ) {v : Verdict} {r : Refusal} (figures : VerdictOn s v) (e : v ≡ Verdict.Refused r) where
-  pub pattern-refused : (c : Case) (m : ℕ) (before : List ℕ) → stopped r before ≡ book_result c book s m before
-  pattern-refused c m before =
+-- A sound book.
+module _ {book offsets : List ℕ} {macros : ℕ} (i : InBook book offsets macros) (c : Case) (s : List ℕ) {v : Result Tables Refusal} (tables : TablesOn c s v) (m : ℕ) (before : List ℕ) where
+  -- and a pattern that is refused
+  pub pattern-refused : {r : Refusal} → v ≡ Err r → stopped r before ≡ book_result c book s m before
+  pattern-refused e =
       stopped_by c (version_in book) (read_book book) (reader.read_pattern s) m before
-      (front-pattern (read_book book) (reader.read_pattern s) (λ t. needed (query c t) m) m (length before) i.sound (pattern-refuses s figures e))
+      (front-pattern (read_book book) (reader.read_pattern s) (λ t. needed (query c t) m) m (length before) i.sound (pattern-refuses c s tables e))
 
--- A sound book, and a pattern that is accepted.
-module _ {book offsets : List ℕ} {macros : ℕ} (i : InBook book offsets macros) (c : Case) (s keys enter keys' enter' : List ℕ) {v : Verdict} where
-  module _ (figures : VerdictOn s v) (keyed : KeysFrom c s keys keys') (entered : EnterFrom s enter enter') where
-    module _ {p : Accepting} (e : v ≡ Verdict.Accepted p) where
-      accepted : InPattern c s keys' enter' p
-      accepted = pattern-in c s keys enter keys' enter' figures keyed entered e
+  -- and one that is accepted
+  module _ {a : Tables} (e : v ≡ Ok a) where
+    accepted : InPattern c s a.keys a.enter a.accepting
+    accepted = pattern-in c s tables e
 
-      -- a size of some words more than states is small
-      pub size_fits : (k : ℕ) → leb k 32 ≡ true → p.states + k < 2 ^ 64
-      size_fits k h = omega (arith, accepted.small, leb-true k 32 h)
+    -- a size of some words more than states is small
+    pub size_fits : (k : ℕ) → leb k 32 ≡ true → a.accepting.states + k < 2 ^ 64
+    size_fits k h = omega (arith, accepted.small, leb-true k 32 h)
 
-      -- macro m, with these work words
-      module _ (m : ℕ) (before : List ℕ) (x : Space) (told : settled_by x ≡ space_step macros m (suc m * (p.states + behind_rows)) (length before)) where
-        sized : settled_by x ≡ space_step macros m (needed (query c accepted.tree) m) (length before)
-        sized = rw (← states-of accepted.tables) told
+    -- with these work words
+    module _ (x : Result (Unit {0}) Refusal) (told : settled_by x ≡ space_step macros m (suc m * (a.accepting.states + behind_rows)) (length before)) where
+      sized : settled_by x ≡ space_step macros m (needed (query c accepted.tree) m) (length before)
+      sized = rw (← states-of accepted.tables) told
 
-        pub space-refused : {r : Refusal} → x ≡ Space.Refused r → stopped r before ≡ book_result c book s m before
-        space-refused f = stopped_by c (version_in book) (read_book book) (reader.read_pattern s) m before (front-refuses i accepted (λ t. needed (query c t) m) m (length before) x sized f)
+      pub space-refused : {r : Refusal} → x ≡ Err r → stopped r before ≡ book_result c book s m before
+      space-refused f = stopped_by c (version_in book) (read_book book) (reader.read_pattern s) m before (front-refuses i accepted (λ t. needed (query c t) m) m (length before) x sized f)
 
-        module _ (f : x ≡ Space.Enough) where
-          pub macro-in : MacroFits book offsets m p before
-          macro-in =
-              let inside : m < macros = space-inside macros m (suc m * (p.states + behind_rows)) (length before) x told f in
-              record {
-                table = i.table;
-                inside = omega (arith, i.many);
-                small = accepted.small;
-                room = space-room macros m (suc m * (p.states + behind_rows)) (length before) x told f;
-              }
+      module _ (f : x ≡ Ok tt) where
+        pub macro-in : MacroFits book offsets m a.accepting before
+        macro-in =
+            let inside : m < macros = space-inside macros m (suc m * (a.accepting.states + behind_rows)) (length before) x told f in
+            record {
+              table = i.table;
+              inside = omega (arith, i.many);
+              small = accepted.small;
+              room = space-room macros m (suc m * (a.accepting.states + behind_rows)) (length before) x told f;
+            }
 
-          pub macro-counted : (after : List ℕ) (r : BookCount) → BookCounted (version_in book) keys' enter' p (macros_in book) m before after r → outcome r after ≡ book_result c book s m before
-          unfolding BookCounted
-          macro-counted after r g =
-              let settles = front-settles i accepted (λ t. needed (query c t) m) m (length before) x sized f in
-              g (query c accepted.tree) accepted.tables ∙ counted-by c (version_in book) (read_book book) (reader.read_pattern s) m before settles
+        pub macro-counted : (after : List ℕ) (r : Result Count Refusal) → BookCounted (version_in book) a.keys a.enter a.accepting (macros_in book) m before after r → outcome r after ≡ book_result c book s m before
+        unfolding BookCounted
+        macro-counted after r g =
+            let settles = front-settles i accepted (λ t. needed (query c t) m) m (length before) x sized f in
+            g (query c accepted.tree) accepted.tables ∙ counted-by c (version_in book) (read_book book) (reader.read_pattern s) m before settles

@@ -25,7 +25,7 @@ use Rattle.pattern.specs.Meaning.{Query, query}
 use Rattle.pattern.specs.Moves.{states}
 use Rattle.pattern.specs.Reader as reader
 use Rattle.spans.specs.Pairs.{pairs}
-use Rattle.reports.specs.declared.total.Total.{Total}
+use Rattle.std.specs.Prelude.{Option, Some, None}
 use Rattle.reports.specs.Totals.{most, total_of}
 use Rattle.reports.proofs.TotalLaws.{few-lines, many-lines}
 use Rattle.counter.specs.Counting.{item_steps, steps_within, steps, steps_in, items_to, Outcome, matching_lines, finished, stopped, finished_by, filled, report_size, needed, most_words, count_of, count_result, book_result}
@@ -65,9 +65,9 @@ module _ {c : Case} {b p work : List ℕ} {ms : List Macro} {t : Pattern} {m : �
   pub steps-zero : a.version ≡ 2 → (book_result c b p m work).steps ≡ 0
   steps-zero e = ap (λ (o : Outcome). o.steps) answer ∙ rw e (go (total_of (matching_lines (query c t) ms m)))
     where
-      go : (z : Total) → (finished_by z 0 (filled (query c t) ms m work)).steps ≡ 0
-      go (Total.Lines n) = refl
-      go Total.TooMany = refl
+      go : (z : Option ℕ) → (finished_by z 0 (filled (query c t) ms m work)).steps ≡ 0
+      go (Some n) = refl
+      go None = refl
 
   -- "It is refused exactly when that number passes 2^64 − 1."
   pub count-refused : most < matching_lines (query c t) ms m → book_result c b p m work ≡ stopped CountOverflow (filled (query c t) ms m work)
@@ -86,9 +86,9 @@ module _ {c : Case} {b p work : List ℕ} {ms : List Macro} {t : Pattern} {m : �
       reports-at (query c t) (accepted-few p t a.pattern) ms (suc m) i (omega arith) (book_result c b p m work).work (drop (needed (query c t) m) work)
       (ap (λ (o : Outcome). o.work) answer ∙ words (total_of (matching_lines (query c t) ms m)))
     where
-      words : (z : Total) → (finished_by z (steps_in a.version (steps (query c t) ms m)) (filled (query c t) ms m work)).work ≡ filled (query c t) ms m work
-      words (Total.Lines n) = refl
-      words Total.TooMany = refl
+      words : (z : Option ℕ) → (finished_by z (steps_in a.version (steps (query c t) ms m)) (filled (query c t) ms m work)).work ≡ filled (query c t) ms m work
+      words (Some n) = refl
+      words None = refl
 
 -- "give the same count .. or are both refused", and for the same reason
 abbrev pub SameCount : Outcome → Outcome → Type 0
@@ -99,9 +99,9 @@ module _ {case : Case} {b c p work space : List ℕ} {ms ns : List Macro} {t : P
   pub same-counts : expansion ms m ≡ expansion ns n → SameCount (book_result case b p m work) (book_result case c p n space)
   same-counts e = rw (answer x, answer y, e) (go (total_of (matching_lines (query case t) ns n)) (steps_in x.version (steps (query case t) ms m)) (steps_in y.version (steps (query case t) ns n)) (filled (query case t) ms m work) (filled (query case t) ns n space))
     where
-      go : (z : Total) (k j : ℕ) (v w : List ℕ) → SameCount (finished_by z k v) (finished_by z j w)
-      go (Total.Lines n) k j v w = (refl, refl)
-      go Total.TooMany k j v w = (refl, refl)
+      go : (z : Option ℕ) (k j : ℕ) (v w : List ℕ) → SameCount (finished_by z k v) (finished_by z j w)
+      go (Some n) k j v w = (refl, refl)
+      go None k j v w = (refl, refl)
 
 -- Under a pattern that is refused every sound book is, for the same reason.
 pub pattern-refused : (c : Case) (p : List ℕ) {r : Refusal} → reader.read_pattern p ≡ reader.refused r → (b : List ℕ) {v : ℕ} {ms : List Macro} → Encodes versions b v ms → (m : ℕ) (work : List ℕ) → book_result c b p m work ≡ stopped r work
@@ -156,10 +156,10 @@ module _ (m : ℕ) (work : List ℕ) where
   abbrev Left : Outcome → Type 0
   Left o = 0 < o.refusal → (o.lines ≡ 0) × (o.steps ≡ 0) × ((o.refusal ≡ 12 → ⊥) → o.work ≡ work)
 
-  left-with : (x y : Bool) (z : Total) (k : ℕ) (v : List ℕ) → Left (cond x (cond y (stopped InsufficientSpace work) (finished_by z k v)) (stopped NoSuchMacro work))
+  left-with : (x y : Bool) (z : Option ℕ) (k : ℕ) (v : List ℕ) → Left (cond x (cond y (stopped InsufficientSpace work) (finished_by z k v)) (stopped NoSuchMacro work))
   left-with true true z k v h = (refl, refl, λ e. refl)
-  left-with true false (Total.Lines n) k v h = absurd (omega arith)
-  left-with true false Total.TooMany k v h = (refl, refl, λ e. absurd (e refl))
+  left-with true false (Some n) k v h = absurd (omega arith)
+  left-with true false None k v h = (refl, refl, λ e. absurd (e refl))
   left-with false y z k v h = (refl, refl, λ e. refl)
 
   pub refused-left : (c : Case) (v : ℕ) (g : Reading (List Macro)) (r : reader.Read) → Left (count_result c v g r m work)
@@ -180,8 +180,8 @@ module _ (m : ℕ) (work : List ℕ) where
       rw (count-accepted c v m work ms rest t, count-accepted d v m work ms rest t)
       (go (ltb m (length ms)) (ltb (length work) (needed (query c t) m)) (total_of (matching_lines (query c t) ms m)) (steps_in v (steps (query c t) ms m)) (filled (query c t) ms m work) (count_of v (query d t) ms m work))
     where
-      go : (x y : Bool) (z : Total) (k : ℕ) (v : List ℕ) (o : Outcome) → SameRefusal (cond x (cond y (stopped InsufficientSpace work) (finished_by z k v)) (stopped NoSuchMacro work)) (cond x (cond y (stopped InsufficientSpace work) o) (stopped NoSuchMacro work))
+      go : (x y : Bool) (z : Option ℕ) (k : ℕ) (v : List ℕ) (o : Outcome) → SameRefusal (cond x (cond y (stopped InsufficientSpace work) (finished_by z k v)) (stopped NoSuchMacro work)) (cond x (cond y (stopped InsufficientSpace work) o) (stopped NoSuchMacro work))
       go true true z k v o h e = refl
-      go true false (Total.Lines n) k v o h e = absurd (omega arith)
-      go true false Total.TooMany k v o h e = absurd (e refl)
+      go true false (Some n) k v o h e = absurd (omega arith)
+      go true false None k v o h e = absurd (e refl)
       go false y z k v o h e = refl

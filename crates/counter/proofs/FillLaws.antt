@@ -14,12 +14,11 @@ use Rattle.runs.proofs.KeptLaws.{words-none, words-at, words-stored}
 use Rattle.runs.proofs.CountLaws.{sum-none, sum_more}
 use Rattle.book.specs.declared.item.Item.{Item}
 use Rattle.book.specs.declared.item.Item.TheVariants.{Key, Call}
-use Rattle.book.specs.declared.macro_items.Items.{Items}
 use Rattle.book.specs.Format.{Macro, repeated, well_formed}
 use Rattle.book.specs.Expansion.{expansion}
 use Rattle.book.specs.Reading.{macros_in}
 use Rattle.book.specs.MacroItems.{items_from, decoded}
-use Rattle.book.proofs.MacroItems.{count-few, count_fits, times-fit, items-are}
+use Rattle.book.proofs.MacroItems.{decoded-few, items-are}
 use Rattle.book.proofs.LayoutLaws.{well-in, macros-few}
 use Rattle.book.proofs.Expansion.{expansion-law, expansion-run, well-key, well-call}
 use Rattle.pattern.specs.Meaning.{Query}
@@ -81,8 +80,8 @@ module _ {book offsets : List ℕ} {m : ℕ} {p : Accepting} {before : List ℕ}
   width_fits = omega (arith, g.small)
 
   -- the items of macro i
-  pub items-fit : {items : Items} (i : ℕ) → items ≡ items_from book offsets i → ItemsFit items p
-  items-fit i e = record { few = count-few book offsets i e; there = count_fits book offsets i e; often = times-fit book offsets i e; small = g.small }
+  pub items-fit : (i : ℕ) {items : Macro} → items ≡ decoded (items_from book offsets i) → ItemsFit items p
+  items-fit i e = record { few = rw e (decoded-few book offsets i); small = g.small }
 
 module _ {keys enter : List ℕ} {p : Accepting} {book : List ℕ} {m : ℕ} {before work : List ℕ} {n i : ℕ} (x : FillSoFar keys enter p (macros_in book) m before work n i) where
   module _ {offsets : List ℕ} (g : MacroFits book offsets m p before) (below : i ≤ m) where
@@ -105,7 +104,7 @@ module _ {keys enter : List ℕ} {p : Accepting} {book : List ℕ} {m : ℕ} {be
     steps-fit h = omega (arith, few, x.few, h.few)
 
     -- macro i, whose items are counted
-    module _ {items : Items} (f : items ≡ items_from book offsets i) {a : MacroCount} (h : ItemsCounted keys enter p work (decoded items) a) where
+    module _ {items : Macro} (f : items ≡ decoded (items_from book offsets i)) {a : MacroCount} (h : ItemsCounted keys enter p work items a) where
       pub fill_on : {after : List ℕ} → length after ≡ length work → after ≡ stored_at work (place_of p i) a.report → FillSoFar keys enter p (macros_in book) m before after (n + a.steps) (i + 1)
       fill_on {after} l e =
           record {
@@ -125,8 +124,8 @@ module _ {keys enter : List ℕ} {p : Accepting} {book : List ℕ} {m : ℕ} {be
           well : well_formed ms ≡ true
           well = well-in book g.inside
 
-          its : decoded items ≡ get_or ms i []
-          its = items-are book offsets i g.table (lt_of_le_of_lt below g.inside) f
+          its : items ≡ get_or ms i []
+          its = f ∙ items-are book offsets i g.table (lt_of_le_of_lt below g.inside)
 
           next : (t : Query) → Automaton t keys enter p → work ≡ reports_over t ms i before → a.report ≡ report t (expansion ms i) → after ≡ reports_over t ms (i + 1) before
           next t d j w =

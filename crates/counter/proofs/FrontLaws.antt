@@ -12,27 +12,27 @@ use Rattle.refusal.specs.declared.Refusal.TheVariants.{NoSuchMacro, Insufficient
 use Rattle.book.specs.Format.{Macro}
 use Rattle.book.specs.Reading.{Reading, read_book, macros_in}
 use Rattle.book.specs.Steps.{refused, settled, book_step, space_step, InBook, settled_by}
-use Rattle.book.specs.declared.space.Space.{Space}
+use Rattle.std.specs.Prelude.{Result, Ok, Err}
 use Rattle.book.proofs.StepLaws.{space-refuses, space-settles, space-answer}
 use Rattle.letters.specs.declared.Case.{Case}
 use Rattle.pattern.specs.Form.{Pattern}
 use Rattle.pattern.specs.Meaning.{query}
 use Rattle.pattern.specs.Reader as reader
-use Rattle.pattern.specs.Automata.{VerdictOn, KeysFrom, EnterFrom}
+use Rattle.pattern.specs.Automata.{TablesOn}
 use Rattle.pattern.specs.declared.automaton.Accepting.{Accepting}
-use Rattle.pattern.specs.declared.automaton.Verdict.{Verdict}
+use Rattle.pattern.specs.declared.automaton.Tables.{Tables}
 use Rattle.pattern.proofs.Readings.{read-accepted, read-refused, states-of}
 use Rattle.counter.specs.Front.{pattern_step, front, InPattern}
 use Rattle.counter.specs.Counting.{stopped, count_of, needed, count_result}
 
 -- A pattern, by what `read_pattern` answers.
-pub pattern-refuses : (s : List ℕ) {v : Verdict} {r : Refusal} → VerdictOn s v → v ≡ Verdict.Refused r → pattern_step (reader.read_pattern s) ≡ refused r
-pattern-refuses s figures e = ap pattern_step (read-refused s figures e)
+module _ (c : Case) (s : List ℕ) {v : Result Tables Refusal} (tables : TablesOn c s v) where
+  pub pattern-refuses : {r : Refusal} → v ≡ Err r → pattern_step (reader.read_pattern s) ≡ refused r
+  pattern-refuses e = ap pattern_step (read-refused c s tables e)
 
-module _ (c : Case) (s keys enter keys' enter' : List ℕ) {v : Verdict} (figures : VerdictOn s v) (keyed : KeysFrom c s keys keys') (entered : EnterFrom s enter enter') where
-  pub pattern-in : {p : Accepting} → v ≡ Verdict.Accepted p → InPattern c s keys' enter' p
+  pub pattern-in : {a : Tables} → v ≡ Ok a → InPattern c s a.keys a.enter a.accepting
   pattern-in e =
-      let a = read-accepted c s keys enter keys' enter' figures keyed entered e in
+      let a = read-accepted c s tables e in
       record { tree = a.tree; sound = ap pattern_step a.reading; tables = a.tables; small = omega (arith, states-of a.tables, a.tables.few) }
 
 -- The steps in turn, for one pattern.
@@ -53,16 +53,16 @@ module _ (book : Reading (List Macro)) (pattern : reader.Read) (need : Pattern �
 
 -- A sound book and an accepted pattern: the third step's answer is that of them all.
 module _ {book offsets : List ℕ} {macros : ℕ} (i : InBook book offsets macros) {c : Case} {s keys enter : List ℕ} {p : Accepting} (a : InPattern c s keys enter p) where
-  module _ (need : Pattern → ℕ) (m words : ℕ) (x : Space) (e : settled_by x ≡ space_step macros m (need a.tree) words) where
+  module _ (need : Pattern → ℕ) (m words : ℕ) (x : Result (Unit {0}) Refusal) (e : settled_by x ≡ space_step macros m (need a.tree) words) where
     told : settled_by x ≡ space_step (length (macros_in book)) m (need a.tree) words
     told = rw (← i.many) e
 
-    pub front-refuses : {r : Refusal} → x ≡ Space.Refused r → front (read_book book) (reader.read_pattern s) need m words ≡ refused r
+    pub front-refuses : {r : Refusal} → x ≡ Err r → front (read_book book) (reader.read_pattern s) need m words ≡ refused r
     front-refuses f =
         front-space (read_book book) (reader.read_pattern s) need m words i.sound a.sound
         (space-refuses (length (macros_in book)) m (need a.tree) words x told f)
 
-    pub front-settles : x ≡ Space.Enough → front (read_book book) (reader.read_pattern s) need m words ≡ settled (macros_in book, a.tree)
+    pub front-settles : x ≡ Ok tt → front (read_book book) (reader.read_pattern s) need m words ≡ settled (macros_in book, a.tree)
     front-settles f =
         front-settled (read_book book) (reader.read_pattern s) need m words i.sound a.sound
         (space-settles (length (macros_in book)) m (need a.tree) words x told f)

@@ -17,13 +17,12 @@ use Rattle.runs.proofs.KeptLaws.{times-one, times-run}
 use Rattle.runs.proofs.CountLaws.{sum-none, sum_more, sum-ext}
 use Rattle.book.specs.declared.item.Item.{Item}
 use Rattle.book.specs.declared.item.Item.TheVariants.{Key, Call}
-use Rattle.book.specs.declared.macro_items.Items.{Items}
 use Rattle.book.specs.Format.{repeated, Macro}
 use Rattle.book.specs.declared.item.Repeated.{Repeated}
 use Rattle.book.specs.Expansion.{keys_of, expand, unrolled}
-use Rattle.book.specs.Reading.{item_of}
-use Rattle.book.specs.MacroItems.{decoded}
-use Rattle.book.proofs.MacroItems.{decoded-length, decoded-more, decoded-in}
+use Rattle.std.specs.Prelude.{Some, slice_get}
+use Rattle.std.proofs.lemmas.Option.{slice_get-get_or}
+use Rattle.book.proofs.MacroItems.{item-more, item-in}
 use Rattle.book.proofs.Expansion.{expand-none, expand-more, unrolled-none}
 use Rattle.pattern.specs.Meaning.{Query}
 use Rattle.pattern.specs.Moves.{states}
@@ -124,13 +123,13 @@ abbrev pub KeptAndSteps : Query → (ℕ → List ℕ) → Macro → SpanCount �
 KeptAndSteps t called items a n = (a ≡ span_count t (expand called (unrolled items))) × (is_run (expand called (unrolled items)) ≡ true) × (n ≡ item_steps t called items)
 
 -- All items: after k of them.
-pub record ItemsSoFar (keys enter : List ℕ) (p : Accepting) (work : List ℕ) (items : Items) (a : SpanCount) (n k : ℕ) : Type 0 where
-  pub inside : k ≤ items.count
+pub record ItemsSoFar (keys enter : List ℕ) (p : Accepting) (work : List ℕ) (items : Macro) (a : SpanCount) (n k : ℕ) : Type 0 where
+  pub inside : k ≤ length items
   pub small : a.span.s ≤ 32
   pub few : n ≤ k * 1024
-  pub counts : (t : Query) → Automaton t keys enter p → (called : ℕ → List ℕ) → AllServed t called work (decoded items) → KeptAndSteps t called (take k (decoded items)) a n
+  pub counts : (t : Query) → Automaton t keys enter p → (called : ℕ → List ℕ) → AllServed t called work items → KeptAndSteps t called (take k items) a n
 
-module _ {keys enter : List ℕ} {p : Accepting} {work : List ℕ} {items : Items} (fits : ItemsFit items p) where
+module _ {keys enter : List ℕ} {p : Accepting} {work : List ℕ} {items : Macro} (fits : ItemsFit items p) where
   pub items-start : {a : SpanCount} → a ≡ empty_count p.states → ItemsSoFar keys enter p work items a 0 0
   items-start {a} e =
       record {
@@ -145,43 +144,49 @@ module _ {keys enter : List ℕ} {p : Accepting} {work : List ℕ} {items : Item
 
   module _ {a : SpanCount} {n k : ℕ} (x : ItemsSoFar keys enter p work items a n k) where
     -- their steps are few
-    pub items-room : (y : Span) {s : ℕ} → k < items.count → s ≡ pairs_in y → Fits w64 (n + s)
+    pub items-room : (y : Span) {s : ℕ} → k < length items → s ≡ pairs_in y → Fits w64 (n + s)
     items-room y h f = omega (arith, x.few, fits.few, f, pairs-le y)
 
     -- the item that is next
-    module _ (h : k < items.count) {i : Item} (e : i ≡ item_of (get_or items.codes k 0)) where
-      next : take (k + 1) (decoded items) ≡ take k (decoded items) ++ (repeated i (get_or items.times k 0) ∷ [])
-      next = rw e (decoded-more items k h)
+    module _ (h : k < length items) where
+      abbrev i : Repeated
+      i = get_or items k (repeated (Key 0) 0)
 
-      among : Memᴰ (repeated i (get_or items.times k 0)) (decoded items)
-      among = rw e (decoded-in items k h)
+      there : slice_get items k ≡ Some i
+      there = slice_get-get_or items k (repeated (Key 0) 0) h
 
-      pub items-on : {s : ℕ} {b : SpanCount} → s ≡ pairs_in a.span → AfterPasses keys enter p work a i (get_or items.times k 0) b → ItemsSoFar keys enter p work items b (n + s) (k + 1)
+      next : take (k + 1) items ≡ take k items ++ (i ∷ [])
+      next = item-more items k there
+
+      among : Memᴰ i items
+      among = item-in items k there
+
+      pub items-on : {s : ℕ} {b : SpanCount} → s ≡ pairs_in a.span → AfterPasses keys enter p work a i.item i.times b → ItemsSoFar keys enter p work items b (n + s) (k + 1)
       items-on {s} {b} f g =
           record {
-            inside = omega arith;
+            inside = omega (arith, h);
             small = g.small;
             few = omega (arith, x.few, f, pairs-le a.span);
             counts = λ t d called served.
                 let before = x.counts t d called served in
-                let done = take k (decoded items) in
+                let done = take k items in
                 let w = expand called (unrolled done) in
-                let passes = times (get_or items.times k 0) (keys_of called i) in
-                let this = served (repeated i (get_or items.times k 0)) among in
-                let whole : expand called (unrolled (take (k + 1) (decoded items))) ≡ w ++ passes = ap (λ (l : Macro). expand called (unrolled l)) next ∙ expand-more called done (repeated i (get_or items.times k 0)) in (
+                let passes = times i.times (keys_of called i.item) in
+                let this = served i among in
+                let whole : expand called (unrolled (take (k + 1) items)) ≡ w ++ passes = ap (λ (l : Macro). expand called (unrolled l)) next ∙ expand-more called done i in (
                   g.extends t d called w before.1 this before.0 ∙ ap (span_count t) (sym whole),
-                  rw whole (run-append w passes before.1 (times-run (get_or items.times k 0) (keys_of called i) (run-of-item t called work i this))),
-                  sym (ap (item_steps t called) next ∙ steps-more t called done (repeated i (get_or items.times k 0)) ∙ ap (λ (m : ℕ). m + pairs t w) (sym before.2) ∙ ap (λ (m : ℕ). n + m) (sym (f ∙ ap (λ (r : SpanCount). pairs_in r.span) before.0 ∙ count-pairs t d.few w))),
+                  rw whole (run-append w passes before.1 (times-run i.times (keys_of called i.item) (run-of-item t called work i.item this))),
+                  sym (ap (item_steps t called) next ∙ steps-more t called done i ∙ ap (λ (m : ℕ). m + pairs t w) (sym before.2) ∙ ap (λ (m : ℕ). n + m) (sym (f ∙ ap (λ (r : SpanCount). pairs_in r.span) before.0 ∙ count-pairs t d.few w))),
                 );
           }
 
     -- all items are counted
-    pub items-done : {b : Report} → items.count ≤ k → b ≡ report_of a → ItemsCounted keys enter p work (decoded items) (record { report = b; steps = n })
+    pub items-done : {b : Report} → length items ≤ k → b ≡ report_of a → ItemsCounted keys enter p work items (record { report = b; steps = n })
     items-done h g =
-        let all : take k (decoded items) ≡ decoded items = take_all k (decoded items) (omega (arith, decoded-length items)) in
+        let all : take k items ≡ items = take_all k items h in
         record {
           few = omega (arith, x.few, x.inside, fits.few);
           counts = λ t d called served.
               let r = x.counts t d called served in
-              (g ∙ ap report_of r.0 ∙ report-is t (expand called (unrolled (take k (decoded items)))) ∙ ap (λ (l : Macro). report t (expand called (unrolled l))) all, r.2 ∙ ap (item_steps t called) all);
+              (g ∙ ap report_of r.0 ∙ report-is t (expand called (unrolled (take k items))) ∙ ap (λ (l : Macro). report t (expand called (unrolled l))) all, r.2 ∙ ap (item_steps t called) all);
         }

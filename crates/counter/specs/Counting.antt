@@ -1,5 +1,5 @@
 -- Document 01, "States and steps", "Reports" and "Refused", and document 02, S-8: the count over a book, its steps and its work words.
-use Rattle.std.specs.Prelude.{ℕ, suc, ◌+◌, ◌*◌, cond, List, [], eqb, length, get_or, take}
+use Rattle.std.specs.Prelude.{ℕ, suc, ◌+◌, ◌*◌, cond, List, [], Option, Some, None, eqb, length, get_or, take}
 use Rattle.refusal.specs.declared.Refusal.{Refusal}
 use Rattle.refusal.specs.declared.Refusal.TheVariants.{CountOverflow}
 use Rattle.refusal.specs.Number.{number}
@@ -13,7 +13,6 @@ use Rattle.pattern.specs.Moves.{states}
 use Rattle.pattern.specs.Reader as reader
 use Rattle.lines.specs.Lines.{matching}
 use Rattle.spans.specs.Pairs.{pairs}
-use Rattle.reports.specs.declared.total.Total.{Total}
 use Rattle.reports.specs.Totals.{total_of}
 use Rattle.reports.specs.Reports.{report}
 use Rattle.reports.specs.Words.{behind_rows, report_words}
@@ -86,9 +85,9 @@ abbrev pub matching_lines : Query → List Macro → ℕ → ℕ
 matching_lines t ms m = matching t (expansion ms m)
 
 -- so many lines, with k steps, or 12
-abbrev pub finished_by : Total → ℕ → List ℕ → Outcome
-finished_by (Total.Lines n) k work = finished n k work
-finished_by Total.TooMany k work = stopped CountOverflow work
+abbrev pub finished_by : Option ℕ → ℕ → List ℕ → Outcome
+finished_by (Some n) k work = finished n k work
+finished_by None k work = stopped CountOverflow work
 
 -- 12: "over 2^64 − 1", which "leaves the reports written"
 abbrev pub count_of : ℕ → Query → List Macro → ℕ → List ℕ → Outcome

@@ -5,12 +5,11 @@ use Rattle.runs.specs.Keys.{is_key, is_run}
 use Rattle.runs.specs.Kept.{times}
 use Rattle.book.specs.declared.item.Item.{Item}
 use Rattle.book.specs.declared.item.Item.TheVariants.{Key, Call}
-use Rattle.book.specs.declared.macro_items.Items.{Items}
 use Rattle.book.specs.Format.{Macro}
 use Rattle.book.specs.declared.item.Repeated.{Repeated}
 use Rattle.book.specs.Expansion.{keys_of, expand, unrolled}
 use Rattle.book.specs.Reading.{macros_in}
-use Rattle.book.specs.Answer.{layout}
+use Rattle.book.specs.Answer.{offsets_in}
 use Rattle.pattern.specs.Meaning.{Query}
 use Rattle.pattern.specs.Moves.{states}
 use Rattle.pattern.specs.Automata.{Automaton}
@@ -18,7 +17,9 @@ use Rattle.pattern.specs.declared.automaton.Accepting.{Accepting}
 use Rattle.reports.specs.declared.span_count.SpanCount.{SpanCount}
 use Rattle.reports.specs.Reports.{span_count, report}
 use Rattle.reports.specs.Words.{behind_rows, loaded_at}
-use Rattle.counter.specs.declared.counting.BookCount.{BookCount}
+use Rattle.std.specs.Prelude.{Result}
+use Rattle.refusal.specs.declared.Refusal.{Refusal}
+use Rattle.counter.specs.declared.counting.Count.{Count}
 use Rattle.counter.specs.declared.items.MacroCount.{MacroCount}
 use Rattle.counter.specs.Counting.{item_steps, steps, filled, count_of}
 use Rattle.counter.specs.Answers.{outcome}
@@ -46,10 +47,8 @@ abbrev pub AfterPasses : List ℕ → List ℕ → Accepting → List ℕ → Sp
 AfterPasses keys enter p work a item n b = After keys enter p work a item (λ called. times n (keys_of called item)) b
 
 -- items and states within the limits of the code
-pub record ItemsFit (items : Items) (p : Accepting) : Type 0 where
-  pub few : items.count ≤ 64
-  pub there : items.count ≤ length items.codes
-  pub often : items.count ≤ length items.times
+pub record ItemsFit (items : Macro) (p : Accepting) : Type 0 where
+  pub few : length items ≤ 64
   pub small : p.states ≤ 32
 
 -- the place of macro i's report in the work words
@@ -63,7 +62,7 @@ pub record ItemsCounted (keys enter : List ℕ) (p : Accepting) (work : List ℕ
 
 -- macro m of a sound book whose layout has these offsets, with room for the reports of macros 0 to m
 pub record MacroFits (book offsets : List ℕ) (m : ℕ) (p : Accepting) (work : List ℕ) : Type 0 where
-  pub table : offsets ≡ (layout book).offsets
+  pub table : offsets ≡ offsets_in book
   pub inside : m < length (macros_in book)
   pub small : p.states ≤ 32
   pub room : suc m * (p.states + behind_rows) ≤ length work
@@ -74,5 +73,5 @@ pub record Filled (keys enter : List ℕ) (p : Accepting) (ms : List Macro) (m :
   pub counts : (t : Query) → Automaton t keys enter p → (after ≡ filled t ms m before) × (n ≡ steps t ms m)
 
 -- the count of macro m, where the work words suffice
-unfoldable pub BookCounted : ℕ → List ℕ → List ℕ → Accepting → List Macro → ℕ → List ℕ → List ℕ → BookCount → Type 0
+unfoldable pub BookCounted : ℕ → List ℕ → List ℕ → Accepting → List Macro → ℕ → List ℕ → List ℕ → Result Count Refusal → Type 0
 BookCounted version keys enter p ms m before after r = (t : Query) → Automaton t keys enter p → outcome r after ≡ count_of version t ms m before

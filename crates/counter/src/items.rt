@@ -1,10 +1,9 @@
 // The report of a macro's items, one after another.
 ghost use Rattle.std.specs.Prelude.{◌≤◌};
-ghost use Rattle.book.specs.MacroItems.{decoded};
 ghost use Rattle.counter.specs.Promises.{AfterItem, AfterPasses, ItemsCounted, ItemsFit};
 
-use book::{Item, Items, item_of};
-use pattern::Accepting;
+use book::{Item, Repeated};
+use pattern::Tables;
 use reports::{
     BEHIND_ROWS, Report, SpanCount, empty_count, extended, in_report, joined, load, repeated,
     report_of,
@@ -18,27 +17,13 @@ pub(crate) struct MacroCount {
     pub(crate) steps: u64,
 }
 
-// An item of a macro, and how often it stands there.
-#[derive(Clone, Copy)]
-struct Repeated {
-    item: Item,
-    times: u16,
-}
-
 // A run with one item more, once; a called macro's report stands in the work words.
-fn after_item(
-    a: SpanCount,
-    item: Item,
-    work: &[u64],
-    keys: &[u64; 256],
-    enter: &[u64; 32],
-    p: Accepting,
-) -> SpanCount
+fn after_item(a: SpanCount, item: Item, work: &[u64], tables: &Tables) -> SpanCount
     requires { a.span.s ≤ 32 }
-    ensures { AfterItem keys.now enter.now p work.now a item result }
+    ensures { AfterItem tables.now.keys tables.now.enter tables.now.accepting work.now a item result }
 {
     match item {
-        Item::Key(k) => extended(a, k, keys, enter, p),
+        Item::Key(k) => extended(a, k, tables),
         Item::Call(j) => {
             let s = a.span.s;
             let at = j as usize * (s as usize + BEHIND_ROWS);
@@ -49,52 +34,31 @@ fn after_item(
 }
 
 // A run with one item more, as often as it stands there: once as ever, else one pass of it, repeated.
-fn after_passes(
-    a: SpanCount,
-    next: Repeated,
-    work: &[u64],
-    keys: &[u64; 256],
-    enter: &[u64; 32],
-    p: Accepting,
-) -> SpanCount
+fn after_passes(a: SpanCount, next: Repeated, work: &[u64], tables: &Tables) -> SpanCount
     requires { a.span.s ≤ 32 }
-    ensures { AfterPasses keys.now enter.now p work.now a next.item next.times result }
+    ensures { AfterPasses tables.now.keys tables.now.enter tables.now.accepting work.now a next.item next.times result }
 {
-    let item = next.item;
     if next.times == 1 {
-        return after_item(a, item, work, keys, enter, p);
+        return after_item(a, next.item, work, tables);
     }
     let none = empty_count(a.span.s);
-    let pass = after_item(none, item, work, keys, enter, p);
+    let pass = after_item(none, next.item, work, tables);
     joined(a, repeated(pass, next.times))
 }
 
 // All items of a macro.
-pub(crate) fn items_report(
-    items: Items,
-    work: &[u64],
-    keys: &[u64; 256],
-    enter: &[u64; 32],
-    p: Accepting,
-) -> MacroCount
-    requires { ItemsFit items p }
-    ensures { ItemsCounted keys.now enter.now p work.now (decoded items) result }
+pub(crate) fn items_report(items: &[Repeated], work: &[u64], tables: &Tables) -> MacroCount
+    requires { ItemsFit items.now tables.now.accepting }
+    ensures { ItemsCounted tables.now.keys tables.now.enter tables.now.accepting work.now items.now result }
 {
-    let codes = items.codes;
-    let times = items.times;
-    let count = items.count;
-    let mut kept = empty_count(p.states as u64);
+    let mut kept = empty_count(tables.accepting.states as u64);
     let mut steps = 0;
-    let mut k = 0;
-    while k < count {
+    for next in items {
         steps += pairs_in(kept.span);
-        let next = Repeated {
-            item: item_of(codes[k]),
-            times: times[k],
-        };
-        kept = after_passes(kept, next, work, keys, enter, p);
-        k += 1;
+        kept = after_passes(kept, *next, work, tables);
     }
-    let report = report_of(kept);
-    MacroCount { report, steps }
+    MacroCount {
+        report: report_of(kept),
+        steps,
+    }
 }

@@ -4,10 +4,10 @@
 mod counting;
 mod items;
 
-pub use book::{Checked, body, check};
-pub use counting::{BookCount, MOST_WORDS, count_book};
+pub use book::{body, check};
+pub use counting::{Count, MOST_WORDS, count_book};
 pub use letters::Case;
-pub use lines::{LineTest, RunCount, count_run, test_line};
-pub use pattern::{Accepting, Verdict, read_pattern};
-pub use reach::{Reached, reach_list};
-pub use reports::{Joined, Report, join};
+pub use lines::{count_run, test_line};
+pub use pattern::{Accepting, Tables, read_pattern};
+pub use reach::reach_list;
+pub use reports::{Report, join};

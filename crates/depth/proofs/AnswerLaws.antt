@@ -6,30 +6,29 @@ use mathlib.Core.Bool.{Bool, true, false, ◌||◌}
 use mathlib.Core.List.{List}
 use lib.Dec.{eqb}
 use lib.ListN.{length, drop}
-use lib.IntN.{ℤ, sub_ℕ}
+use lib.IntN.{pos, sub_ℕ, ◌-ℤ◌}
 use mir.Syntax.{w64}
-use mir.Val.{to_z, of_z}
+use mir.Val.{SFits, to_z, of_z}
 use borrow.Author.Tests.{lt-leb}
 use Rattle.refusal.specs.declared.Refusal.{Refusal}
 use Rattle.refusal.specs.declared.Refusal.TheVariants.{InvalidDelimiters, RunTooLong}
 use Rattle.runs.proofs.KeptLaws.{words-at}
 use Rattle.runs.proofs.Tests.{neither}
-use Rattle.book.specs.declared.layout.Checked.{Checked}
-use Rattle.book.specs.declared.layout.Layout.{Layout}
-use Rattle.book.specs.declared.space.Space.{Space}
+use Rattle.std.specs.Prelude.{Result, Ok, Err}
+use Rattle.book.specs.declared.layout.Book.{Book}
 use Rattle.book.specs.Format.{Macro}
 use Rattle.book.specs.Expansion.{expansion}
 use Rattle.book.specs.Reading.{Reading, read_book, macros_in}
-use Rattle.book.specs.Answer.{layout_figures, book_layout}
-use Rattle.book.specs.Steps.{settled, space_step, InBook, settled_by}
-use Rattle.book.proofs.StepLaws.{book-refuses, book-in, space-refuses, space-settles, space-inside, space-room}
-use Rattle.depth.specs.declared.reporting.DepthReport.{DepthReport}
+use Rattle.book.specs.Answer.{check_result, offsets_in, opened_figures}
+use Rattle.book.specs.Steps.{Settled, settled, answer_by, space_step, InBook, settled_by}
+use Rattle.book.proofs.StepLaws.{book-refuses, book-in, space-inside, space-room}
+use Rattle.depth.specs.declared.reporting.Depths.{Depths}
 use Rattle.depth.specs.declared.unmatched.Delimiters.{Delimiters}
 use Rattle.depth.specs.declared.unmatched.Unmatched.{Unmatched}
 use Rattle.depth.specs.Depths.{depth_after, lowest_depth}
 use Rattle.depth.specs.Answer.{longest, is_short, width, macro_words, filled, depths_of, no_delimiter, delimiter_step, depth_result, stopped, finished, outcome}
 use Rattle.depth.specs.Promises.{unmatched_in, too_long, loaded_at, BookFits, MacroDepths}
-use Rattle.depth.proofs.CodeLaws.{bits_back}
+use Rattle.depth.proofs.CodeLaws.{signed-back, signed-fits}
 use Rattle.depth.proofs.UnmatchedLaws.{run_short, run_long, run-loaded, run_small, words-wide, end-openings, lowest-closings}
 
 -- what is kept tells whether a run is short
@@ -71,26 +70,36 @@ module _ {keys : Delimiters} {b offsets : List ℕ} {m : ℕ} {before : List ℕ
       let there = words-at W width (λ i. words-wide keys.opening keys.closing (expansion ms i)) (suc m) m (omega arith) (drop (suc m * width) before) in
       l ∙ run-loaded keys.opening keys.closing (expansion ms m) after there.0 (m * width) (ap (drop (m * width)) f ∙ there.1)
 
-  pub closings-fit : run.closings ≤ longest
+  closings-fit : run.closings ≤ longest
   closings-fit = rw run_is (run_small keys.opening keys.closing (expansion ms m)).0
 
-  pub openings-fit : run.openings ≤ longest
+  openings-fit : run.openings ≤ longest
   openings-fit = rw run_is (run_small keys.opening keys.closing (expansion ms m)).1
 
-  pub macro-long : longest < run.length → MacroDepths keys ms m before after (DepthReport.Refused RunTooLong)
+  pub closings-cast : SFits w64 (pos run.closings)
+  closings-cast = record { sfits = omega (arith, closings-fit) }
+
+  pub openings-cast : SFits w64 (pos run.openings)
+  openings-cast = record { sfits = omega (arith, openings-fit) }
+
+  pub end-fits : SFits w64 (to_z w64 run.openings -ℤ to_z w64 run.closings)
+  end-fits = signed-fits run.openings run.closings openings-fit closings-fit
+
+  pub lowest-fits : SFits w64 (to_z w64 0 -ℤ to_z w64 run.closings)
+  lowest-fits = signed-fits 0 run.closings (omega arith) closings-fit
+
+  pub macro-long : longest < run.length → MacroDepths keys ms m before after (Err RunTooLong)
   unfolding depths_of
   macro-long h = rw (kept-long keys.opening keys.closing (expansion ms m) run_is h, f) refl
 
-  pub macro-depths : run.length ≤ longest → {end lowest : ℤ} → end ≡ sub_ℕ run.openings run.closings → lowest ≡ sub_ℕ 0 run.closings
-      → finished (to_z w64 (of_z w64 end)) (to_z w64 (of_z w64 lowest)) after ≡ depths_of keys.opening keys.closing (expansion ms m) (filled keys.opening keys.closing ms m before)
+  pub macro-depths : run.length ≤ longest
+      → finished (to_z w64 (of_z w64 (to_z w64 run.openings -ℤ to_z w64 run.closings))) (to_z w64 (of_z w64 (to_z w64 0 -ℤ to_z w64 run.closings))) after
+      ≡ depths_of keys.opening keys.closing (expansion ms m) (filled keys.opening keys.closing ms m before)
   unfolding depths_of
-  macro-depths h {end} {lowest} e z =
-      let back = bits_back run.openings run.closings openings-fit closings-fit e ∙ kept-end keys.opening keys.closing (expansion ms m) run_is h in
-      let low = bits_back 0 run.closings (omega arith) closings-fit z ∙ kept-lowest keys.opening keys.closing (expansion ms m) run_is h in
-      rw (kept-short keys.opening keys.closing (expansion ms m) run_is h, f) (told back low)
-    where
-      told : {x y u v : ℤ} {w : List ℕ} → x ≡ y → u ≡ v → finished x u w ≡ finished y v w
-      told p q = rw (p, q) refl
+  macro-depths h =
+      let end = signed-back run.openings run.closings openings-fit closings-fit ∙ kept-end keys.opening keys.closing (expansion ms m) run_is h in
+      let lowest = signed-back 0 run.closings (omega arith) closings-fit ∙ kept-lowest keys.opening keys.closing (expansion ms m) run_is h in
+      rw (kept-short keys.opening keys.closing (expansion ms m) run_is h, f, end, lowest) refl
 
 -- The steps before.
 module _ (opening closing : ℕ) {t : Bool} (d : t ≡ eqb opening closing || (no_delimiter opening || no_delimiter closing)) where
@@ -106,33 +115,33 @@ module _ (opening closing : ℕ) {t : Bool} (d : t ≡ eqb opening closing || (n
     apart : eqb opening closing ≡ false
     apart = (neither (eqb opening closing) (no_delimiter opening || no_delimiter closing) (sym d ∙ e)).0
 
-    module _ (book : List ℕ) (l : Layout) (g : layout_figures l ≡ book_layout book) (m : ℕ) (before : List ℕ) where
-      pub book-refused : {r : Refusal} → l.answer ≡ Checked.Refused r → stopped r before ≡ depth_result opening closing (read_book book) m before
+    module _ (book : List ℕ) (m : ℕ) (before : List ℕ) where
+      pub book-refused : (r : Refusal) → opened_figures (Err r) ≡ check_result (read_book book) → stopped r before ≡ depth_result opening closing (read_book book) m before
       unfolding depth_result
-      book-refused h = rw (allowed, book-refuses book l g h) refl
+      book-refused r g = rw (allowed, book-refuses book g) refl
 
-      module _ {n : ℕ} (h : l.answer ≡ Checked.Sound n) (x : Space) (s : settled_by x ≡ space_step n m (suc m * width) (length before)) where
-        sound : InBook book l.offsets n
-        sound = book-in book l g h
+      module _ (k : Book) (g : opened_figures (Ok k) ≡ check_result (read_book book)) where
+        sound : {o : List ℕ} → o ≡ offsets_in book → InBook book o k.macros
+        sound t = book-in book k g t
 
-        told : settled_by x ≡ space_step (length (macros_in book)) m (suc m * width) (length before)
-        told = rw (← sound.many) s
-
-        pub space-refused : {r : Refusal} → x ≡ Space.Refused r → stopped r before ≡ depth_result opening closing (read_book book) m before
+        stepped : (s : Settled (Unit {0})) → s ≡ space_step k.macros m (suc m * width) (length before)
+            → depth_result opening closing (read_book book) m before ≡ answer_by (λ r. stopped r before) (λ (u : Unit {0}). depths_of opening closing (expansion (macros_in book) m) (filled opening closing (macros_in book) m before)) s
         unfolding depth_result
-        space-refused f = rw (allowed, sound.sound, space-refuses (length (macros_in book)) m (suc m * width) (length before) x told f) refl
+        stepped (Settled.refused r) f = rw (allowed, (sound refl).sound, ← (sound refl).many, ← f) refl
+        stepped (settled u) f = rw (allowed, (sound refl).sound, ← (sound refl).many, ← f) refl
 
-        module _ (f : x ≡ Space.Enough) where
-          pub book-fits : BookFits (record { opening = opening; closing = closing }) book l.offsets m before
-          book-fits =
-              let inside : m < n = space-inside n m (suc m * width) (length before) x s f in
+        pub space-refused : (r : Refusal) → settled_by (Err r) ≡ space_step k.macros m (suc m * width) (length before) → stopped r before ≡ depth_result opening closing (read_book book) m before
+        space-refused r f = sym (stepped _ f)
+
+        module _ (f : settled_by (Ok tt) ≡ space_step k.macros m (suc m * width) (length before)) where
+          pub book-fits : {o : List ℕ} → o ≡ offsets_in book → BookFits (record { opening = opening; closing = closing }) book o m before
+          book-fits t =
               record {
-                table = sound.table;
-                inside = omega (arith, sound.many);
+                table = t;
+                inside = omega (arith, space-inside k.macros m (suc m * width) (length before) (Ok tt) f refl, (sound t).many);
                 apart = apart;
-                room = space-room n m (suc m * width) (length before) x s f;
+                room = space-room k.macros m (suc m * width) (length before) (Ok tt) f refl;
               }
 
-          pub depth-done : (after : List ℕ) (r : DepthReport) → MacroDepths (record { opening = opening; closing = closing }) (macros_in book) m before after r → outcome r after ≡ depth_result opening closing (read_book book) m before
-          unfolding depth_result
-          depth-done after r w = rw (allowed, sound.sound, space-settles (length (macros_in book)) m (suc m * width) (length before) x told f) w
+          pub depth-done : (after : List ℕ) (r : Result Depths Refusal) → MacroDepths (record { opening = opening; closing = closing }) (macros_in book) m before after r → outcome r after ≡ depth_result opening closing (read_book book) m before
+          depth-done after r w = w ∙ sym (stepped _ f)

@@ -1,23 +1,25 @@
 -- A book's macros in turn: the items of one, and the words of all.
 use Prim.Native.Nat.{ℕ, suc, ◌+◌, ◌*◌, ◌<◌, ◌≤◌}
 use native.Mathlib.Omega.{arith}
-use mathlib.Core.Path.{◌≡◌, refl, sym, ap, ◌∙◌}
+use mathlib.Core.Path.{◌≡◌, sym, ap, subst, ◌∙◌}
 use mathlib.Core.Bool.{true}
 use mathlib.Core.List.{List, [], ◌++◌, Memᴰ}
-use lib.ListN.{length, get_or, take, drop, length-append, length-take, length-drop}
-use mir.Val.{Fits}
-use mir.Syntax.{w64}
+use lib.ListN.{length, get_or, take, drop, length-append}
+use lib.Seq.{take_all}
 use Rattle.runs.specs.Kept.{first_words, times, words_over}
-use Rattle.runs.proofs.KeptLaws.{words-none, words-length, words-at, words-stored}
+use Rattle.runs.proofs.KeptLaws.{words-length, words-at, words-stored}
 use Rattle.book.specs.declared.item.Item.{Item}
 use Rattle.book.specs.declared.item.Item.TheVariants.{Key, Call}
 use Rattle.book.specs.declared.macro_items.Items.{Items}
 use Rattle.book.specs.Format.{Macro, repeated, well_formed}
 use Rattle.book.specs.Expansion.{keys_of, expand, unrolled, expansion}
-use Rattle.book.specs.Reading.{item_of, macros_in}
+use Rattle.book.specs.Reading.{macros_in}
+use Rattle.std.specs.Prelude.{Some, slice_get}
+use Rattle.std.proofs.lemmas.Option.{slice_get-get_or}
+use Rattle.book.specs.declared.item.Repeated.{Repeated}
 use Rattle.book.specs.MacroItems.{items_from, decoded}
-use Rattle.book.proofs.MacroItems.{count-few, items-all, items_more, item-among}
-use Rattle.book.proofs.LayoutLaws.{well-in, macros-few}
+use Rattle.book.proofs.MacroItems.{item-in, item-more, items-are}
+use Rattle.book.proofs.LayoutLaws.{well-in}
 use Rattle.book.proofs.Expansion.{well-call, well-times, unrolled-none, expand-none, expand-more, expansion-law}
 use Rattle.depth.specs.declared.unmatched.Delimiters.{Delimiters}
 use Rattle.depth.specs.declared.unmatched.Unmatched.{Unmatched}
@@ -36,30 +38,23 @@ module _ (keys : Delimiters) (ms : List Macro) where
   abbrev kept : List ℕ → Unmatched
   kept w = unmatched_in keys.opening keys.closing w
 
+  -- of some items
+  abbrev pub kept_items : Macro → Unmatched
+  kept_items is = kept (expand (λ j. expansion ms j) (unrolled is))
+
+  pub items-none : record { length = 0; closings = 0; openings = 0 } ≡ kept_items []
+  items-none = sym (run_none keys.opening keys.closing) ∙ ap kept (sym (ap (expand (λ j. expansion ms j)) unrolled-none ∙ expand-none (λ j. expansion ms j)))
+
+  pub all-sized : {all : Unmatched} (is : Macro) → all ≡ kept_items is → Sized all
+  all-sized is e = rw e (run-sized keys.opening keys.closing (expand (λ j. expansion ms j) (unrolled is)))
+
 -- The items of macro i.
-pub record ItemsSoFar (keys : Delimiters) (ms : List Macro) (items : Items) (all : Unmatched) (k : ℕ) : Type 0 where
-  pub inside : k ≤ items.count
-  pub so_far : all ≡ unmatched_in keys.opening keys.closing (expand (λ j. expansion ms j) (unrolled (take k (decoded items))))
-
-pub items-start : (keys : Delimiters) (ms : List Macro) (items : Items) → ItemsSoFar keys ms items (record { length = 0; closings = 0; openings = 0 }) 0
-items-start keys ms items =
-    record {
-      inside = omega arith;
-      so_far = sym (run_none keys.opening keys.closing) ∙ ap (unmatched_in keys.opening keys.closing) (sym (ap (expand (λ j. expansion ms j)) unrolled-none ∙ expand-none (λ j. expansion ms j)));
-    }
-
-module _ {keys : Delimiters} {b offsets : List ℕ} {i : ℕ} {work : List ℕ} (x : MacroAt keys b offsets i work) {items : Items} (e : items ≡ items_from b offsets i) where
+module _ {keys : Delimiters} {b offsets : List ℕ} {i : ℕ} {work : List ℕ} (x : MacroAt keys b offsets i work) where
   abbrev ms : List Macro
   ms = macros_in b
 
   well : well_formed ms ≡ true
   well = well-in b x.inside
-
-  pub item-few : (k : ℕ) → k < items.count → k < 64
-  item-few k h = omega (arith, count-few b offsets i e)
-
-  pub item-place : (k : ℕ) → k < items.count → Fits w64 (k * 2)
-  item-place k h = omega (arith, item-few k h)
 
   -- an item's keys: a key itself, or the run of a lower macro, whose words stand in front
   abbrev keys_at : Item → List ℕ
@@ -83,86 +78,65 @@ module _ {keys : Delimiters} {b offsets : List ℕ} {i : ℕ} {work : List ℕ} 
   item-run (Key k) n m = sym (run-key keys.opening keys.closing x.apart k)
   item-run (Call j) n m = lower-run j (well-call ms well i m)
 
-  module _ {all : Unmatched} {k : ℕ} (s : ItemsSoFar keys ms items all k) where
-    pub all-sized : Sized all
-    all-sized = rw s.so_far (run-sized keys.opening keys.closing (expand (λ j. expansion ms j) (unrolled (take k (decoded items)))))
+  -- in turn
+  module _ {read : Items} (e : read ≡ items_from b offsets i) {items : Macro} (f : items ≡ decoded read) where
+    items-is : items ≡ get_or ms i []
+    items-is = f ∙ ap decoded e ∙ items-are b offsets i x.table x.inside
 
-    module _ (h : k < items.count) {item : Item} (f : item ≡ item_of (get_or items.codes k 0)) where
-      among : Memᴰ (repeated item (get_or items.times k 0)) (get_or ms i [])
-      among = item-among b offsets i x.table x.inside e k h f
+    pub items-done : {all : Unmatched} {k : ℕ} → length items ≤ k → all ≡ kept_items keys ms (take k items) → all ≡ kept keys ms (expansion ms i)
+    items-done {all} {k} h s = s ∙ ap (kept_items keys ms) (take_all k items h ∙ items-is) ∙ ap (kept keys ms) (sym (expansion-law ms well i))
 
-      pub item-ready : InWords work item
-      item-ready = ready item (get_or items.times k 0) among
+    module _ {k : ℕ} (h : k < length items) where
+      abbrev next : Repeated
+      next = get_or items k (repeated (Key 0) 0)
 
-      pub item-stands : 1 ≤ get_or items.times k 0
+      there : slice_get items k ≡ Some next
+      there = slice_get-get_or items k (repeated (Key 0) 0) h
+
+      among : Memᴰ (repeated next.item next.times) (get_or ms i [])
+      among = subst (Memᴰ next) items-is (item-in items k there)
+
+      pub item-ready : InWords work next.item
+      item-ready = ready next.item next.times among
+
+      pub item-stands : 1 ≤ next.times
       item-stands = well-times ms well i among
 
-      module _ {this : Unmatched} (g : this ≡ item_unmatched keys work item) where
-        this-run : this ≡ kept keys ms (keys_at item)
-        this-run = g ∙ item-run item (get_or items.times k 0) among
+      module _ {this : Unmatched} (g : this ≡ item_unmatched keys work next.item) where
+        this-run : this ≡ kept keys ms (keys_at next.item)
+        this-run = g ∙ item-run next.item next.times among
 
         pub this-sized : Sized this
-        this-sized = rw this-run (run-sized keys.opening keys.closing (keys_at item))
+        this-sized = rw this-run (run-sized keys.opening keys.closing (keys_at next.item))
 
-        module _ {passes : Unmatched} (p : passes ≡ times_unmatched (get_or items.times k 0) this) where
-          abbrev keys_there : List ℕ
-          keys_there = times (get_or items.times k 0) (keys_at item)
-
-          passes-run : passes ≡ kept keys ms keys_there
-          passes-run = p ∙ ap (times_unmatched (get_or items.times k 0)) this-run ∙ run-times keys.opening keys.closing (keys_at item) (get_or items.times k 0) item-stands
+        module _ {passes : Unmatched} (p : passes ≡ times_unmatched next.times this) where
+          passes-run : passes ≡ kept keys ms (times next.times (keys_at next.item))
+          passes-run = p ∙ ap (times_unmatched next.times) this-run ∙ run-times keys.opening keys.closing (keys_at next.item) next.times item-stands
 
           pub passes-sized : Sized passes
-          passes-sized = rw passes-run (run-sized keys.opening keys.closing keys_there)
+          passes-sized = rw passes-run (run-sized keys.opening keys.closing (times next.times (keys_at next.item)))
 
-          pub items-on : {both : Unmatched} → both ≡ followed all passes → ItemsSoFar keys ms items both (k + 1)
-          items-on {both} l =
-              let done = take k (decoded items) in
-              let w = expand (λ j. expansion ms j) (unrolled done) in
-              let more : expand (λ j. expansion ms j) (unrolled (take (k + 1) (decoded items))) ≡ w ++ keys_there = ap (λ (is : Macro). expand (λ j. expansion ms j) (unrolled is)) (items_more b offsets i x.table x.inside e k h f) ∙ expand-more (λ j. expansion ms j) done (repeated item (get_or items.times k 0)) in
-              record {
-                inside = omega arith;
-                so_far = l ∙ ap (λ (u : Unmatched). followed u passes) s.so_far ∙ ap (followed (kept keys ms w)) passes-run ∙ sym (run-append keys.opening keys.closing w keys_there) ∙ ap (kept keys ms) (sym more);
-              }
+          pub items-on : {all both : Unmatched} → all ≡ kept_items keys ms (take k items) → both ≡ followed all passes → both ≡ kept_items keys ms (take (k + 1) items)
+          items-on {all} {both} s l =
+              let w = expand (λ j. expansion ms j) (unrolled (take k items)) in
+              l
+              ∙ ap (λ (u : Unmatched). followed u passes) s
+              ∙ ap (followed (kept keys ms w)) passes-run
+              ∙ sym (run-append keys.opening keys.closing w (times next.times (keys_at next.item)))
+              ∙ ap (kept keys ms) (sym (expand-more (λ j. expansion ms j) (take k items) next))
+              ∙ ap (kept_items keys ms) (sym (item-more items k there))
 
-    pub items-done : items.count ≤ k → all ≡ unmatched_in keys.opening keys.closing (expansion ms i)
-    items-done h = s.so_far ∙ ap (kept keys ms) (ap (λ (is : Macro). expand (λ j. expansion ms j) (unrolled is)) (items-all b offsets i x.table x.inside e k h) ∙ sym (expansion-law ms well i))
+-- The words of macros 0 to m, where those of the first i stand over the front of the work words.
+module _ {keys : Delimiters} {b offsets : List ℕ} {m : ℕ} {before : List ℕ} (g : BookFits keys b offsets m before) {i : ℕ} (h : i ≤ m) {work : List ℕ} (s : work ≡ words_over (W keys (macros_in b)) width i before) where
+  pub macro-at : MacroAt keys b offsets i work
+  macro-at = record { table = g.table; inside = omega (arith, g.inside); apart = g.apart; behind = drop (i * width) before; below = s }
 
--- The words of macros 0 to m.
+  -- one macro more, and the last one
+  module _ {u : Unmatched} {after : List ℕ} (e : u ≡ kept keys (macros_in b) (expansion (macros_in b) i)) (f : after ≡ stored_at work (i * width) u) where
+    pub fill-on : after ≡ words_over (W keys (macros_in b)) width (i + 1) before
+    fill-on =
+        words-stored (W keys (macros_in b)) width (wide keys (macros_in b)) i before work after s
+        (f ∙ ap (λ (v : List ℕ). take (i * width) work ++ (v ++ drop (i * width + width) work)) (ap words_of e ∙ run-words keys.opening keys.closing (expansion (macros_in b) i)))
 
-stored-long : (work : List ℕ) (at : ℕ) (u : Unmatched) → at + width ≤ length work → length (stored_at work at u) ≡ length work
-stored-long work at u h = rw (length-append (take at work) (words_of u ++ drop (at + width) work), length-append (words_of u) (drop (at + width) work), length-take at work, length-drop (at + width) work) (omega arith)
-
-pub record FillSoFar (keys : Delimiters) (b : List ℕ) (m : ℕ) (before work : List ℕ) (i : ℕ) : Type 0 where
-  pub inside : i ≤ suc m
-  pub long : length work ≡ length before
-  pub stored : work ≡ words_over (macro_words keys.opening keys.closing (macros_in b)) width i before
-
-pub fill_start : (keys : Delimiters) (b : List ℕ) (m : ℕ) (before : List ℕ) → FillSoFar keys b m before before 0
-fill_start keys b m before = record { inside = omega arith; long = refl; stored = rw (words-none (W keys (macros_in b))) refl }
-
-module _ {keys : Delimiters} {b : List ℕ} {m : ℕ} {before work : List ℕ} {i : ℕ} (s : FillSoFar keys b m before work i) where
-  pub fill_done : m < i → work ≡ filled keys.opening keys.closing (macros_in b) m before
-  fill_done h = let all : i ≡ suc m = omega (arith, s.inside) in rw all at s.stored
-
-  module _ {offsets : List ℕ} (g : BookFits keys b offsets m before) (h : i ≤ m) where
-    pub macro-at : MacroAt keys b offsets i work
-    macro-at = record { table = g.table; inside = omega (arith, g.inside); apart = g.apart; behind = drop (i * width) before; below = s.stored }
-
-    pub fill-room : i * width + width ≤ length work
-    fill-room = omega (arith, g.room, s.long)
-
-    pub place-fits : Fits w64 (i * 3)
-    place-fits = omega (arith, g.inside, macros-few b)
-
-    pub next_fits : Fits w64 (i + 1)
-    next_fits = omega (arith, g.inside, macros-few b)
-
-    pub fill_on : {u : Unmatched} {after : List ℕ} → u ≡ unmatched_in keys.opening keys.closing (expansion (macros_in b) i) → after ≡ stored_at work (i * width) u → FillSoFar keys b m before after (i + 1)
-    fill_on {u} {after} e f =
-        let words : words_of u ≡ W keys (macros_in b) i = ap words_of e ∙ run-words keys.opening keys.closing (expansion (macros_in b) i) in
-        record {
-          inside = omega arith;
-          long = ap length f ∙ stored-long work (i * width) u fill-room ∙ s.long;
-          stored = words-stored (W keys (macros_in b)) width (wide keys (macros_in b)) i before work after s.stored
-              (f ∙ ap (λ (v : List ℕ). take (i * width) work ++ (v ++ drop (i * width + width) work)) words);
-        }
+    pub fill-last : m ≤ i → after ≡ filled keys.opening keys.closing (macros_in b) m before
+    fill-last l = let all : i + 1 ≡ suc m = omega arith in rw all at fill-on

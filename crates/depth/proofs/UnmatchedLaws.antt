@@ -1,15 +1,15 @@
 -- Laws of what is kept of a run: it tells the depths, it is joined as runs follow each other, and it comes back from its words.
-use Prim.Native.Nat.{ℕ, zero, suc, ◌+◌, ◌-◌, ◌*◌, ◌^◌, ◌<◌, ◌≤◌}
+use Prim.Native.Nat.{ℕ, zero, suc, ◌+◌, ◌-◌, ◌*◌, ◌^◌, ◌%◌, ◌<◌, ◌≤◌}
 use native.Mathlib.Omega.{arith}
 use mathlib.Core.Path.{◌≡◌, refl, sym, ap, ◌∙◌}
 use mathlib.Core.Bool.{Bool, true, false, cond}
 use mathlib.Core.List.{List, [], ◌∷◌, ◌++◌}
-use lib.Dec.{eqb, leb}
+use lib.Dec.{eqb}
 use lib.ListN.{length, get_or, take, drop, length-append}
 use lib.Seq.{take-length, get_or-drop}
 use lib.IntN.{ℤ, pos, sub_ℕ, nat_abs, ◌+ℤ◌}
 use lib.Signed.{le_z}
-use borrow.Author.Tests.{le-leb, lt-leb, leb-true, leb-false, eqb-true, eqb-false}
+use borrow.Author.Tests.{le-leb, lt-leb, leb-true, eqb-true, eqb-false}
 use Rattle.runs.proofs.Tests.{by-test, either}
 use Rattle.depth.specs.declared.unmatched.Unmatched.{Unmatched}
 use Rattle.depth.specs.Depths.{occurrences, depth_after, lower, lowest_to, lowest_depth}
@@ -84,18 +84,13 @@ module _ (opening closing : ℕ) (w : List ℕ) where
 
 -- what is joined of two, by their lengths
 module _ (a b : Unmatched) where
-  pub joined-first : longest < a.length → too_long ≡ followed a b
+  pub joined-over : longest < a.length + b.length → too_long ≡ followed a b
   unfolding followed
-  joined-first h = rw (lt-leb a.length longest h) refl
+  joined-over h = rw (lt-leb (a.length + b.length) longest h) refl
 
-  module _ (first : a.length ≤ longest) where
-    pub joined-over : longest - a.length < b.length → too_long ≡ followed a b
-    unfolding followed
-    joined-over h = rw (le-leb a.length longest first, lt-leb b.length (longest - a.length) h) refl
-
-    pub joined-fits : b.length ≤ longest - a.length → matched a b ≡ followed a b
-    unfolding followed
-    joined-fits h = rw (le-leb a.length longest first, le-leb b.length (longest - a.length) h) refl
+  pub joined-fits : a.length + b.length ≤ longest → matched a b ≡ followed a b
+  unfolding followed
+  joined-fits h = rw (le-leb (a.length + b.length) longest h) refl
 
 -- the lower of minus a, and of r less the sum of a and b
 lower-falls : (a b r : ℕ) → nat_abs (lower (sub_ℕ 0 a) (sub_ℕ r (a + b))) ≡ a + (b - r)
@@ -123,32 +118,31 @@ module _ (opening closing : ℕ) (u v : List ℕ) where
       rw (occurs-append opening u v, occurs-append closing u v)
       (omega (arith, closings-append, closings-least opening closing u, closings-least opening closing v, closings-most opening closing u, closings-most opening closing v))
 
+  -- what is kept of two runs is too long together where they are
+  kept-over : longest < length u + length v → longest < (unmatched_in opening closing u).length + (unmatched_in opening closing v).length
+  unfolding unmatched_in
+  kept-over h = go (is_short u) (is_short v)
+    where
+      go : (s t : Bool) → longest < (cond s (counted opening closing u) too_long).length + (cond t (counted opening closing v) too_long).length
+      go true true = h
+      go true false = omega arith
+      go false t = omega arith
+
   -- what is kept is joined so
   pub run-append : unmatched_in opening closing (u ++ v) ≡ followed (unmatched_in opening closing u) (unmatched_in opening closing v)
-  run-append = go (is_short u) (is_short v) (leb (length v) (longest - length u)) refl refl refl
+  run-append = either longest (length u + length v) over fits
     where
-      all-over : longest < length u + length v → unmatched_in opening closing (u ++ v) ≡ too_long
-      all-over h = run_long opening closing (u ++ v) (lt-leb (length (u ++ v)) longest (omega (arith, length-append u v)))
+      over : longest < length u + length v → unmatched_in opening closing (u ++ v) ≡ followed (unmatched_in opening closing u) (unmatched_in opening closing v)
+      over h = run_long opening closing (u ++ v) (lt-leb (length (u ++ v)) longest (omega (arith, length-append u v))) ∙ joined-over (unmatched_in opening closing u) (unmatched_in opening closing v) (kept-over h)
 
-      go : (s t x : Bool) → is_short u ≡ s → is_short v ≡ t → leb (length v) (longest - length u) ≡ x → unmatched_in opening closing (u ++ v) ≡ followed (unmatched_in opening closing u) (unmatched_in opening closing v)
-      go true true true e f g =
-          let room = leb-true (length u) longest e in
-          let more = leb-true (length v) (longest - length u) g in
-          rw (run_short opening closing u e, run_short opening closing v f, run_short opening closing (u ++ v) (le-leb (length (u ++ v)) longest (omega (arith, length-append u v, room, more))))
-          (same-unmatched (length-append u v) closings-append openings-append
-          ∙ joined-fits (counted opening closing u) (counted opening closing v) room more)
-      go true true false e f g =
-          let room = leb-true (length u) longest e in
-          let more = leb-false (length v) (longest - length u) g in
-          rw (all-over (omega (arith, room, more)), run_short opening closing u e, run_short opening closing v f)
-          (joined-over (counted opening closing u) (counted opening closing v) room more)
-      go true false x e f g =
-          let room = leb-true (length u) longest e in
-          rw (all-over (omega (arith, leb-false (length v) longest f)), run_short opening closing u e, run_long opening closing v f)
-          (joined-over (counted opening closing u) too_long room (omega arith))
-      go false t x e f g =
-          rw (all-over (omega (arith, leb-false (length u) longest e)), run_long opening closing u e)
-          (joined-first too_long (unmatched_in opening closing v) (omega arith))
+      fits : length u + length v ≤ longest → unmatched_in opening closing (u ++ v) ≡ followed (unmatched_in opening closing u) (unmatched_in opening closing v)
+      fits h =
+          rw (
+            run_short opening closing u (le-leb (length u) longest (omega arith)),
+            run_short opening closing v (le-leb (length v) longest (omega arith)),
+            run_short opening closing (u ++ v) (le-leb (length (u ++ v)) longest (omega (arith, length-append u v))),
+          )
+          (same-unmatched (length-append u v) closings-append openings-append ∙ joined-fits (counted opening closing u) (counted opening closing v) h)
 
 -- A run n times.
 
@@ -192,27 +186,21 @@ module _ (u : Unmatched) (k : ℕ) where
       last : k + 2 - 1 ≡ k + 1
       last = omega arith
 
-      first : u.length ≤ longest
-      first = omega arith
-
       over : longest < u.length * (k + 2) → followed u (times_unmatched (k + 1) u) ≡ times_unmatched (k + 2) u
-      over l = ap (followed u) (sym (times-fits (k + 1) u h)) ∙ sym (joined-over u (repeatedly (k + 1) u) first (omega arith)) ∙ times-over (k + 2) u l
+      over l = ap (followed u) (sym (times-fits (k + 1) u h)) ∙ sym (joined-over u (repeatedly (k + 1) u) (omega arith)) ∙ times-over (k + 2) u l
 
       fits : u.length * (k + 2) ≤ longest → followed u (times_unmatched (k + 1) u) ≡ times_unmatched (k + 2) u
       fits l =
           ap (followed u) (sym (times-fits (k + 1) u h))
-          ∙ sym (joined-fits u (repeatedly (k + 1) u) first (omega arith))
+          ∙ sym (joined-fits u (repeatedly (k + 1) u) (omega arith))
           ∙ same-unmatched (omega arith) (rw (rest, last) (more-first u.closings u.openings k)) (rw (rest, last) (more-second u.closings u.openings k))
           ∙ times-fits (k + 2) u l
 
-  times-beyond : u.length ≤ longest → longest < u.length * (k + 1) → followed u (times_unmatched (k + 1) u) ≡ times_unmatched (k + 2) u
-  times-beyond first l = ap (followed u) (sym (times-over (k + 1) u l)) ∙ sym (joined-over u too_long first (omega arith)) ∙ times-over (k + 2) u (omega arith)
-
-  times-never : longest < u.length → followed u (times_unmatched (k + 1) u) ≡ times_unmatched (k + 2) u
-  times-never h = sym (joined-first u (times_unmatched (k + 1) u) h) ∙ times-over (k + 2) u (omega arith)
+  times-beyond : longest < u.length * (k + 1) → followed u (times_unmatched (k + 1) u) ≡ times_unmatched (k + 2) u
+  times-beyond l = ap (followed u) (sym (times-over (k + 1) u l)) ∙ sym (joined-over u too_long (omega arith)) ∙ times-over (k + 2) u (omega arith)
 
   times-step : followed u (times_unmatched (k + 1) u) ≡ times_unmatched (k + 2) u
-  times-step = either longest u.length times-never (λ first. either longest (u.length * (k + 1)) (times-beyond first) times_more)
+  times-step = either longest (u.length * (k + 1)) times-beyond times_more
 
 module _ (opening closing : ℕ) (w : List ℕ) where
   once-kept : unmatched_in opening closing w ≡ times_unmatched 1 (unmatched_in opening closing w)
@@ -268,12 +256,9 @@ word-above a b h = ap word (sub-above a b h)
 word_below : (a b : ℕ) → a < b → word (sub_ℕ a b) ≡ 2 ^ 64 - (b - a)
 word_below a b h = let same : suc (b - suc a) ≡ b - a = omega arith in ap word (sub-below a b h) ∙ ap (λ (n : ℕ). 2 ^ 64 - n) same
 
--- the two tests of `difference`
-pub word-less : (a b : ℕ) → a < b → (2 ^ 64 - 1) - ((b - a) - 1) ≡ word (sub_ℕ a b)
-word-less a b h = sym (word_below a b h ∙ omega arith)
-
-pub word_more : (a b : ℕ) → b ≤ a → a - b ≡ word (sub_ℕ a b)
-word_more a b h = sym (word-above a b h)
+-- a difference that wraps is that word
+pub word-wraps : (a b : ℕ) → a < 2 ^ 64 → b < 2 ^ 64 → (a + (2 ^ 64 - b)) % 2 ^ 64 ≡ word (sub_ℕ a b)
+word-wraps a b g h = either a b (λ l. rw (word_below a b l) (omega arith)) (λ l. rw (word-above a b l) (omega arith))
 
 -- small numbers come back from the words of their differences
 closings-back : (c : ℕ) → c ≤ longest → word (sub_ℕ 0 (word (sub_ℕ 0 c))) ≡ c

@@ -1,5 +1,5 @@
 -- Document 02, S-6: what is answered for a macro's run, and what the work words hold afterwards.
-use Rattle.std.specs.Prelude.{ℕ, suc, ◌*◌, ◌-◌, ◌^◌, Bool, ◌||◌, cond, List, [], ◌∷◌, eqb, leb, length, ℤ, pos, negsuc}
+use Rattle.std.specs.Prelude.{ℕ, suc, ◌*◌, ◌-◌, ◌^◌, Bool, ◌||◌, cond, List, [], ◌∷◌, eqb, leb, length, Result, Ok, Err, ℤ, pos, negsuc}
 use Rattle.refusal.specs.declared.Refusal.{Refusal}
 use Rattle.refusal.specs.declared.Refusal.TheVariants.{InvalidDelimiters, RunTooLong}
 use Rattle.refusal.specs.Number.{number}
@@ -9,7 +9,7 @@ use Rattle.book.specs.Format.{Macro}
 use Rattle.book.specs.Expansion.{expansion}
 use Rattle.book.specs.Reading.{Reading}
 use Rattle.book.specs.Steps.{Settled, refused, settled, ◌>>=◌, answer_by, book_step, space_step}
-use Rattle.depth.specs.declared.reporting.DepthReport.{DepthReport}
+use Rattle.depth.specs.declared.reporting.Depths.{Depths}
 use Rattle.depth.specs.Depths.{depth_after, lowest_depth}
 
 -- Work words.
@@ -86,6 +86,6 @@ depth_result opening closing book m work =
     answer_by (λ r. stopped r work) (λ ms. depths_of opening closing (expansion ms m) (filled opening closing ms m work)) (front opening closing book m (length work))
 
 -- what `depth` answers, and the work words afterwards
-abbrev pub outcome : DepthReport → List ℕ → Outcome
-outcome (DepthReport.Depths end lowest) work = finished end lowest work
-outcome (DepthReport.Refused r) work = stopped r work
+abbrev pub outcome : Result Depths Refusal → List ℕ → Outcome
+outcome (Ok d) work = finished d.end d.lowest work
+outcome (Err r) work = stopped r work

@@ -1,5 +1,6 @@
 -- What private functions promise each other; no public contract cites these.
-use Rattle.std.specs.Prelude.{ℕ, suc, ◌+◌, ◌*◌, ◌-◌, ◌^◌, ◌<◌, ◌≤◌, ◌≡◌, false, ◌&&◌, cond, List, [], ◌∷◌, ◌++◌, eqb, leb, length, get_or, take, drop, nat_abs}
+use Rattle.std.specs.Prelude.{ℕ, suc, ◌+◌, ◌*◌, ◌-◌, ◌^◌, ◌<◌, ◌≤◌, ◌≡◌, false, cond, List, [], ◌∷◌, ◌++◌, eqb, leb, length, get_or, take, drop, nat_abs, Result}
+use Rattle.refusal.specs.declared.Refusal.{Refusal}
 use Rattle.std.proofs.Math.IntN.{sub_ℕ}
 use Rattle.runs.specs.Kept.{first_words}
 use Rattle.book.specs.declared.item.Item.{Item}
@@ -7,10 +8,10 @@ use Rattle.book.specs.declared.item.Item.TheVariants.{Key, Call}
 use Rattle.book.specs.Format.{Macro}
 use Rattle.book.specs.Expansion.{expansion}
 use Rattle.book.specs.Reading.{macros_in}
-use Rattle.book.specs.Answer.{layout}
+use Rattle.book.specs.Answer.{offsets_in}
 use Rattle.depth.specs.declared.unmatched.Delimiters.{Delimiters}
 use Rattle.depth.specs.declared.unmatched.Unmatched.{Unmatched}
-use Rattle.depth.specs.declared.reporting.DepthReport.{DepthReport}
+use Rattle.depth.specs.declared.reporting.Depths.{Depths}
 use Rattle.depth.specs.Depths.{occurrences, lowest_depth}
 use Rattle.depth.specs.Answer.{longest, is_short, word, width, macro_words, filled, depths_of, outcome}
 
@@ -42,7 +43,7 @@ abbrev pub matched : Unmatched → Unmatched → Unmatched
 matched a b = record { length = a.length + b.length; closings = a.closings + (b.closings - a.openings); openings = b.openings + (a.openings - b.closings) }
 
 unfoldable pub followed : Unmatched → Unmatched → Unmatched
-followed a b = cond (leb a.length longest && leb b.length (longest - a.length)) (matched a b) too_long
+followed a b = cond (leb (a.length + b.length) longest) (matched a b) too_long
 
 -- a run n times: with each pass more the one sort becomes more by what it is over the other
 abbrev pub repeatedly : ℕ → Unmatched → Unmatched
@@ -87,7 +88,7 @@ InWords work (Call j) = j * width + width ≤ length work
 
 -- the words of the macros below macro i stand in front
 pub record MacroAt (keys : Delimiters) (b offsets : List ℕ) (i : ℕ) (work : List ℕ) : Type 0 where
-  pub table : offsets ≡ (layout b).offsets
+  pub table : offsets ≡ offsets_in b
   pub inside : i < length (macros_in b)
   pub apart : eqb keys.opening keys.closing ≡ false
   pub behind : List ℕ
@@ -95,11 +96,11 @@ pub record MacroAt (keys : Delimiters) (b offsets : List ℕ) (i : ℕ) (work : 
 
 -- macro m of a book, with room for the words of macros 0 to m
 pub record BookFits (keys : Delimiters) (b offsets : List ℕ) (m : ℕ) (work : List ℕ) : Type 0 where
-  pub table : offsets ≡ (layout b).offsets
+  pub table : offsets ≡ offsets_in b
   pub inside : m < length (macros_in b)
   pub apart : eqb keys.opening keys.closing ≡ false
   pub room : suc m * width ≤ length work
 
 -- the answer for macro m, where the work words suffice
-abbrev pub MacroDepths : Delimiters → List Macro → ℕ → List ℕ → List ℕ → DepthReport → Type 0
+abbrev pub MacroDepths : Delimiters → List Macro → ℕ → List ℕ → List ℕ → Result Depths Refusal → Type 0
 MacroDepths keys ms m before after r = outcome r after ≡ depths_of keys.opening keys.closing (expansion ms m) (filled keys.opening keys.closing ms m before)

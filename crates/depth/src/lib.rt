@@ -5,5 +5,5 @@ mod reporting;
 mod unmatched;
 mod words;
 
-pub use reporting::{DepthReport, MOST_WORDS, depth};
+pub use reporting::{Depths, MOST_WORDS, depth};
 pub use unmatched::Delimiters;

@@ -1,12 +1,31 @@
 // Openings and closings of a run that have no partner in it.
-ghost use Rattle.std.specs.Prelude.{◌≤◌, ◌≡◌, cond, eqb};
-ghost use Rattle.depth.specs.Promises.{Sized, followed, key_unmatched, times_unmatched, too_long};
+ghost use Rattle.std.specs.Prelude.{◌≡◌, ◌≤◌, ◌||◌, eqb};
+ghost use Rattle.depth.specs.Answer.{no_delimiter};
+ghost use Rattle.depth.specs.Promises.{Sized, followed, key_unmatched, times_unmatched};
 
 // The key that opens a block, and the one that closes it.
 #[derive(Clone, Copy)]
 pub struct Delimiters {
     pub opening: u8,
     pub closing: u8,
+}
+
+impl Delimiters {
+    // Whether two such keys cannot open and close blocks.
+    pub(crate) fn are_invalid(self) -> bool
+        ensures { result ≡ eqb self.opening self.closing || (no_delimiter self.opening || no_delimiter self.closing) }
+    {
+        self.opening == self.closing
+            || is_no_delimiter(self.opening)
+            || is_no_delimiter(self.closing)
+    }
+}
+
+// Whether a key is none, or the line end.
+fn is_no_delimiter(key: u8) -> bool
+    ensures { result ≡ no_delimiter key }
+{
+    key == 0 || key == b'\n'
 }
 
 // A run's length, the closings that close no block of the run, and the openings of blocks that it leaves open. The depth falls to minus
@@ -18,86 +37,67 @@ pub(crate) struct Unmatched {
     pub(crate) openings: u64,
 }
 
-// The most keys of a run whose depths are kept, 2^62. Two such numbers have a sum of 64 bits.
-pub(crate) const LONGEST: u64 = 0x4000_0000_0000_0000;
+impl Unmatched {
+    // The most keys of a run whose depths are kept. Two such numbers have a sum of 64 bits.
+    pub(crate) const LONGEST: u64 = 1 << 62;
 
-// What is kept of every longer run.
-fn too_long() -> Unmatched
-    ensures { result ≡ too_long }
-{
-    Unmatched {
-        length: 0xffff_ffff_ffff_ffff,
+    // What is kept of every longer run.
+    const TOO_LONG: Unmatched = Unmatched {
+        length: u64::MAX,
         closings: 0,
         openings: 0,
-    }
-}
+    };
 
-// 1 if two keys are the same one.
-fn once(a: u8, b: u8) -> u64
-    ensures { result ≡ cond (eqb a b) 1 0 }
-{
-    if a == b { 1 } else { 0 }
-}
+    // A run of no keys.
+    pub(crate) const NONE: Unmatched = Unmatched {
+        length: 0,
+        closings: 0,
+        openings: 0,
+    };
 
-// One key.
-pub(crate) fn of_key(keys: Delimiters, k: u8) -> Unmatched
-    ensures { result ≡ key_unmatched keys.opening keys.closing k }
-{
-    Unmatched {
-        length: 1,
-        closings: once(k, keys.closing),
-        openings: once(k, keys.opening),
+    // One key.
+    pub(crate) fn of_key(keys: Delimiters, key: u8) -> Unmatched
+        ensures { result ≡ key_unmatched keys.opening keys.closing key }
+    {
+        Unmatched {
+            length: 1,
+            closings: u64::from(key == keys.closing),
+            openings: u64::from(key == keys.opening),
+        }
     }
-}
 
-// One run behind another: openings of the first meet closings of the second.
-pub(crate) fn joined(a: Unmatched, b: Unmatched) -> Unmatched
-    requires first { Sized a }
-    requires second { Sized b }
-    ensures { result ≡ followed a b }
-{
-    if LONGEST < a.length {
-        return too_long();
-    }
-    if LONGEST - a.length < b.length {
-        return too_long();
-    }
-    let length = a.length + b.length;
-    if a.openings < b.closings {
-        return Unmatched {
+    // One run and another behind it: openings of the first meet closings of the second.
+    pub(crate) fn followed_by(self, next: Unmatched) -> Unmatched
+        requires first { Sized self }
+        requires second { Sized next }
+        ensures { result ≡ followed self next }
+    {
+        let length = self.length.saturating_add(next.length);
+        if Unmatched::LONGEST < length {
+            return Unmatched::TOO_LONG;
+        }
+        Unmatched {
             length,
-            closings: a.closings + (b.closings - a.openings),
-            openings: b.openings,
-        };
+            closings: self.closings + next.closings.saturating_sub(self.openings),
+            openings: next.openings + self.openings.saturating_sub(next.closings),
+        }
     }
-    Unmatched {
-        length,
-        closings: a.closings,
-        openings: b.openings + (a.openings - b.closings),
-    }
-}
 
-// A run n times. With each pass the keys that stay without a partner become more by what one pass has of the one sort over the other.
-pub(crate) fn repeated(u: Unmatched, n: u16) -> Unmatched
-    requires sized { Sized u }
-    requires some { 1 ≤ n }
-    ensures { result ≡ times_unmatched n u }
-{
-    let passes = n as u64;
-    if LONGEST / passes < u.length {
-        return too_long();
-    }
-    let length = u.length * passes;
-    if u.openings < u.closings {
-        return Unmatched {
+    // A run n times. With each pass the keys that stay without a partner become more by what one pass has of the one sort over the other.
+    pub(crate) fn repeated(self, n: u16) -> Unmatched
+        requires sized { Sized self }
+        requires some { 1 ≤ n }
+        ensures { result ≡ times_unmatched n self }
+    {
+        let passes = u64::from(n);
+        let length = self.length.saturating_mul(passes);
+        if Unmatched::LONGEST < length {
+            return Unmatched::TOO_LONG;
+        }
+        Unmatched {
             length,
-            closings: u.closings + (u.closings - u.openings) * (passes - 1),
-            openings: u.openings,
-        };
-    }
-    Unmatched {
-        length,
-        closings: u.closings,
-        openings: u.openings + (u.openings - u.closings) * (passes - 1),
+            closings: self.closings + self.closings.saturating_sub(self.openings) * (passes - 1),
+            openings: self.openings + self.openings.saturating_sub(self.closings) * (passes - 1),
+        }
     }
 }

@@ -4,7 +4,7 @@ ghost use Rattle.std.specs.Prelude.{◌≡◌, ◌+◌, ◌^◌, ◌≤◌, ◌<
 ghost use Rattle.pattern.specs.Reader.{Mode, ends_pieces};
 ghost use Rattle.pattern.specs.Cycle.{Reads, Ready, past_byte, repeat_enter, repeat_part};
 
-use crate::shape::{Shape, either, in_sequence, link};
+use crate::shape::{Shape, link};
 use brackets::peek;
 use letters::Case;
 
@@ -56,20 +56,19 @@ impl Cursor {
         ensures read { result ≡ repeat_part (get_or s.now self.at 0) self p }
         ensures table { enter.new ≡ repeat_enter (get_or s.now self.at 0) p enter.old }
     {
-        let mark = peek(s, self.at);
         let optional = Shape { nothing: true, ..p };
-        if mark == b'*' {
-            link(enter, p.last, p.first);
-            return (self.past(), optional);
+        match peek(s, self.at) {
+            b'*' => {
+                link(enter, p.last, p.first);
+                (self.past(), optional)
+            }
+            b'+' => {
+                link(enter, p.last, p.first);
+                (self.past(), p)
+            }
+            b'?' => (self.past(), optional),
+            _ => (self, p),
         }
-        if mark == b'+' {
-            link(enter, p.last, p.first);
-            return (self.past(), p);
-        }
-        if mark == b'?' {
-            return (self.past(), optional);
-        }
-        (self, p)
     }
 
     // An alternative list: branches parted by `|`.
@@ -88,7 +87,7 @@ impl Cursor {
             return Some((here, left));
         }
         let (end, right) = here.past().alternatives(s, keys, enter)?;
-        Some((end, either(left, right)))
+        Some((end, left.or(right)))
     }
 
     // A branch without its anchors: pieces up to the end, a `|`, a `)` or a `$`.
@@ -108,7 +107,7 @@ impl Cursor {
         }
         let (end, right) = here.branch(s, keys, enter)?;
         link(enter, left.last, right.first);
-        Some((end, in_sequence(left, right)))
+        Some((end, left.then(right)))
     }
 
     // A piece: an atom or a group, then at most one mark of repetition.
@@ -153,5 +152,5 @@ impl Cursor {
 pub(crate) fn ends_pieces(b: u8) -> bool
     ensures { result ≡ ends_pieces b }
 {
-    (b == 0) | ((b == b'|') | ((b == b')') | (b == b'$')))
+    matches!(b, 0 | b'|' | b')' | b'$')
 }

@@ -20,6 +20,28 @@ impl Shape {
         first: 0,
         last: 0,
     };
+
+    // One expression after the other.
+    pub(crate) fn then(self, next: Shape) -> Shape
+        ensures { result ≡ seq_shape self next }
+    {
+        Shape {
+            nothing: self.nothing & next.nothing,
+            first: union_if(self.nothing, self.first, next.first),
+            last: union_if(next.nothing, next.last, self.last),
+        }
+    }
+
+    // One expression or the other.
+    pub(crate) fn or(self, other: Shape) -> Shape
+        ensures { result ≡ alt_shape self other }
+    {
+        Shape {
+            nothing: self.nothing | other.nothing,
+            first: union(self.first, other.first),
+            last: union(self.last, other.last),
+        }
+    }
 }
 
 // Both sets if t, and the first alone if not.
@@ -27,28 +49,6 @@ pub(crate) fn union_if(t: bool, a: u64, b: u64) -> u64
     ensures { result ≡ cond t (bit_or a b) a }
 {
     if t { union(a, b) } else { a }
-}
-
-// One expression after the other.
-pub(crate) fn in_sequence(p: Shape, q: Shape) -> Shape
-    ensures { result ≡ seq_shape p q }
-{
-    Shape {
-        nothing: p.nothing & q.nothing,
-        first: union_if(p.nothing, p.first, q.first),
-        last: union_if(q.nothing, q.last, p.last),
-    }
-}
-
-// One expression or the other.
-pub(crate) fn either(p: Shape, q: Shape) -> Shape
-    ensures { result ≡ alt_shape p q }
-{
-    Shape {
-        nothing: p.nothing | q.nothing,
-        first: union(p.first, q.first),
-        last: union(p.last, q.last),
-    }
 }
 
 // Lets each state of `from` enter those of `to` too.

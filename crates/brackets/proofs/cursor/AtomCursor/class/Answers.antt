@@ -1,12 +1,6 @@
 -- `AtomCursor::class`: each way out is a case of reading a class.
-use Rattle.brackets.proofs.Elements.{name-near, class-near, class-unknown, class-range, class-found}
+use Rattle.brackets.proofs.Elements.{class-near, class-range, class-found}
 use Rattle.brackets.proofs.cursor.AtomCursor.class.Goals as goal
-
-pub find_class-requires : goal.find_class-requires
-find_class-requires c = search name-near
-
-pub returns-in_err-c : goal.returns-in_err-c
-returns-in_err-c c = rw c.from_residual.ensures (search (class-unknown, c.in_err-c.ensures))
 
 pub starts_range-requires : goal.starts_range-requires
 starts_range-requires c = search (class-near, c.in_ok-c.ensures)

@@ -1,5 +1,5 @@
 -- `AtomCursor::element`: which of the three it is.
-use Rattle.brackets.proofs.Elements.{range-near, element-class, element-opens, element-range, element-byte}
+use Rattle.brackets.proofs.Elements.{element-class, element-opens, element-range, element-byte}
 use Rattle.brackets.proofs.cursor.AtomCursor.element.Goals as goal
 
 pub returns-then-a-b : goal.returns-then-a-b
@@ -7,9 +7,6 @@ returns-then-a-b c = search element-class
 
 pub returns-then-a-b-2 : goal.returns-then-a-b-2
 returns-then-a-b-2 c = search element-opens
-
-pub starts_range-requires : goal.starts_range-requires
-starts_range-requires c = search range-near
 
 pub returns-then-starts_range : goal.returns-then-starts_range
 returns-then-starts_range c = search element-range

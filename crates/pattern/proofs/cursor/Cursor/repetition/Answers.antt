@@ -6,20 +6,20 @@ use Rattle.pattern.proofs.cursor.Cursor.repetition.Goals as goal
 pub past-requires : goal.past-requires
 past-requires c = (search (ready_at), search (ready-atoms))
 
-pub returns-then-mark-eq42 : goal.returns-then-mark-eq42
-returns-then-mark-eq42 c = record { read = search (laws.star-read); table = search (laws.star-table) }
+pub returns-in-42 : goal.returns-in-42
+returns-in-42 c = record { read = search (laws.star-read); table = search (laws.star-table) }
 
-pub past-requires-then-mark-eq43 : goal.past-requires-then-mark-eq43
-past-requires-then-mark-eq43 c = (search (ready_at), search (ready-atoms))
+pub past-requires-in-43 : goal.past-requires-in-43
+past-requires-in-43 c = (search (ready_at), search (ready-atoms))
 
-pub returns-then-mark-eq43 : goal.returns-then-mark-eq43
-returns-then-mark-eq43 c = record { read = search (laws.plus-read); table = search (laws.plus-table) }
+pub returns-in-43 : goal.returns-in-43
+returns-in-43 c = record { read = search (laws.plus-read); table = search (laws.plus-table) }
 
-pub past-requires-then-mark-eq63 : goal.past-requires-then-mark-eq63
-past-requires-then-mark-eq63 c = (search (ready_at), search (ready-atoms))
+pub past-requires-in-63 : goal.past-requires-in-63
+past-requires-in-63 c = (search (ready_at), search (ready-atoms))
 
-pub returns-then-mark-eq63 : goal.returns-then-mark-eq63
-returns-then-mark-eq63 c = record { read = search (laws.opt-read); table = search (laws.opt-table) }
+pub returns-in-63 : goal.returns-in-63
+returns-in-63 c = record { read = search (laws.opt-read); table = search (laws.opt-table) }
 
-pub returns : goal.returns
-returns c = record { read = search (laws.none_read); table = search (laws.none-table) }
+pub returns-in_default : goal.returns-in_default
+returns-in_default c = record { read = search (laws.none_read); table = search (laws.none-table) }

@@ -1,6 +1,0 @@
--- `unmatched::of_key`: one key is an opening, a closing, or neither.
-use Rattle.depth.proofs.CodeLaws.{key-made}
-use Rattle.depth.proofs.unmatched.of_key.Goals as goal
-
-pub returns : goal.returns
-returns c = search (key-made)
