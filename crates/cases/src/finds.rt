@@ -6,6 +6,7 @@ use crate::numbers::{hash, hash_bytes, large, prepare, small};
 use crate::show::{named, refused, text};
 use counter::Case;
 use find::{FoundLine, MOST_WORDS, find_line};
+use refusal::Refusal;
 
 // The bytes in front of the pattern.
 const HEAD: usize = 24;
@@ -30,21 +31,19 @@ fn low(i: usize) -> u8 {
 
 // What the buffer holds before a call: no two neighbours alike, so that a byte that changes shows.
 fn fresh(buffer: &mut [u8]) {
-    let mut i = 0;
-    while i < buffer.len() {
-        buffer[i] = 255 - low(i);
-        i += 1;
+    for (i, byte) in buffer.iter_mut().enumerate() {
+        *byte = 255 - low(i);
     }
 }
 
 // What is answered, with the hashes of the buffer and of the work words after it.
-fn print_line(rt: &HostRuntime, answer: FoundLine, buffer: u64, work: u64) {
+fn print_line(rt: &HostRuntime, answer: Result<FoundLine, Refusal>, buffer: u64, work: u64) {
     match answer {
-        FoundLine::Line(number, keys) => {
-            named(rt, "line ", number);
-            named(rt, " length ", keys);
+        Ok(line) => {
+            named(rt, "line ", line.number);
+            named(rt, " length ", line.length);
         }
-        FoundLine::Refused(r) => refused(rt, r),
+        Err(r) => refused(rt, r),
     }
     named(rt, " buffer ", buffer);
     named(rt, " work ", work);
