@@ -13,11 +13,9 @@ use Rattle.runs.proofs.Tests.{clash}
 use Rattle.book.specs.Format.{Macro}
 use Rattle.book.specs.Expansion.{expansion}
 use Rattle.book.specs.Reading.{Reading, read_book, macros_in}
-use Rattle.book.specs.Answer.{layout_figures, book_layout}
-use Rattle.book.specs.declared.layout.Checked.{Checked}
-use Rattle.book.specs.declared.layout.Layout.{Layout}
+use Rattle.book.specs.Answer.{opened_figures, check_result}
 use Rattle.book.specs.Steps.{Settled, refused, settled, ◌>>=◌, answer_by, book_step, space_step, InBook}
-use Rattle.book.specs.declared.space.Space.{Space}
+use Rattle.std.specs.Prelude.{Result, Ok, Err}
 use Rattle.book.proofs.StepLaws.{book-refuses, space-inside, space-room}
 use Rattle.letters.specs.declared.Case.{Case}
 use Rattle.pattern.specs.Meaning.{Query, query, matches}
@@ -29,11 +27,11 @@ use Rattle.counter.specs.Front.{front, pattern_step}
 use Rattle.counter.proofs.FrontLaws.{front-book}
 use Rattle.extents.specs.Capped.{most}
 use Rattle.extents.specs.Words.{width}
-use Rattle.find.specs.declared.finding.Placed.{Placed}
+use Rattle.find.specs.declared.finding.LinePlace.{LinePlace}
 use Rattle.find.specs.declared.finding.FoundLine.{FoundLine}
 use Rattle.find.specs.Lines.{Sought, missing, found, kth_in, kth_line}
 use Rattle.find.specs.Answer.{needed, base_of, written, told, Outcome, stopped, find_of, find_result, outcome, Location, nowhere, place_of, locate_result}
-use Rattle.find.specs.Promises.{Extended, placed_for, Placing, placing, placing_of, LineOf, LineFits, WritesLine}
+use Rattle.find.specs.Promises.{Extended, line_at, placed_for, Placing, placing, placing_of, LineOf, LineFits, WritesLine}
 use Rattle.find.proofs.LineLaws.{kth-is}
 use Rattle.find.proofs.FindLaws.{accepted-tree}
 use Rattle.find.proofs.Readings.{written-room, written_behind}
@@ -84,8 +82,8 @@ module _ (book : Reading (List Macro)) (pattern : reader.Read) (need : Pattern �
           record {
             read = h ∙ ap settled first;
             tree = i ∙ ap settled second;
-            inside = rw (← first) (space-inside (length ns) m (need v) words Space.Enough (sym f) refl);
-            enough = rw (← second) (space-room (length ns) m (need v) words Space.Enough (sym f) refl);
+            inside = rw (← first) (space-inside (length ns) m (need v) words (Ok tt) (sym f) refl);
+            enough = rw (← second) (space-room (length ns) m (need v) words (Ok tt) (sym f) refl);
           }
 
       go : (x : Settled (List Macro)) (y : Settled Pattern) → book_step book ≡ x → pattern_step pattern ≡ y → ◌>>=◌ {B = List Macro × Pattern} x (λ ns. ◌>>=◌ {B = List Macro × Pattern} y (λ v. ◌>>=◌ {B = List Macro × Pattern} (space_step (length ns) m (need v) words) (λ z. settled (ns, v)))) ≡ settled (ms, u) → Fronted book pattern need m words ms u
@@ -94,29 +92,21 @@ module _ (book : Reading (List Macro)) (pattern : reader.Read) (need : Pattern �
       go (settled ns) (settled v) f g h = space ns v (space_step (length ns) m (need v) words) refl f g h
 
 -- The parts of what is placed.
-abbrev is_line : Placed → Bool
-is_line (Placed.Refused r) = false
-is_line (Placed.Line n l b) = true
+abbrev is_line : Result LinePlace Refusal → Bool
+is_line (Err r) = false
+is_line (Ok p) = true
 
-abbrev number_in : Placed → ℕ
-number_in (Placed.Refused r) = 0
-number_in (Placed.Line n l b) = n
+abbrev place_in : Result LinePlace Refusal → LinePlace
+place_in (Err r) = line_at 0 0 0
+place_in (Ok p) = p
 
-abbrev length_in : Placed → ℕ
-length_in (Placed.Refused r) = 0
-length_in (Placed.Line n l b) = l
+abbrev shown_as : Result LinePlace Refusal → List ℕ → Location
+shown_as (Err r) work = nowhere r work
+shown_as (Ok p) work = record { refusal = 0; number = p.line.number; length = p.line.length; work = work }
 
-abbrev base_in : Placed → ℕ
-base_in (Placed.Refused r) = 0
-base_in (Placed.Line n l b) = b
-
-abbrev shown_as : Placed → List ℕ → Location
-shown_as (Placed.Refused r) work = nowhere r work
-shown_as (Placed.Line n l b) work = record { refusal = 0; number = n; length = l; work = work }
-
-abbrev refused_as : List ℕ → Placed → List ℕ → Outcome
-refused_as buffer (Placed.Refused r) work = stopped r work buffer
-refused_as buffer (Placed.Line n l b) work = stopped NoSuchLine work buffer
+abbrev refused_as : List ℕ → Result LinePlace Refusal → List ℕ → Outcome
+refused_as buffer (Err r) work = stopped r work buffer
+refused_as buffer (Ok p) work = stopped NoSuchLine work buffer
 
 -- What is answered, from where the line is.
 module _ (c : Case) (book : Reading (List Macro)) (pattern : reader.Read) (m k : ℕ) (work : List ℕ) where
@@ -124,14 +114,14 @@ module _ (c : Case) (book : Reading (List Macro)) (pattern : reader.Read) (m k :
   asked = front book pattern (λ t. needed (query c t) m) m (length work)
 
   abbrev placing_by : Settled (List Macro × Pattern) → Placing
-  placing_by s = answer_by (λ r. placing (Placed.Refused r) work) (λ (ms, t). placing (placed_for (base_of (query c t) m) (kth_line (query c t) k (expansion ms m))) (written (query c t) ms m work)) s
+  placing_by s = answer_by (λ r. placing (Err r) work) (λ (ms, t). placing (placed_for (base_of (query c t) m) (kth_line (query c t) k (expansion ms m))) (written (query c t) ms m work)) s
 
   -- where it is
-  located-shown : {r : Placed} {after : List ℕ} → placing r after ≡ placing_of c book pattern m k work → shown_as r after ≡ locate_result c book pattern m k work
+  pub located-shown : {r : Result LinePlace Refusal} {after : List ℕ} → placing r after ≡ placing_of c book pattern m k work → shown_as r after ≡ locate_result c book pattern m k work
   unfolding placing_of locate_result placed_for place_of
   located-shown {r} {after} e = ap (λ (p : Placing). shown_as p.answer p.work) e ∙ go asked
     where
-      by_number : (b : Bool) (n l base : ℕ) (w : List ℕ) → shown_as (cond b (Placed.Refused LineNumberOverflow) (Placed.Line n l base)) w ≡ cond b (nowhere LineNumberOverflow w) (record { refusal = 0; number = n; length = l; work = w })
+      by_number : (b : Bool) (n l base : ℕ) (w : List ℕ) → shown_as (cond b (Err LineNumberOverflow) (Ok (line_at n l base))) w ≡ cond b (nowhere LineNumberOverflow w) (record { refusal = 0; number = n; length = l; work = w })
       by_number true n l base w = refl
       by_number false n l base w = refl
 
@@ -144,12 +134,12 @@ module _ (c : Case) (book : Reading (List Macro)) (pattern : reader.Read) (m k :
       go (settled (ms, t)) = by-sought (kth_line (query c t) k (expansion ms m)) (base_of (query c t) m) (written (query c t) ms m work)
 
   -- a refusal
-  find-refused : (buffer : List ℕ) {r : Refusal} {after : List ℕ} → placing (Placed.Refused r) after ≡ placing_of c book pattern m k work → stopped r after buffer ≡ find_result c book pattern m k work buffer
+  pub find-refused : (buffer : List ℕ) {r : Refusal} {after : List ℕ} → placing (Err r) after ≡ placing_of c book pattern m k work → stopped r after buffer ≡ find_result c book pattern m k work buffer
   unfolding placing_of find_result placed_for find_of
   find-refused buffer {r} {after} e = ap (λ (p : Placing). refused_as buffer p.answer p.work) e ∙ go asked (ap (λ (p : Placing). is_line p.answer) (sym e))
     where
-      by_number : (b : Bool) (n : ℕ) (l : List ℕ) (base : ℕ) (w : List ℕ) (o : Outcome) → is_line (cond b (Placed.Refused LineNumberOverflow) (Placed.Line n (told (length l)) base)) ≡ false
-          → refused_as buffer (cond b (Placed.Refused LineNumberOverflow) (Placed.Line n (told (length l)) base)) w ≡ cond b (stopped LineNumberOverflow w buffer) o
+      by_number : (b : Bool) (n : ℕ) (l : List ℕ) (base : ℕ) (w : List ℕ) (o : Outcome) → is_line (cond b (Err LineNumberOverflow) (Ok (line_at n (told (length l)) base))) ≡ false
+          → refused_as buffer (cond b (Err LineNumberOverflow) (Ok (line_at n (told (length l)) base))) w ≡ cond b (stopped LineNumberOverflow w buffer) o
       by_number true n l base w o f = refl
       by_number false n l base w o f = clash (cc)
 
@@ -161,73 +151,62 @@ module _ (c : Case) (book : Reading (List Macro)) (pattern : reader.Read) (m k :
       go (refused r) f = refl
       go (settled (ms, t)) f = by-sought (kth_line (query c t) k (expansion ms m)) (base_of (query c t) m) (written (query c t) ms m work) f
 
-  -- the same by what the code has
-  module _ {x : Placed} {after : List ℕ} (f : placing x after ≡ placing_of c book pattern m k work) where
-    pub shown-refused : {r : Refusal} → x ≡ Placed.Refused r → nowhere r after ≡ locate_result c book pattern m k work
-    shown-refused g = ap (λ (y : Placed). shown_as y after) (sym g) ∙ located-shown f
-
-    pub shown-line : {n l b : ℕ} → x ≡ Placed.Line n l b → record { refusal = 0; number = n; length = l; work = after } ≡ locate_result c book pattern m k work
-    shown-line g = ap (λ (y : Placed). shown_as y after) (sym g) ∙ located-shown f
-
-    pub told-refused : (buffer : List ℕ) {r : Refusal} → x ≡ Placed.Refused r → stopped r after buffer ≡ find_result c book pattern m k work buffer
-    told-refused buffer g = find-refused buffer (ap (λ (y : Placed). placing y after) (sym g) ∙ f)
-
   -- a line
-  pub record LineFound (n l base : ℕ) (after : List ℕ) : Type 0 where
+  pub record LineFound (p : LinePlace) (after : List ℕ) : Type 0 where
     pub macros : List Macro
     pub tree : Pattern
     pub keys : List ℕ
     pub settles : asked ≡ settled (macros, tree)
-    pub is : kth_line (query c tree) k (expansion macros m) ≡ found n keys
-    pub low : n ≤ most
-    pub size : l ≡ told (length keys)
-    pub based : base ≡ base_of (query c tree) m
+    pub is : kth_line (query c tree) k (expansion macros m) ≡ found p.line.number keys
+    pub low : p.line.number ≤ most
+    pub size : p.line.length ≡ told (length keys)
+    pub based : p.base ≡ base_of (query c tree) m
     pub stands : after ≡ written (query c tree) macros m work
 
-  line-found : {n l base : ℕ} {after : List ℕ} → placing (Placed.Line n l base) after ≡ placing_of c book pattern m k work → LineFound n l base after
+  line-found : {p : LinePlace} {after : List ℕ} → placing (Ok p) after ≡ placing_of c book pattern m k work → LineFound p after
   unfolding placing_of placed_for
-  line-found {n} {l} {base} {after} e = go asked refl e
+  line-found {p} {after} e = go asked refl e
     where
-      by_number : (b : Bool) (ms : List Macro) (t : Pattern) (p : ℕ) (keys : List ℕ) → ltb most p ≡ b → asked ≡ settled (ms, t) → kth_line (query c t) k (expansion ms m) ≡ found p keys
-          → placing (Placed.Line n l base) after ≡ placing (cond b (Placed.Refused LineNumberOverflow) (Placed.Line p (told (length keys)) (base_of (query c t) m))) (written (query c t) ms m work) → LineFound n l base after
-      by_number true ms t p keys f a s g = let no_line : true ≡ false = ap (λ (x : Placing). is_line x.answer) g in clash (cc)
-      by_number false ms t p keys f a s g =
-          let same : n ≡ p = ap (λ (x : Placing). number_in x.answer) g in
+      by_number : (b : Bool) (ms : List Macro) (t : Pattern) (n : ℕ) (keys : List ℕ) → ltb most n ≡ b → asked ≡ settled (ms, t) → kth_line (query c t) k (expansion ms m) ≡ found n keys
+          → placing (Ok p) after ≡ placing (cond b (Err LineNumberOverflow) (Ok (line_at n (told (length keys)) (base_of (query c t) m)))) (written (query c t) ms m work) → LineFound p after
+      by_number true ms t n keys f a s g = let no_line : true ≡ false = ap (λ (x : Placing). is_line x.answer) g in clash (cc)
+      by_number false ms t n keys f a s g =
+          let same : p.line.number ≡ n = ap (λ (x : Placing). (place_in x.answer).line.number) g in
           record {
             macros = ms;
             tree = t;
             keys = keys;
             settles = a;
             is = rw same s;
-            low = rw same (ltb-false most p f);
-            size = ap (λ (x : Placing). length_in x.answer) g;
-            based = ap (λ (x : Placing). base_in x.answer) g;
+            low = rw same (ltb-false most n f);
+            size = ap (λ (x : Placing). (place_in x.answer).line.length) g;
+            based = ap (λ (x : Placing). (place_in x.answer).base) g;
             stands = ap (λ (x : Placing). x.work) g;
           }
 
-      by-sought : (s : Sought) (ms : List Macro) (t : Pattern) → asked ≡ settled (ms, t) → kth_line (query c t) k (expansion ms m) ≡ s → placing (Placed.Line n l base) after ≡ placing (placed_for (base_of (query c t) m) s) (written (query c t) ms m work) → LineFound n l base after
+      by-sought : (s : Sought) (ms : List Macro) (t : Pattern) → asked ≡ settled (ms, t) → kth_line (query c t) k (expansion ms m) ≡ s → placing (Ok p) after ≡ placing (placed_for (base_of (query c t) m) s) (written (query c t) ms m work) → LineFound p after
       by-sought missing ms t a f g = let no_line : true ≡ false = ap (λ (x : Placing). is_line x.answer) g in clash (cc)
-      by-sought (found p keys) ms t a f g = by_number (ltb most p) ms t p keys refl a f g
+      by-sought (found n keys) ms t a f g = by_number (ltb most n) ms t n keys refl a f g
 
-      go : (s : Settled (List Macro × Pattern)) → asked ≡ s → placing (Placed.Line n l base) after ≡ placing_by s → LineFound n l base after
+      go : (s : Settled (List Macro × Pattern)) → asked ≡ s → placing (Ok p) after ≡ placing_by s → LineFound p after
       go (refused r) a g = let no_line : true ≡ false = ap (λ (x : Placing). is_line x.answer) g in clash (cc)
       go (settled (ms, t)) a g = by-sought (kth_line (query c t) k (expansion ms m)) ms t a refl g
 
   -- its keys are one of the run's lines
-  line_of : {n l base : ℕ} {after : List ℕ} (x : LineFound n l base after) → LineOf (expansion x.macros m) (record { number = n; length = l; base = base }) x.keys
-  line_of {n} {l} {base} {after} x =
+  line_of : {p : LinePlace} {after : List ℕ} (x : LineFound p after) → LineOf (expansion x.macros m) p.line x.keys
+  line_of {p} x =
       let t = query c x.tree in
-      let (before, behind, s, q) = kth-stands (matches t) k 1 (lines (expansion x.macros m)) n x.keys (sym (kth-is t k (expansion x.macros m)) ∙ x.is) in
+      let (before, behind, s, q) = kth-stands (matches t) k 1 (lines (expansion x.macros m)) p.line.number x.keys (sym (kth-is t k (expansion x.macros m)) ∙ x.is) in
       record { before = before; after = behind; split = s; place = omega (arith, q); size = x.size; low = x.low }
 
-  found-is : (buffer : List ℕ) {n l base : ℕ} {after : List ℕ} (x : LineFound n l base after) → find_of (found n x.keys) after buffer ≡ find_result c book pattern m k work buffer
+  found-is : (buffer : List ℕ) {p : LinePlace} {after : List ℕ} (x : LineFound p after) → find_of (found p.line.number x.keys) after buffer ≡ find_result c book pattern m k work buffer
   unfolding find_result
   found-is buffer x = rw (x.settles, x.is, x.stands) refl
 
 -- Of a sound book.
-module _ {b offsets : List ℕ} {macros : ℕ} (i : InBook b offsets macros) (c : Case) (s : List ℕ) (m k : ℕ) (work : List ℕ) {x : Placed} {after : List ℕ} (f : placing x after ≡ placing_of c (read_book b) (reader.read_pattern s) m k work) {n l base : ℕ} (g : x ≡ Placed.Line n l base) where
-  abbrev found-line : LineFound c (read_book b) (reader.read_pattern s) m k work n l base after
-  found-line = line-found c (read_book b) (reader.read_pattern s) m k work (ap (λ (y : Placed). placing y after) (sym g) ∙ f)
+module _ {b offsets : List ℕ} {macros : ℕ} (i : InBook b offsets macros) (c : Case) (s : List ℕ) (m k : ℕ) (work : List ℕ) {p : LinePlace} {after : List ℕ} (f : placing (Ok p) after ≡ placing_of c (read_book b) (reader.read_pattern s) m k work) where
+  abbrev found-line : LineFound c (read_book b) (reader.read_pattern s) m k work p after
+  found-line = line-found c (read_book b) (reader.read_pattern s) m k work f
 
   steps-before : Fronted (read_book b) (reader.read_pattern s) (λ t. needed (query c t) m) m (length work) found-line.macros found-line.tree
   steps-before = fronted (read_book b) (reader.read_pattern s) (λ t. needed (query c t) m) m (length work) found-line.macros found-line.tree found-line.settles
@@ -244,14 +223,14 @@ module _ {b offsets : List ℕ} {macros : ℕ} (i : InBook b offsets macros) (c 
   few : atom_count found-line.tree ≤ 29
   few = accepted-few s found-line.tree (accepted-tree (reader.read_pattern s) found-line.tree steps-before.tree)
 
-  words-room : base ≤ length after
+  words-room : p.base ≤ length after
   words-room = written-room t found-line.macros m work few found-line.based found-line.stands
 
-  words-behind : Extended found-line.macros (suc m) (drop base after)
+  words-behind : Extended found-line.macros (suc m) (drop p.base after)
   unfolding Extended
   words-behind = (drop (suc m * width) (drop (base_of t m) work), written_behind t found-line.macros m work few found-line.based found-line.stands)
 
-  pub line-fits-in : LineFits b offsets m (record { number = n; length = l; base = base }) after
+  pub line-fits-in : LineFits b offsets m p after
   line-fits-in =
       record {
         table = i.table;
@@ -262,13 +241,13 @@ module _ {b offsets : List ℕ} {macros : ℕ} (i : InBook b offsets macros) (c 
         extents = rw same-macros at words-behind;
       }
 
-  pub line-outcome : (buffer : List ℕ) {r : FoundLine} {end : List ℕ} → WritesLine (expansion (macros_in b) m) (record { number = n; length = l; base = base }) buffer end r → outcome r after end ≡ find_result c (read_book b) (reader.read_pattern s) m k work buffer
+  pub line-outcome : (buffer : List ℕ) {r : Result FoundLine Refusal} {end : List ℕ} → WritesLine (expansion (macros_in b) m) p.line buffer end r → outcome r after end ≡ find_result c (read_book b) (reader.read_pattern s) m k work buffer
   line-outcome buffer {r} {end} w = w.writes found-line.keys (rw same-macros at (line_of c (read_book b) (reader.read_pattern s) m k work found-line)) after ∙ found-is c (read_book b) (reader.read_pattern s) m k work buffer found-line
 
 -- A book that is refused.
-module _ (b : List ℕ) (l : Layout) (e : layout_figures l ≡ book_layout b) {r : Refusal} (c : Case) (p : reader.Read) (m k : ℕ) (work : List ℕ) (f : l.answer ≡ Checked.Refused r) where
+module _ (b : List ℕ) (r : Refusal) (e : opened_figures (Err r) ≡ check_result (read_book b)) (c : Case) (p : reader.Read) (m k : ℕ) (work : List ℕ) where
   refuses : front (read_book b) p (λ t. needed (query c t) m) m (length work) ≡ refused r
-  refuses = front-book (read_book b) p (λ t. needed (query c t) m) m (length work) (book-refuses b l e f)
+  refuses = front-book (read_book b) p (λ t. needed (query c t) m) m (length work) (book-refuses b e)
 
   pub book-refused : (buffer : List ℕ) → stopped r work buffer ≡ find_result c (read_book b) p m k work buffer
   unfolding find_result

@@ -5,29 +5,31 @@ use native.Mathlib.Nat.{mul-le-mul}
 use mir.Val.{Fits}
 use mir.Syntax.{w64}
 use mathlib.Core.Path.{◌≡◌, refl, sym, ap, subst, ◌∙◌}
-use mathlib.Core.Bool.{Bool, true, false, cond, ◌&&◌}
+use mathlib.Core.Bool.{true}
 use mathlib.Core.List.{List, [], ◌∷◌, ◌++◌, append_assoc, append-nil, Memᴰ}
-use lib.Dec.{ltb, eqb}
+use lib.Dec.{eqb}
 use lib.ListN.{length, get_or, take, drop, take-append-drop}
 use lib.Seq.{take_all}
-use borrow.Author.Tests.{eqb-true, ltb-true, ltb-false, lt-ltb, le-ltb}
+use borrow.Author.Tests.{eqb-true}
 use Rattle.runs.specs.Keys.{is_key, is_run, line_end}
-use Rattle.runs.specs.Kept.{times}
-use Rattle.runs.proofs.Tests.{by-test, clash, and_parts}
+use Rattle.runs.specs.Kept.{first_words, times}
+use Rattle.counter.specs.Counting.{macro_words}
+use Rattle.runs.proofs.Tests.{by-test, clash}
+use Rattle.std.specs.Prelude.{Some, slice_get}
 use Rattle.runs.proofs.KeyLaws.{run_none, run-cons, run-append}
 use Rattle.runs.proofs.KeptLaws.{times-one, times-run, times-add}
 use Rattle.book.specs.declared.item.Item.{Item}
 use Rattle.book.specs.declared.item.Item.TheVariants.{Key, Call}
-use Rattle.book.specs.declared.macro_items.Items.{Items}
+use Rattle.book.specs.declared.item.Repeated.{Repeated}
 use Rattle.book.specs.Format.{repeated, Macro, well_formed}
-use Rattle.book.specs.Reading.{item_of, macros_in}
-use Rattle.book.specs.MacroItems.{item_at, items_from, decoded}
+use Rattle.book.specs.Reading.{macros_in}
+use Rattle.book.specs.MacroItems.{items_from, decoded}
 use Rattle.book.proofs.LayoutLaws.{well-in}
-use Rattle.book.proofs.MacroItems.{count-few, count_fits, times-fit, items-are, decoded-length, decoded-more, decoded-in}
+use Rattle.book.proofs.MacroItems.{item-in, items-are}
 use Rattle.book.specs.Expansion.{keys_of, expand, unrolled, expansion}
-use Rattle.book.proofs.Expansion.{well-key, well-call, expansion-law, expansion-run, expand-none, expand-more, expand-both, unrolled-none}
+use Rattle.book.proofs.Expansion.{well-key, well-call, expansion-law, expansion-run, expand-both}
 use Rattle.pattern.specs.Meaning.{Query}
-use Rattle.pattern.specs.declared.automaton.Accepting.{Accepting}
+use Rattle.pattern.specs.declared.automaton.Tables.{Tables}
 use Rattle.pattern.proofs.Readings.{states-of}
 use Rattle.reports.specs.declared.span_count.SpanCount.{SpanCount}
 use Rattle.reports.specs.declared.report.Report.{Report}
@@ -44,66 +46,51 @@ use Rattle.find.specs.declared.descent.Place.{Place}
 use Rattle.find.specs.declared.descent.Past.{Past}
 use Rattle.find.specs.declared.descent.Stop.{Stop}
 use Rattle.find.specs.declared.passes.Skipped.{Skipped}
-use Rattle.find.specs.Answer.{longest, told}
-use Rattle.find.specs.Promises.{item_extent, closed_by, Skips, Ready, SearchFits, PlaceAt, Starts, Known, PassOf, PassedTo, PastItem, AllKnown, StopIn, ItemsFit, SearchIn, EndsAt, Descends}
-use Rattle.find.proofs.FillLaws.{item-extent, rest_of, rest-is}
+use Rattle.find.specs.Promises.{item_extent, closed_by, Skips, Ready, PlaceAt, Starts, Known, RunOf, PassOf, PassedTo, PastItem, AllKnown, StopIn, SearchIn, EndsAt, Descends}
+use Rattle.find.proofs.FillLaws.{keys-none, keys-more, item-extent}
 use Rattle.find.proofs.LineLaws.{closed-start, closed-key}
 
--- how many keys are told of
-pub told-short : (n : ℕ) → n < longest → n ≡ told n
-unfolding told
-told-short n h = rw (lt-ltb n longest h) refl
-
-pub told-long : (n : ℕ) → longest ≤ n → longest ≡ told n
-unfolding told
-told-long n h = rw (le-ltb n longest h) refl
-
--- keys less a final CR
-pub return-some : (n : ℕ) (b : Bool) → b && ltb 0 n ≡ true → 1 ≤ n
-return-some n b e = ltb-true 0 n (and_parts b (ltb 0 n) e).1
-
-pub return-less : (n : ℕ) (b : Bool) → b && ltb 0 n ≡ true → n - 1 ≡ n - cond b 1 0
-return-less n b e = let yes-b : b ≡ true = (and_parts b (ltb 0 n) e).0 in rw yes-b refl
-
-pub return-none : (n : ℕ) (b : Bool) → b && ltb 0 n ≡ false → n ≡ n - cond b 1 0
-return-none n true e = let none : n ≤ 0 = ltb-false 0 n e in omega (arith, none)
-return-none n false e = omega arith
-
 -- the start of a run: a line end stands in front
-pub starts-at : (keys enter : List ℕ) (p : Accepting) {o c : SpanCount} {x : Extent} → o ≡ empty_count p.states → c ≡ extended_count keys enter p o 10 → x ≡ no_extent → Starts keys enter p (record { count = c; extent = x })
-starts-at keys enter p {o} {c} {x} e f g =
+pub starts-at : (a : Tables) {o c : SpanCount} {x : Extent} → o ≡ empty_count a.accepting.states → c ≡ extended_count a.keys a.enter a.accepting o 10 → x ≡ no_extent → Starts a (record { count = c; extent = x })
+starts-at a {o} {c} {x} e f g =
     record {
       place = λ t d. record {
         run = run_none;
-        kept = f ∙ ap (λ (s : SpanCount). extended_count keys enter p s 10) (e ∙ ap empty_count (states-of d) ∙ empty-count t d.few) ∙ extend-count d [] 10 run_none refl;
+        kept = f ∙ ap (λ (s : SpanCount). extended_count a.keys a.enter a.accepting s 10) (e ∙ ap empty_count (states-of d) ∙ empty-count t d.few) ∙ extend-count d [] 10 run_none refl;
         sized = g ∙ no-extent;
       };
     }
 
--- One pass of an item.
-module _ {keys enter work : List ℕ} {search : Search} {item : Item} where
-  pub pass-key : {k : ℕ} {o r : SpanCount} → item ≡ Key k → o ≡ empty_count search.p.states → r ≡ extended_count keys enter search.p o k → PassOf keys enter search work item r
+-- The run of a macro, and one pass of an item.
+module _ (search : Search) where
+  abbrev tables : Tables
+  tables = search.tables.now
+
+  pub run-of : {i : ℕ} {x : Report} {r : SpanCount} → x ≡ loaded_at search.reports.now (i * (search.tables.now.accepting.states + behind_rows)) search.tables.now.accepting.states → r ≡ in_report x → RunOf search i r
+  run-of {i} e f =
+      record {
+        run = λ t ms ready low.
+            let d = ready.tables in
+            f ∙ ap in_report (e ∙ rw (states-of d) (reports-at t d.few ms (suc search.m) i (omega arith) search.reports.now [] (ready.reports ∙ sym (append-nil (first_words (macro_words t ms) (suc search.m)))))) ∙ in-report t (expansion ms i);
+      }
+
+  pub pass-key : {item : Item} {k : ℕ} {o r : SpanCount} → item ≡ Key k → o ≡ empty_count search.tables.now.accepting.states → r ≡ extended_count search.tables.now.keys search.tables.now.enter search.tables.now.accepting o k → PassOf search item r
   unfolding Known
-  pass-key {k} {o} {r} i e f = rw i (record { pass = λ t ms ready known. f ∙ ap (λ (s : SpanCount). extended_count keys enter search.p s k) (e ∙ ap empty_count (states-of ready.tables) ∙ empty-count t ready.tables.few) ∙ extend-count ready.tables [] k run_none (is-key known) })
+  pass-key {item} {k} {o} {r} i e f = rw i (record { pass = λ t ms ready known. f ∙ ap (λ (s : SpanCount). extended_count tables.keys tables.enter tables.accepting s k) (e ∙ ap empty_count (states-of ready.tables) ∙ empty-count t ready.tables.few) ∙ extend-count ready.tables [] k run_none (is-key known) })
     where
       is-key : Known search.m (Key k) → is_key k ≡ true
       is-key h = h
 
-  pub pass-call : {j : ℕ} {x : Report} {r : SpanCount} → item ≡ Call j → x ≡ loaded_at work (j * (search.p.states + behind_rows)) search.p.states → r ≡ in_report x → PassOf keys enter search work item r
+  pub pass-call : {item : Item} {j : ℕ} {r : SpanCount} → item ≡ Call j → RunOf search j r → PassOf search item r
   unfolding Known
-  pass-call {j} {x} {r} i e f =
-      rw i
-      (record {
-        pass = λ t ms ready known.
-            let d = ready.tables in
-            f ∙ ap in_report (e ∙ rw (states-of d) (reports-at t d.few ms (suc search.m) j (lower known) work ready.behind ready.reports)) ∙ in-report t (expansion ms j);
-      })
+  pass-call {item} {j} {r} i f = rw i (record { pass = λ t ms ready known. f.run t ms ready (low known) })
     where
-      lower : Known search.m (Call j) → j < suc search.m
-      lower h = omega (arith, h)
+      low : Known search.m (Call j) → j ≤ search.m
+      low h = h
 
-pub call_fits : (s j : ℕ) → s ≤ 32 → j < 65536 → Fits w64 (j * (s + behind_rows))
-call_fits s j h l = let few : j ≤ 65536 = omega arith in let thin : s + behind_rows ≤ 32 + behind_rows = omega arith in omega (arith, mul-le-mul few thin)
+-- the place of a macro's report
+pub place-fits : (s i : ℕ) → s ≤ 32 → i < 65536 → Fits w64 (i * (s + behind_rows))
+place-fits s i h l = let few : i ≤ 65536 = omega arith in let thin : s + behind_rows ≤ 32 + behind_rows = omega arith in omega (arith, mul-le-mul few thin)
 
 -- the keys of an item are a run, and its extent is theirs
 known-run : (ms : List Macro) → well_formed ms ≡ true → (m : ℕ) (item : Item) → Known m item → is_run (keys_of (λ j. expansion ms j) item) ≡ true
@@ -119,10 +106,10 @@ known-lower m item h j e = go (rw e at h)
     go l = omega (arith, l)
 
 -- The passes of an item.
-module _ {keys enter work : List ℕ} {search : Search} {from : Place} {item : Item} {n : ℕ} where
-  pub past-item : {pass : SpanCount} {skipped : Skipped} {one some extent : Extent} → PassOf keys enter search work item pass → Skips from.count pass 1 n search.k skipped
-      → one ≡ item_extent (rest_of search.base work) item → some ≡ repeated_extent skipped.passes one → extent ≡ joined_extents from.extent some
-      → PastItem keys enter search work from item n (record { at = record { count = skipped.before; extent = extent }; passes = skipped.passes })
+module _ (search : Search) {from : Place} {item : Item} {n : ℕ} where
+  pub past-item : {pass : SpanCount} {skipped : Skipped} {one some extent : Extent} → PassOf search item pass → Skips from.count pass 1 n search.k skipped
+      → one ≡ item_extent search.extents.now item → some ≡ repeated_extent skipped.passes one → extent ≡ joined_extents from.extent some
+      → PastItem search from item n (record { at = record { count = skipped.before; extent = extent }; passes = skipped.passes })
   past-item {pass} {skipped} {one} {some} {extent} p s o r x =
       record {
         within = s.within;
@@ -132,7 +119,7 @@ module _ {keys enter work : List ℕ} {search : Search} {from : Place} {item : I
             let once : pass ≡ span_count t (times 1 v) = p.pass t ms ready known ∙ ap (span_count t) (sym (times-one v)) in
             let to = s.skips t ready.tables.few w v place.run keys-run place.kept once few in
             let q = skipped.passes in
-            let own : one ≡ extent_of v = o ∙ ap (λ (l : List ℕ). item_extent l item) (rest-is search.base work) ∙ item-extent ms (suc search.m) (drop search.base work) ready.extents item (known-lower search.m item known) in
+            let own : one ≡ extent_of v = o ∙ item-extent ms (suc search.m) search.extents.now ready.extents item (known-lower search.m item known) in
             let all : some ≡ extent_of (times q v) = r ∙ ap (repeated_extent q) own ∙ repeat-extents v q in
             record {
               place = record {
@@ -162,86 +149,76 @@ regroup a b c d e =
 -- The items of a macro.
 
 -- the keys of the first c items
-abbrev done_of : List Macro → Items → ℕ → List ℕ
-done_of ms items c = expand (λ j. expansion ms j) (unrolled (take c (decoded items)))
+abbrev done_of : List Macro → Macro → ℕ → List ℕ
+done_of ms items c = expand (λ j. expansion ms j) (unrolled (take c items))
 
 -- behind them the line has not ended
 pub record Behind (t : Query) (k : ℕ) (w : List ℕ) (at : Place) : Type 0 where
   pub place : PlaceAt t w at
   pub few : closed_by t w < k
 
-pub record ItemsPassed (keys enter : List ℕ) (search : Search) (work : List ℕ) (items : Items) (from at : Place) (c : ℕ) : Type 0 where
-  pub inside : c ≤ items.count
-  pub passed : (t : Query) (ms : List Macro) → Ready t keys enter ms search work → AllKnown search.m (decoded items) → (u : List ℕ) → PlaceAt t u from → closed_by t u < search.k → Behind t search.k (u ++ done_of ms items c) at
+pub record ItemsPassed (search : Search) (items : Macro) (from at : Place) (c : ℕ) : Type 0 where
+  pub passed : (t : Query) (ms : List Macro) → Ready t ms search → AllKnown search.m items → (u : List ℕ) → PlaceAt t u from → closed_by t u < search.k → Behind t search.k (u ++ expand (λ j. expansion ms j) (unrolled (take c items))) at
 
-module _ {keys enter work : List ℕ} {search : Search} {items : Items} where
-  pub items-first : {from : Place} → ItemsPassed keys enter search work items from from 0
-  items-first {from} =
+module _ {search : Search} {items : Macro} {from : Place} where
+  pub items-first : ItemsPassed search items from from 0
+  items-first =
       record {
-        inside = omega arith;
         passed = λ t ms ready known u place few.
-            let same : u ++ done_of ms items 0 ≡ u = ap (λ (l : List ℕ). u ++ l) (ap (expand (λ j. expansion ms j)) unrolled-none ∙ expand-none (λ j. expansion ms j)) ∙ append-nil u in
+            let same : u ++ done_of ms items 0 ≡ u = ap (λ (l : List ℕ). u ++ l) (keys-none (λ j. expansion ms j)) ∙ append-nil u in
             record { place = rw same place; few = rw same few };
       }
 
-  module _ {from at : Place} {c : ℕ} (x : ItemsPassed keys enter search work items from at c) where
+  module _ {at : Place} (c : ℕ) (x : ItemsPassed search items from at c) where
     -- all items are passed, so that the line ends in none of them
-    pub items-over : items.count ≤ c → StopIn keys enter search work from (decoded items) (record { item = Key 10; at = at })
+    pub items-over : length items ≤ c → StopIn search from items (record { item = Key 10; at = at })
     items-over h =
         record {
           among = λ j e. clash (cc);
           stops = λ t ms ready known u place few enough.
-              let all : take c (decoded items) ≡ decoded items = take_all c (decoded items) (omega (arith, decoded-length items)) in
               let b = x.passed t ms ready known u place few in
-              absurd (no_line (rw all at b.few) enough);
+              absurd (no_line (rw (take_all c items h) at b.few) enough);
         }
       where
         no_line : {a k : ℕ} → a < k → k ≤ a → ⊥
         no_line l m = omega (arith, l, m)
 
-    module _ (h : c < items.count) {item : Item} (e : item ≡ item_of (get_or items.codes c 0)) {n : ℕ} (f : n ≡ get_or items.times c 0) {past : Past} (p : PastItem keys enter search work at item n past) where
-      among : Memᴰ (repeated item n) (decoded items)
-      among = rw (e, f) (decoded-in items c h)
-
-      q : ℕ
-      q = past.passes
-
-      to : (t : Query) (ms : List Macro) → Ready t keys enter ms search work → AllKnown search.m (decoded items) → (u : List ℕ) → PlaceAt t u from → closed_by t u < search.k → PassedTo t search.k (u ++ done_of ms items c) (keys_of (λ j. expansion ms j) item) n past
+    module _ {next : Repeated} (e : slice_get items c ≡ Some next) {past : Past} (p : PastItem search at next.item next.times past) where
+      to : (t : Query) (ms : List Macro) → Ready t ms search → AllKnown search.m items → (u : List ℕ) → PlaceAt t u from → closed_by t u < search.k → PassedTo t search.k (u ++ done_of ms items c) (keys_of (λ j. expansion ms j) next.item) next.times past
       to t ms ready known u place few =
           let b = x.passed t ms ready known u place few in
-          p.passed t ms ready (known (repeated item n) among) (u ++ done_of ms items c) b.place b.few
+          p.passed t ms ready (known next (item-in items c e)) (u ++ done_of ms items c) b.place b.few
 
       -- the keys of one item more
-      more : (ms : List Macro) → done_of ms items (c + 1) ≡ done_of ms items c ++ times n (keys_of (λ j. expansion ms j) item)
-      more ms = ap (λ (is : Macro). expand (λ j. expansion ms j) (unrolled is)) (decoded-more items c h) ∙ expand-more (λ j. expansion ms j) (take c (decoded items)) (item_at items c) ∙ rw (← e, ← f) refl
+      more : (ms : List Macro) → done_of ms items (c + 1) ≡ done_of ms items c ++ times next.times (keys_of (λ j. expansion ms j) next.item)
+      more ms = keys-more (λ j. expansion ms j) items c e
 
-      pub items-next : n ≤ past.passes → ItemsPassed keys enter search work items from past.at (c + 1)
+      pub items-next : next.times ≤ past.passes → ItemsPassed search items from past.at (c + 1)
       items-next l =
           record {
-            inside = omega arith;
             passed = λ t ms ready known u place few.
                 let s = to t ms ready known u place few in
-                let all : past.passes ≡ n = omega (arith, p.within) in
-                let v = keys_of (λ j. expansion ms j) item in
-                let whole : (u ++ done_of ms items c) ++ times past.passes v ≡ u ++ done_of ms items (c + 1) = rw all (append_assoc u (done_of ms items c) (times n v) ∙ ap (λ (l : List ℕ). u ++ l) (sym (more ms))) in
+                let all : past.passes ≡ next.times = omega (arith, p.within) in
+                let v = keys_of (λ j. expansion ms j) next.item in
+                let whole : (u ++ done_of ms items c) ++ times past.passes v ≡ u ++ done_of ms items (c + 1) = rw all (append_assoc u (done_of ms items c) (times next.times v) ∙ ap (λ (l : List ℕ). u ++ l) (sym (more ms))) in
                 record { place = rw (← whole) s.place; few = rw (← whole) s.few };
           }
 
-      pub items-stop : past.passes < n → StopIn keys enter search work from (decoded items) (record { item = item; at = past.at })
+      pub items-stop : past.passes < next.times → StopIn search from items (record { item = next.item; at = past.at })
       items-stop l =
           record {
-            among = λ j g. (n, rw (← g) among);
+            among = λ j g. (next.times, there j g);
             stops = λ t ms ready known u place few enough.
                 let s = to t ms ready known u place few in
-                let v = keys_of (λ j. expansion ms j) item in
+                let v = keys_of (λ j. expansion ms j) next.item in
                 let d = done_of ms items c in
-                let rest = expand (λ j. expansion ms j) (unrolled (drop (c + 1) (decoded items))) in
+                let rest = expand (λ j. expansion ms j) (unrolled (drop (c + 1) items)) in
                 let shift : (u ++ d) ++ times past.passes v ≡ u ++ (d ++ times past.passes v) = append_assoc u d (times past.passes v) in
                 let one : times (past.passes + 1) v ≡ times past.passes v ++ v = times-add past.passes 1 v ∙ ap (λ (k : List ℕ). times past.passes v ++ k) (times-one v) in
                 let far : (u ++ d) ++ times (past.passes + 1) v ≡ (u ++ (d ++ times past.passes v)) ++ v = ap (λ (k : List ℕ). (u ++ d) ++ k) one ∙ sym (append_assoc (u ++ d) (times past.passes v) v) ∙ ap (λ (k : List ℕ). k ++ v) shift in
                 record {
                   before = d ++ times past.passes v;
-                  behind = times (n - (past.passes + 1)) v ++ rest;
+                  behind = times (next.times - (past.passes + 1)) v ++ rest;
                   split = split ms;
                   place = rw (← shift) s.place;
                   few = rw (← shift) s.few;
@@ -249,20 +226,16 @@ module _ {keys enter work : List ℕ} {search : Search} {items : Items} where
                 };
           }
         where
-          split : (ms : List Macro) → expand (λ j. expansion ms j) (unrolled (decoded items)) ≡ (done_of ms items c ++ times past.passes (keys_of (λ j. expansion ms j) item)) ++ (keys_of (λ j. expansion ms j) item ++ (times (n - (past.passes + 1)) (keys_of (λ j. expansion ms j) item) ++ expand (λ j. expansion ms j) (unrolled (drop (c + 1) (decoded items)))))
+          there : (j : ℕ) → next.item ≡ Call j → Memᴰ (repeated (Call j) next.times) items
+          there j g = let here : Memᴰ (repeated next.item next.times) items = item-in items c e in rw g at here
+
+          split : (ms : List Macro) → expand (λ j. expansion ms j) (unrolled items) ≡ (done_of ms items c ++ times past.passes (keys_of (λ j. expansion ms j) next.item)) ++ (keys_of (λ j. expansion ms j) next.item ++ (times (next.times - (past.passes + 1)) (keys_of (λ j. expansion ms j) next.item) ++ expand (λ j. expansion ms j) (unrolled (drop (c + 1) items))))
           split ms =
-              let v = keys_of (λ j. expansion ms j) item in
-              ap (λ (is : Macro). expand (λ j. expansion ms j) (unrolled is)) (sym (take-append-drop (c + 1) (decoded items)))
-              ∙ expand-both (λ j. expansion ms j) (take (c + 1) (decoded items)) (drop (c + 1) (decoded items))
-              ∙ ap (λ (l : List ℕ). l ++ expand (λ j. expansion ms j) (unrolled (drop (c + 1) (decoded items)))) (more ms ∙ ap (λ (l : List ℕ). done_of ms items c ++ l) (passes-split past.passes n v l))
-              ∙ regroup (done_of ms items c) (times past.passes v) v (times (n - (past.passes + 1)) v) (expand (λ j. expansion ms j) (unrolled (drop (c + 1) (decoded items))))
-
--- items and states within the limits of the code
-pub item-fits : {items : Items} {search : Search} {work : List ℕ} → ItemsFit items search work → SearchFits search work
-item-fits x = x.fits
-
-pub item-few : {items : Items} {search : Search} {work : List ℕ} → ItemsFit items search work → (c : ℕ) → c < items.count → c < 64
-item-few x c h = omega (arith, x.few)
+              let v = keys_of (λ j. expansion ms j) next.item in
+              ap (λ (is : Macro). expand (λ j. expansion ms j) (unrolled is)) (sym (take-append-drop (c + 1) items))
+              ∙ expand-both (λ j. expansion ms j) (take (c + 1) items) (drop (c + 1) items)
+              ∙ ap (λ (l : List ℕ). l ++ expand (λ j. expansion ms j) (unrolled (drop (c + 1) items))) (more ms ∙ ap (λ (l : List ℕ). done_of ms items c ++ l) (passes-split past.passes next.times v l))
+              ∙ regroup (done_of ms items c) (times past.passes v) v (times (next.times - (past.passes + 1)) v) (expand (λ j. expansion ms j) (unrolled (drop (c + 1) items)))
 
 -- Macro by macro.
 
@@ -276,12 +249,12 @@ pub record Within (t : Query) (k : ℕ) (run part : List ℕ) (at : Place) : Typ
   pub far : k ≤ closed_by t (before ++ part)
 
 -- in macro i
-pub record Level (keys enter b : List ℕ) (search : Search) (work : List ℕ) (at : Place) (i : ℕ) : Type 0 where
+pub record Level (b : List ℕ) (search : Search) (at : Place) (i : ℕ) : Type 0 where
   pub inside : i ≤ search.m
-  pub within : (t : Query) → Ready t keys enter (macros_in b) search work → 1 ≤ search.k → search.k ≤ closed_by t (expansion (macros_in b) search.m) → Within t search.k (expansion (macros_in b) search.m) (expansion (macros_in b) i) at
+  pub within : (t : Query) → Ready t (macros_in b) search → 1 ≤ search.k → search.k ≤ closed_by t (expansion (macros_in b) search.m) → Within t search.k (expansion (macros_in b) search.m) (expansion (macros_in b) i) at
 
-module _ {keys enter work : List ℕ} {search : Search} where
-  pub level-first : (b : List ℕ) {at : Place} → Starts keys enter search.p at → Level keys enter b search work at search.m
+module _ {search : Search} where
+  pub level-first : (b : List ℕ) {at : Place} → Starts search.tables.now at → Level b search at search.m
   level-first b {at} s =
       record {
         inside = omega arith;
@@ -296,7 +269,7 @@ module _ {keys enter work : List ℕ} {search : Search} where
             };
       }
 
-  module _ {b offsets : List ℕ} (g : SearchIn b offsets search work) {at : Place} {i : ℕ} (l : Level keys enter b search work at i) {items : Items} (e : items ≡ items_from b offsets i) where
+  module _ {b offsets : List ℕ} (g : SearchIn b offsets search) {at : Place} {i : ℕ} (l : Level b search at i) {items : Macro} (e : items ≡ decoded (items_from b offsets i)) where
     abbrev ms : List Macro
     ms = macros_in b
 
@@ -306,14 +279,11 @@ module _ {keys enter work : List ℕ} {search : Search} where
     well : well_formed ms ≡ true
     well = well-in b g.inside
 
-    its : decoded items ≡ get_or ms i []
-    its = items-are b offsets i g.table inner e
-
-    pub level-fits : ItemsFit items search work
-    level-fits = record { few = count-few b offsets i e; there = count_fits b offsets i e; often = times-fit b offsets i e; fits = g.fits }
+    its : items ≡ get_or ms i []
+    its = e ∙ items-are b offsets i g.table inner
 
     -- a macro's items are keys, and calls of macros below it
-    all_known : AllKnown search.m (decoded items)
+    all_known : AllKnown search.m items
     unfolding Known
     all_known x c = go x.item x.times (rw its at c)
       where
@@ -321,12 +291,12 @@ module _ {keys enter work : List ℕ} {search : Search} where
         go (Key k) n d = well-key ms well i d
         go (Call j) n d = let lower : j < i = well-call ms well i d in omega (arith, lower, l.inside)
 
-    its-run : expand (λ j. expansion ms j) (unrolled (decoded items)) ≡ expansion ms i
+    its-run : expand (λ j. expansion ms j) (unrolled items) ≡ expansion ms i
     its-run = ap (λ (is : Macro). expand (λ j. expansion ms j) (unrolled is)) its ∙ sym (expansion-law ms well i)
 
-    module _ {stop : Stop} (s : StopIn keys enter search work at (decoded items) stop) where
+    module _ {stop : Stop} (s : StopIn search at items stop) where
       -- the part of the run of the item in which it ends
-      stopped : (t : Query) → Ready t keys enter ms search work → 1 ≤ search.k → search.k ≤ closed_by t (expansion ms search.m) → Within t search.k (expansion ms search.m) (keys_of (λ j. expansion ms j) stop.item) stop.at
+      stopped : (t : Query) → Ready t ms search → 1 ≤ search.k → search.k ≤ closed_by t (expansion ms search.m) → Within t search.k (expansion ms search.m) (keys_of (λ j. expansion ms j) stop.item) stop.at
       stopped t ready some enough =
           let w = l.within t ready some enough in
           let u = w.before in
@@ -350,10 +320,10 @@ module _ {keys enter work : List ℕ} {search : Search} where
         pub level-lower : j < i
         level-lower = let (n, m) = s.among j c in well-call ms well i (rw its at m)
 
-        pub level-next : Level keys enter b search work stop.at j
+        pub level-next : Level b search stop.at j
         level-next = record { inside = omega (arith, level-lower, l.inside); within = λ t ready some enough. rw c at (stopped t ready some enough) }
 
-      pub level-end : {c : ℕ} → stop.item ≡ Key c → Descends keys enter b search work stop.at
+      pub level-end : {c : ℕ} → stop.item ≡ Key c → Descends b search stop.at
       level-end {c} f = record { ends = λ t ready some enough. at-end t (rw f at (stopped t ready some enough)) }
         where
           at-end : (t : Query) → Within t search.k (expansion ms search.m) (c ∷ []) stop.at → EndsAt t search.k (expansion ms search.m) stop.at

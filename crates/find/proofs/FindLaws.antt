@@ -8,11 +8,12 @@ use mathlib.Core.Path.{◌≡◌, refl, sym, ap, ◌∙◌}
 use mathlib.Core.Bool.{Bool, true, false, not, ◌&&◌, and-true}
 use mathlib.Core.List.{List, ◌++◌}
 use lib.Dec.{leb}
-use lib.ListN.{length, take, drop, length-append, length-take}
+use lib.ListN.{length, take, drop, length-drop}
 use lib.Seq.{take_at, drop_at}
-use borrow.Author.Tests.{leb-true, leb-false, le-leb, lt-ltb, le-ltb, eq-eqb, ne_eqb, not-true, not-false}
+use borrow.Author.Tests.{leb-true, leb-false, le-leb, lt-ltb, le-ltb, ne_eqb, not-true, not-false}
+use Rattle.std.specs.Prelude.{Option, Some, None, Result, Ok, Err}
 use Rattle.refusal.specs.declared.Refusal.{Refusal}
-use Rattle.refusal.specs.declared.Refusal.TheVariants.{CountOverflow, NoSuchLine, LineNumberOverflow}
+use Rattle.refusal.specs.declared.Refusal.TheVariants.{CountOverflow, NoSuchLine}
 use Rattle.refusal.specs.Number.{number}
 use Rattle.refusal.proofs.Number.{number-positive}
 use Rattle.runs.specs.Kept.{first_words, words_over}
@@ -28,15 +29,15 @@ use Rattle.pattern.specs.Reader as reader
 use Rattle.pattern.specs.Moves.{states}
 use Rattle.pattern.specs.Form.{Pattern}
 use Rattle.pattern.specs.Automata.{Automaton}
-use Rattle.pattern.proofs.Readings.{states-of}
+use Rattle.pattern.specs.declared.automaton.Tables.{Tables}
+use Rattle.letters.specs.declared.Case.{Case}
 use Rattle.lines.specs.Lines.{lines, matching}
 use Rattle.lines.proofs.LineLaws.{matching-is}
-use Rattle.reports.specs.declared.total.Total.{Total}
 use Rattle.reports.specs.Totals.{total_of}
 use Rattle.reports.specs.Words.{behind_rows}
 use Rattle.reports.proofs.TotalLaws.{few-lines, many-lines}
 use Rattle.reports.proofs.StoredLaws as stored
-use Rattle.counter.specs.declared.counting.BookCount.{BookCount}
+use Rattle.counter.specs.declared.counting.Count.{Count}
 use Rattle.counter.specs.Counting as counting
 use Rattle.counter.specs.Counting.{macro_words, filled, count_of, finished_by, matching_lines}
 use Rattle.counter.specs.Front.{pattern_step}
@@ -47,61 +48,47 @@ use Rattle.extents.specs.Words.{width}
 use Rattle.extents.proofs.CappedLaws.{capped_small, capped-large}
 use Rattle.find.specs.declared.descent.Search.{Search}
 use Rattle.find.specs.declared.descent.Located.{Located}
-use Rattle.find.specs.declared.finding.Placed.{Placed}
+use Rattle.find.specs.declared.finding.FoundLine.{FoundLine}
+use Rattle.find.specs.declared.finding.LinePlace.{LinePlace}
 use Rattle.find.specs.Lines.{missing, found, kth_line}
 use Rattle.find.specs.Answer.{base_of, extent_words_of, written, told}
-use Rattle.find.specs.Promises.{Extended, BehindFits, Ready, SearchIn, Locates, has_line, numbered_at, placed_for, placing, MacroFits, PlacesLine}
+use Rattle.find.specs.Promises.{Extended, WordsFit, Ready, Locates, has_line, numbered_at, line_at, placed_for, placing, placing_of}
+use Rattle.find.proofs.SoundLaws.{Placeable, placed_by}
 use Rattle.find.proofs.LineLaws.{kth-is, kth-missing, kth-zero}
 
--- so many lines match
-pub has-lines : (k : ℕ) {c : BookCount} {n s : ℕ} → c ≡ BookCount.Lines n s → leb 1 k && leb k n ≡ has_line c k
-unfolding has_line
-has-lines k e = rw e refl
-
-pub has-many : (k : ℕ) {c : BookCount} {r : Refusal} → c ≡ BookCount.Refused r → leb 1 k ≡ has_line c k
-unfolding has_line
-has-many k e = rw e refl
-
 -- the count says whether there is a k-th line
-pub has-line : (t : Query) (ms : List Macro) (m version k : ℕ) (before : List ℕ) (c : BookCount) (after : List ℕ) → k ≤ most → answers.outcome c after ≡ count_of version t ms m before → has_line c k ≡ (leb 1 k && leb k (matching t (expansion ms m)))
+has-line : (t : Query) (ms : List Macro) (m version k : ℕ) (before : List ℕ) (c : Result Count Refusal) (after : List ℕ) → k ≤ most → answers.outcome c after ≡ count_of version t ms m before → has_line c k ≡ (leb 1 k && leb k (matching t (expansion ms m)))
+unfolding has_line
 has-line t ms m version k before c after h e =
     either most (matching t (expansion ms m))
-    (λ l. many c l (e ∙ ap (λ (z : Total). finished_by z (counting.steps_in version (counting.steps t ms m)) (filled t ms m before)) (many-lines (matching t (expansion ms m)) l)))
-    (λ l. few c (e ∙ ap (λ (z : Total). finished_by z (counting.steps_in version (counting.steps t ms m)) (filled t ms m before)) (few-lines (matching t (expansion ms m)) l)))
+    (λ l. many c l (e ∙ ap (λ (z : Option ℕ). finished_by z (counting.steps_in version (counting.steps t ms m)) (filled t ms m before)) (many-lines (matching t (expansion ms m)) l)))
+    (λ l. few c (e ∙ ap (λ (z : Option ℕ). finished_by z (counting.steps_in version (counting.steps t ms m)) (filled t ms m before)) (few-lines (matching t (expansion ms m)) l)))
   where
-    many : (x : BookCount) → most < matching t (expansion ms m) → answers.outcome x after ≡ counting.stopped CountOverflow (filled t ms m before) → has_line x k ≡ (leb 1 k && leb k (matching t (expansion ms m)))
-    many (BookCount.Lines n s) l g = absurd (zero-not (ap (λ (o : counting.Outcome). o.refusal) g))
+    many : (x : Result Count Refusal) → most < matching t (expansion ms m) → answers.outcome x after ≡ counting.stopped CountOverflow (filled t ms m before) → has_line x k ≡ (leb 1 k && leb k (matching t (expansion ms m)))
+    many (Ok a) l g = absurd (zero-not (ap (λ (o : counting.Outcome). o.refusal) g))
       where
         zero-not : ◌≡◌ {A = ℕ} 0 12 → ⊥
         zero-not z = omega (arith, z)
-    many (BookCount.Refused r) l g = sym (has-many k refl) ∙ rw (le-leb k (matching t (expansion ms m)) (omega arith)) (sym (and-true (leb 1 k)))
+    many (Err r) l g = rw (le-leb k (matching t (expansion ms m)) (omega arith)) (sym (and-true (leb 1 k)))
 
-    few : (x : BookCount) → answers.outcome x after ≡ counting.finished (matching t (expansion ms m)) (counting.steps_in version (counting.steps t ms m)) (filled t ms m before) → has_line x k ≡ (leb 1 k && leb k (matching t (expansion ms m)))
-    few (BookCount.Lines n s) g = sym (has-lines k refl) ∙ ap (λ (x : ℕ). leb 1 k && leb k x) (ap (λ (o : counting.Outcome). o.lines) g)
-    few (BookCount.Refused r) g = absurd (no_number (number-positive r) (ap (λ (o : counting.Outcome). o.refusal) g))
+    few : (x : Result Count Refusal) → answers.outcome x after ≡ counting.finished (matching t (expansion ms m)) (counting.steps_in version (counting.steps t ms m)) (filled t ms m before) → has_line x k ≡ (leb 1 k && leb k (matching t (expansion ms m)))
+    few (Ok a) g = ap (λ (x : ℕ). leb 1 k && leb k x) (ap (λ (o : counting.Outcome). o.lines) g)
+    few (Err r) g = absurd (no_number (number-positive r) (ap (λ (o : counting.Outcome). o.refusal) g))
       where
         no_number : 1 ≤ number r → number r ≡ 0 → ⊥
         no_number p z = omega (arith, p, z)
 
--- the number of a line
-pub number-over : (line : Located) (base : ℕ) → line.ends ≡ most → Placed.Refused LineNumberOverflow ≡ numbered_at line base
-unfolding numbered_at
-number-over line base e = rw (eq-eqb line.ends most e) refl
+-- The number of a line, and where its words stand.
+abbrev pub with_base : ℕ → Result FoundLine Refusal → Result LinePlace Refusal
+with_base base (Ok line) = Ok (record { line = line; base = base })
+with_base base (Err r) = Err r
 
-module _ (line : Located) (base : ℕ) (n : line.ends ≡ most → ⊥) where
-  pub number_is : Placed.Line (line.ends + 1) line.length base ≡ numbered_at line base
-  unfolding numbered_at
-  number_is = rw (ne_eqb line.ends most n) refl
-
-  pub number_fits : Fits w64 line.ends → Fits w64 (line.ends + 1)
-  number_fits f = omega (arith, n, f)
-
-numbered-for : (line : Located) (base before : ℕ) (l : List ℕ) → line.ends ≡ capped before → line.length ≡ told (length l) → numbered_at line base ≡ placed_for base (found (suc before) l)
+numbered-for : (line : Located) (base before : ℕ) (l : List ℕ) → line.ends ≡ capped before → line.length ≡ told (length l) → with_base base (numbered_at line) ≡ placed_for base (found (suc before) l)
 unfolding numbered_at placed_for
 numbered-for line base before l e f =
     rw (e, f)
     (either before most
-    (λ h. let same : capped before ≡ before = capped_small before (omega arith) in rw (same, ne_eqb before most (omega arith), le-ltb most (suc before) (omega arith)) (ap (λ (n : ℕ). Placed.Line n (told (length l)) base) (add-one before)))
+    (λ h. let same : capped before ≡ before = capped_small before (omega arith) in rw (same, ne_eqb before most (omega arith), le-ltb most (suc before) (omega arith)) (ap (λ (n : ℕ). Ok (line_at n (told (length l)) base)) (add-one before)))
     (λ h. let same : capped before ≡ most = capped-large before h in rw (same, lt-ltb most (suc before) (omega arith)) refl))
 
 -- no k-th line
@@ -122,96 +109,93 @@ accepted-tree (reader.refused x) u e = clash (cc)
 accepted-tree (reader.accepted v) u e = ap reader.accepted (cc)
 
 -- The work words, where the count has left the reports in front and the extents are written behind them.
-module _ {b offsets before : List ℕ} (work : List ℕ) {search : Search} (g : MacroFits b offsets search before) (long : length work ≡ length before) where
-  pub behind-in : BehindFits b offsets search.m search.base work
-  behind-in = record { table = g.table; inside = g.inside; room = omega (arith, g.base, g.room, long) }
-
+module _ {b offsets : List ℕ} {c : Case} {s : List ℕ} {a : Tables} {m base : ℕ} {before : List ℕ} (x : Placeable b offsets c s a m base before) (work : List ℕ) (long : length work ≡ length before) where
   abbrev ms : List Macro
   ms = macros_in b
 
-  module _ {after : List ℕ} (f : after ≡ take search.base work ++ words_over (extent_words_of ms) width (suc search.m) (drop search.base work)) where
-    pub search-in : SearchIn b offsets search after
-    search-in = record { table = g.table; inside = g.inside; fits = record { small = g.small; room = rw (f, length-append (take search.base work) (words_over (extent_words_of ms) width (suc search.m) (drop search.base work)), length-take search.base work) (omega (arith, g.base, g.room, long)) } }
+  abbrev t : Query
+  t = query c x.pattern.tree
 
-    module _ (t : Query) {keys enter : List ℕ} (d : Automaton t keys enter search.p) (e : work ≡ filled t ms search.m before) where
+  abbrev d : Automaton (query c x.pattern.tree) a.keys a.enter a.accepting
+  d = x.pattern.tables
+
+  pub words-room : base ≤ length work
+  words-room = omega (arith, x.based, x.room, long)
+
+  -- the two parts, and the second one with the extents
+  module _ {front back : List ℕ} (ff : front ≡ take base work) (fb : back ≡ drop base work) where
+    pub words-fit-in : WordsFit b offsets m back
+    words-fit-in = record { table = x.table; inside = x.inside; room = rw (fb, length-drop base work) (omega (arith, x.based, x.room, long)) }
+
+    module _ {part : List ℕ} (f : part ≡ words_over (extent_words_of (macros_in b)) width (suc m) back) (count : Result Count Refusal) (counted : answers.outcome count work ≡ counting.count_result c (version_in b) (read_book b) (reader.read_pattern s) m before) where
+      count-is : answers.outcome count work ≡ count_of (version_in b) t ms m before
+      count-is =
+          let (rest, o) = got-book (read_book b) ms x.sound in
+          let y : reader.read_pattern s ≡ reader.accepted x.pattern.tree = accepted-tree (reader.read_pattern s) x.pattern.tree x.pattern.sound in
+          let enough : counting.needed t m ≤ length before = omega (arith, x.room) in
+          counted
+          ∙ rw (o, y) (count-accepted c (version_in b) m before ms rest x.pattern.tree ∙ rw (lt-ltb m (length ms) x.inside, le-ltb (length before) (counting.needed t m) enough) refl)
+
+      reports-are : work ≡ filled t ms m before
+      reports-are = go count count-is
+        where
+          by_total : (z : Option ℕ) → (finished_by z (counting.steps_in (version_in b) (counting.steps t ms m)) (filled t ms m before)).work ≡ filled t ms m before
+          by_total (Some n) = refl
+          by_total None = refl
+
+          go : (y : Result Count Refusal) → answers.outcome y work ≡ count_of (version_in b) t ms m before → work ≡ filled t ms m before
+          go (Ok q) h = ap (λ (o : counting.Outcome). o.work) h ∙ by_total (total_of (matching t (expansion ms m)))
+          go (Err r) h = ap (λ (o : counting.Outcome). o.work) h ∙ by_total (total_of (matching t (expansion ms m)))
+
       abbrev reports_front : List ℕ
-      reports_front = first_words (macro_words t ms) (suc search.m)
+      reports_front = first_words (macro_words t ms) (suc m)
 
-      based : search.base ≡ base_of t search.m
-      based = g.base ∙ rw (states-of d) refl
+      abbrev extents_behind : List ℕ
+      extents_behind = words_over (extent_words_of ms) width (suc m) (drop (base_of t m) before)
 
-      front_length : length reports_front ≡ search.base
-      front_length = words-length (macro_words t ms) (states t + behind_rows) (λ i. stored.words-length t d.few (expansion ms i)) (suc search.m) ∙ sym based
+      front_length : length reports_front ≡ base
+      front_length = words-length (macro_words t ms) (states t + behind_rows) (λ i. stored.words-length t d.few (expansion ms i)) (suc m) ∙ sym x.based
 
-      taken : take search.base work ≡ reports_front
-      taken = ap (take search.base) e ∙ take_at reports_front (drop (base_of t search.m) before) search.base front_length
+      front-is : front ≡ reports_front
+      front-is = ff ∙ ap (take base) reports-are ∙ take_at reports_front (drop (base_of t m) before) base front_length
 
-      dropped : drop search.base work ≡ drop (base_of t search.m) before
-      dropped = ap (drop search.base) e ∙ drop_at reports_front (drop (base_of t search.m) before) search.base front_length
-
-      words : after ≡ reports_front ++ words_over (extent_words_of ms) width (suc search.m) (drop (base_of t search.m) before)
-      words = f ∙ rw (taken, dropped) refl
+      part-is : part ≡ extents_behind
+      part-is = f ∙ ap (words_over (extent_words_of ms) width (suc m)) (fb ∙ ap (drop base) reports-are ∙ drop_at reports_front (drop (base_of t m) before) base front_length)
 
       -- they are what is to be written
-      written_is : after ≡ written t ms search.m before
+      written_is : front ++ part ≡ written t ms m before
       unfolding written
-      written_is = words
+      written_is = rw (front-is, part-is) refl
 
-      ready : Ready t keys enter ms search after
+      -- and what the search rests on
+      ready : (search : Search) → search.tables.now ≡ a → search.reports.now ≡ front → search.extents.now ≡ part → search.m ≡ m → Ready t ms search
       unfolding Extended
-      ready =
+      ready search st sr se sm =
           record {
-            tables = d;
-            well = well-in b g.inside;
-            behind = words_over (extent_words_of ms) width (suc search.m) (drop (base_of t search.m) before);
-            reports = words;
-            extents = (drop (suc search.m * width) (drop (base_of t search.m) before), ap (drop search.base) words ∙ drop_at reports_front (words_over (extent_words_of ms) width (suc search.m) (drop (base_of t search.m) before)) search.base front_length);
+            tables = rw st d;
+            well = well-in b x.inside;
+            reports = rw (sr, sm) front-is;
+            extents = rw (se, sm) (drop (suc m * width) (drop (base_of t m) before), part-is);
           }
 
-    -- under an accepted pattern, whose count was made
-    module _ {keys enter : List ℕ} (s : List ℕ) (count : BookCount) (counted : answers.outcome count work ≡ counting.count_result search.case (version_in b) (read_book b) (reader.read_pattern s) search.m before) (fits : Fits w64 search.k) {some : Bool} (has : some ≡ has_line count search.k) where
-      module _ (tree : Pattern) (y : pattern_step (reader.read_pattern s) ≡ settled tree) (d : Automaton (query search.case tree) keys enter search.p) where
-        abbrev t : Query
-        t = query search.case tree
+      -- the line, by whether there is one
+      module _ {k : ℕ} (fits : Fits w64 k) {some : Bool} (has : some ≡ has_line count k) where
+        has-is : some ≡ (leb 1 k && leb k (matching t (expansion ms m)))
+        has-is = has ∙ has-line t ms m (version_in b) k before count work (omega (arith, fits)) count-is
 
-        count-is : answers.outcome count work ≡ count_of (version_in b) t ms search.m before
-        count-is =
-            let (rest, o) = got-book (read_book b) ms g.sound in
-            let a : reader.read_pattern s ≡ reader.accepted tree = accepted-tree (reader.read_pattern s) tree y in
-            let enough : counting.needed t search.m ≤ length before = rw (← states-of d) (omega (arith, g.room)) in
-            counted
-            ∙ rw (o, a) (count-accepted search.case (version_in b) search.m before ms rest tree ∙ rw (lt-ltb search.m (length ms) g.inside, le-ltb (length before) (counting.needed t search.m) enough) refl)
+        -- it is where it is looked for, or there is none
+        settled-is : {r : Result LinePlace Refusal} → r ≡ placed_for base (kth_line t k (expansion ms m)) → placing r (front ++ part) ≡ placing_of c (read_book b) (reader.read_pattern s) m k before
+        settled-is e = rw (e, written_is, x.based) (placed_by c (read_book b) (reader.read_pattern s) m k before x.settles)
 
-        reports-are : work ≡ filled t ms search.m before
-        reports-are = go count count-is
-          where
-            by_total : (z : Total) → (finished_by z (counting.steps_in (version_in b) (counting.steps t ms search.m)) (filled t ms search.m before)).work ≡ filled t ms search.m before
-            by_total (Total.Lines n) = refl
-            by_total Total.TooMany = refl
+        pub macro-none : not some ≡ true → placing (Err NoSuchLine) (front ++ part) ≡ placing_of c (read_book b) (reader.read_pattern s) m k before
+        unfolding placed_for
+        macro-none n = settled-is (rw (no_line t k (expansion ms m) (sym has-is ∙ not-true some n)) refl)
 
-            go : (x : BookCount) → answers.outcome x work ≡ count_of (version_in b) t ms search.m before → work ≡ filled t ms search.m before
-            go (BookCount.Lines n q) h = ap (λ (o : counting.Outcome). o.work) h ∙ by_total (total_of (matching t (expansion ms search.m)))
-            go (BookCount.Refused r) h = ap (λ (o : counting.Outcome). o.work) h ∙ by_total (total_of (matching t (expansion ms search.m)))
-
-        has-is : some ≡ (leb 1 search.k && leb search.k (matching t (expansion ms search.m)))
-        has-is = has ∙ has-line t ms search.m (version_in b) search.k before count work (omega (arith, fits)) count-is
-
-      pub macro-none : not some ≡ true → PlacesLine keys enter b s search before after (Placed.Refused NoSuchLine)
-      unfolding placed_for
-      macro-none n =
-          record {
-            places = λ tree y d.
-                rw (no_line (query search.case tree) search.k (expansion ms search.m) (sym (has-is tree y d) ∙ not-true some n)) (ap (placing (Placed.Refused NoSuchLine)) (written_is (query search.case tree) d (reports-are tree y d)));
-          }
-
-      pub macro-some : {line : Located} {r : Placed} → not some ≡ false → Locates keys enter b search after line → r ≡ numbered_at line search.base → PlacesLine keys enter b s search before after r
-      macro-some {line} {r} q l o =
-          record {
-            places = λ tree y d.
-                let u = query search.case tree in
-                let e = reports-are tree y d in
-                let both = and_parts (leb 1 search.k) (leb search.k (matching u (expansion ms search.m))) (sym (has-is tree y d) ∙ not-false some q) in
-                let x = l.located u (ready u d e) (leb-true 1 search.k both.0) (leb-true search.k (matching u (expansion ms search.m)) both.1) in
-                let same : r ≡ placed_for search.base (kth_line u search.k (expansion ms search.m)) = o ∙ numbered-for line search.base x.before x.line x.ends x.size ∙ ap (placed_for search.base) (sym x.is) in
-                rw (same, written_is u d e) refl;
-          }
+        pub macro-some : (search : Search) → search.tables.now ≡ a → search.reports.now ≡ front → search.extents.now ≡ part → search.m ≡ m → search.k ≡ k → not some ≡ false → {line : Located} {r : Result FoundLine Refusal} → Locates b search line → r ≡ numbered_at line
+            → placing (with_base base r) (front ++ part) ≡ placing_of c (read_book b) (reader.read_pattern s) m k before
+        macro-some search st sr se sm sk q {line} {r} l o =
+            let both = and_parts (leb 1 k) (leb k (matching t (expansion ms m))) (sym has-is ∙ not-false some q) in
+            let low : 1 ≤ search.k = rw sk (leb-true 1 k both.0) in
+            let high : search.k ≤ matching t (expansion ms search.m) = rw (sk, sm) (leb-true k (matching t (expansion ms m)) both.1) in
+            let y = rw (sk, sm) at (l.located t (ready search st sr se sm) low high) in
+            settled-is (ap (with_base base) o ∙ numbered-for line base y.before y.line y.ends y.size ∙ ap (placed_for base) (sym y.is))

@@ -1,5 +1,5 @@
 -- Laws of the keys of a line: they stand behind the line ends before it.
-use Prim.Native.Nat.{ℕ, suc, ◌+◌, ◌-◌, ◌^◌, ◌<◌, ◌≤◌}
+use Prim.Native.Nat.{ℕ, suc, ◌+◌, ◌-◌, ◌^◌, ◌<◌, ◌≤◌, min}
 use native.Mathlib.Omega.{arith}
 use mathlib.Core.Path.{◌≡◌, refl, sym, ap, ◌∙◌}
 use mathlib.Core.Logic.{◌⊎◌, inl, inr, ⊎_elim}
@@ -9,10 +9,11 @@ use lib.Dec.{eqb, ltb}
 use lib.ListN.{length, take, drop, length-append}
 use lib.Seq.{take_all, take-append-le}
 use borrow.Author.Tests.{eqb-true, ne_eqb, lt-ltb, le-ltb}
+use Rattle.std.specs.Prelude.{Ok, Err}
 use Rattle.refusal.specs.declared.Refusal.TheVariants.{BufferTooShort}
 use Rattle.runs.specs.Keys.{member, line_end}
 use Rattle.runs.specs.Kept.{over}
-use Rattle.runs.proofs.Tests.{either, clash, neither}
+use Rattle.runs.proofs.Tests.{clash, neither}
 use Rattle.book.specs.Reading.{macros_in}
 use Rattle.lines.specs.Lines.{trimmed, lines}
 use Rattle.lines.proofs.LineLaws.{lines-closed, lines-open, lines_none}
@@ -22,22 +23,11 @@ use Rattle.extents.specs.Extents.{end_count}
 use Rattle.extents.proofs.ExtentLaws.{ends-none, ends-cons}
 use Rattle.find.specs.declared.finding.FoundLine.{FoundLine}
 use Rattle.find.specs.declared.finding.LinePlace.{LinePlace}
-use Rattle.find.specs.Answer.{longest, told, find_of}
+use Rattle.find.specs.Answer.{longest, find_of}
 use Rattle.find.specs.Promises.{behind_ends, writes, buffer_after, WriteFits, LineOf, LineFits, WritesLine}
 use Rattle.find.proofs.FillLaws.{rest_of, rest-is}
+use Rattle.find.proofs.LocateLaws.{told-is}
 use Rattle.find.proofs.WriteLaws.{behind-zero, behind-both, behind-few, extended-less}
-
--- what is told of a number
-told-le : (n : ℕ) → told n ≤ n
-unfolding told
-told-le n = either n longest (λ h. rw (lt-ltb n longest h) (omega arith)) (λ h. rw (le-ltb n longest h) h)
-
-told_is : (n : ℕ) → told n < longest → told n ≡ n
-unfolding told
-told_is n = either n longest (λ h l. rw (lt-ltb n longest h) refl) (λ h l. absurd (go (rw (le-ltb n longest h) at l)))
-  where
-    go : longest < longest → ⊥
-    go l = omega (arith, l)
 
 -- a run has no line end, or keys before its first one and keys behind it
 abbrev Ended : List ℕ → Type 0
@@ -108,13 +98,13 @@ nth-keys (b ∷ before) w l after e = ⊎_elim (λ n. absurd (whole w n e)) (λ 
         rw skipped (again rest)
 
 -- The line that is written.
-module _ {run : List ℕ} {line : LinePlace} {keys : List ℕ} (o : LineOf run line keys) where
+module _ {run : List ℕ} {line : FoundLine} {keys : List ℕ} (o : LineOf run line keys) where
   -- what is told of its keys is no more than there are, and all of it if it is small
   told-less : line.length ≤ length keys
-  told-less = rw o.size (told-le (length keys))
+  told-less = rw (o.size, ← told-is (length keys)) (omega arith)
 
   told-all : line.length < longest → line.length ≡ length keys
-  told-all h = o.size ∙ told_is (length keys) (rw (← o.size) h)
+  told-all h = let told-min : line.length ≡ min (length keys) longest = o.size ∙ sym (told-is (length keys)) in omega (arith, told-min)
 
   -- its keys are written, with a pen that skips the line ends before it
   line_writes : line.length ≡ length keys → writes (record { ends = line.number - 1; left = line.length; at = 0 }) run ≡ keys
@@ -125,12 +115,12 @@ module _ {run : List ℕ} {line : LinePlace} {keys : List ℕ} (o : LineOf run l
   not-over : ltb most line.number ≡ false
   not-over = le-ltb most line.number o.low
 
-pub line-short : (run : List ℕ) (line : LinePlace) (buffer : List ℕ) → length buffer < line.length → WritesLine run line buffer buffer (FoundLine.Refused BufferTooShort)
+pub line-short : (run : List ℕ) (line : FoundLine) (buffer : List ℕ) → length buffer < line.length → WritesLine run line buffer buffer (Err BufferTooShort)
 unfolding find_of
 line-short run line buffer h = record { writes = λ keys o work. rw (not-over o, lt-ltb (length buffer) (length keys) (omega (arith, h, told-less o))) refl }
 
-pub line-written : (run : List ℕ) (line : LinePlace) (buffer : List ℕ) {after : List ℕ} → length buffer < 2 ^ 63 → line.length ≤ length buffer → after ≡ buffer_after (record { ends = line.number - 1; left = line.length; at = 0 }) run buffer
-    → WritesLine run line buffer after (FoundLine.Line line.number line.length)
+pub line-written : (run : List ℕ) (line : FoundLine) (buffer : List ℕ) {after : List ℕ} → length buffer < 2 ^ 63 → line.length ≤ length buffer → after ≡ buffer_after (record { ends = line.number - 1; left = line.length; at = 0 }) run buffer
+    → WritesLine run line buffer after (Ok line)
 unfolding find_of buffer_after
 line-written run line buffer {after} small h e =
     record {
@@ -141,16 +131,10 @@ line-written run line buffer {after} small h e =
           rw (not-over o, le-ltb (length buffer) (length keys) (omega (arith, h, all)), placed-over, all) refl;
     }
 
-module _ {b offsets : List ℕ} {m : ℕ} {line : LinePlace} {work : List ℕ} (g : LineFits b offsets m line work) where
-  pub line-room : line.base ≤ length work
-  line-room = g.room
-
-  pub line-number : 1 ≤ line.number
-  line-number = omega (arith, g.is.place)
-
-  pub line-fits : {buffer : List ℕ} {n : ℕ} → line.length ≤ length buffer → WriteFits b offsets m (rest_of line.base work) (record { ends = n; left = line.length; at = 0 }) buffer
+module _ {b offsets : List ℕ} {m : ℕ} {place : LinePlace} {work : List ℕ} (g : LineFits b offsets m place work) where
+  pub line-fits : {buffer : List ℕ} {n : ℕ} → place.line.length ≤ length buffer → WriteFits b offsets m (rest_of place.base work) (record { ends = n; left = place.line.length; at = 0 }) buffer
   line-fits {buffer} {n} h =
       record {
-        macro = record { table = g.table; inside = g.inside; below = rw (rest-is line.base work) (extended-less (macros_in b) (suc m) m (drop line.base work) (omega arith) g.extents) };
+        macro = record { table = g.table; inside = g.inside; below = rw (rest-is place.base work) (extended-less (macros_in b) (suc m) m (drop place.base work) (omega arith) g.extents) };
         room = omega (arith, h);
       }

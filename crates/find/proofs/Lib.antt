@@ -6,8 +6,8 @@ pub mod DescentLaws
 pub mod LocateLaws
 pub mod WriteLaws
 pub mod KeysLaws
-pub mod FindLaws
 pub mod SoundLaws
+pub mod FindLaws
 pub mod AnswerLaws
 pub mod Readings
 pub mod Theorems

@@ -2,16 +2,15 @@
 -- 2^63 bytes, so a buffer is always shorter than `longest`.
 use Prim.Native.Nat.{ℕ, ◌<◌}
 use native.Mathlib.Omega.{arith}
-use mathlib.Core.Path.{◌≡◌, refl, sym}
+use mathlib.Core.Path.{◌≡◌, refl}
 use mathlib.Core.Logic.{◌↔◌, ⊎_elim}
 use mathlib.Core.List.{List}
 use lib.ListN.{length}
-use Rattle.runs.proofs.Tests.{either}
 use Rattle.book.specs.Reading.{read_book}
 use Rattle.letters.specs.declared.Case.{Case}
 use Rattle.pattern.specs.Reader as reader
 use Rattle.find.specs.Answer.{longest, told, Location, locate_result}
-use Rattle.find.proofs.DescentLaws.{told-short, told-long}
+use Rattle.find.proofs.LocateLaws.{told-is}
 use Rattle.find.proofs.Readings.{both_by}
 use Rattle.find.proofs.Theorems.{answer}
 
@@ -21,7 +20,7 @@ located c b p m k work = locate_result c (read_book b) (reader.read_pattern p) m
 
 -- what is told of a number is more than a small one exactly if the number is
 told-above : (n i : ℕ) → n < longest → (n < i) ↔ (n < told i)
-told-above n i h = either i longest (λ l. rw (← told-short i l) ((λ j. j), λ j. j)) (λ l. rw (← told-long i l) ((λ j. h), λ j. omega arith))
+told-above n i h = rw (← told-is i) ((λ j. omega arith), λ j. omega arith)
 
 module _ (c : Case) (b p : List ℕ) (m k : ℕ) (work buffer : List ℕ) where
   -- both leave the same work words
@@ -39,7 +38,7 @@ module _ (c : Case) (b p : List ℕ) (m k : ℕ) (work buffer : List ℕ) where
     located-answered =
         both_by work buffer (λ o q. o.refusal ≡ 0 → (q.refusal ≡ 0) × (q.number ≡ o.number) × (q.length ≡ o.length))
         (λ r e h. (h, refl, refl)) (λ v h. absurd (omega arith)) (λ v h. absurd (omega arith)) (λ n l v j h. absurd (omega arith))
-        (λ n l v j h. (refl, refl, sym (told-short (length l) (omega arith)))) c b p m k
+        (λ n l v j h. (refl, refl, rw (← told-is (length l)) (omega arith))) c b p m k
 
     -- "17 the buffer is shorter than the line": exactly if it is shorter than is told
     pub too-short-iff : ((answer c b p m k work buffer).refusal ≡ 17) ↔ (((located c b p m k work).refusal ≡ 0) × (length buffer < (located c b p m k work).length))

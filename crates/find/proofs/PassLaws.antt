@@ -7,7 +7,7 @@ use mathlib.Core.Path.{◌≡◌, refl, sym, ap, ◌∙◌}
 use mathlib.Core.Bool.{Bool, true, false, cond}
 use mathlib.Core.List.{List, ◌∷◌, ◌++◌, append_assoc, append-nil}
 use lib.Dec.{leb, ltb}
-use borrow.Author.Tests.{leb-true, leb-false, le-leb, ltb-true, ltb-false, lt-ltb, le-ltb}
+use borrow.Author.Tests.{leb-true, leb-false, le-leb, ltb-true, ltb-false}
 use Rattle.runs.specs.Keys.{is_run, line_end}
 use Rattle.runs.specs.Kept.{times}
 use Rattle.runs.proofs.Tests.{either}
@@ -17,20 +17,12 @@ use Rattle.pattern.specs.Meaning.{Query}
 use Rattle.pattern.specs.Form.{atom_count}
 use Rattle.spans.specs.Spans.{closed_lines}
 use Rattle.reports.specs.declared.span_count.SpanCount.{SpanCount}
-use Rattle.reports.specs.declared.total.Total.{Total}
 use Rattle.reports.specs.Totals.{most, value_of}
 use Rattle.reports.specs.Reports.{span_count, joined_counts}
 use Rattle.reports.proofs.TotalLaws.{few-lines, many-lines}
 use Rattle.reports.proofs.ReportLaws.{join-counts, count-closed}
 use Rattle.find.specs.declared.passes.Skipped.{Skipped}
 use Rattle.find.specs.Promises.{closed_by, with_part, SkippedTo, Skips}
-
--- the two kinds of total
-pub closes-lines : (a : SpanCount) (k : ℕ) {n : ℕ} → a.closed ≡ Total.Lines n → leb k n ≡ leb k (value_of a.closed)
-closes-lines a k e = rw e refl
-
-pub closes-many : (a : SpanCount) (k : ℕ) → Fits w64 k → a.closed ≡ Total.TooMany → true ≡ leb k (value_of a.closed)
-closes-many a k h e = rw e (sym (le-leb k (suc most) (omega arith)))
 
 -- whether k lines are closed, of a run
 pub closed-test : (t : Query) (w : List ℕ) (k : ℕ) → k ≤ most → leb k (value_of (span_count t w).closed) ≡ leb k (closed_lines t w)
@@ -40,21 +32,8 @@ closed-test t w k h =
     (λ l. rw (many-lines (closed_lines t w) l) (le-leb k (suc most) (omega arith) ∙ sym (le-leb k (closed_lines t w) (omega arith))))
     (λ l. rw (few-lines (closed_lines t w) l) refl))
 
--- The ways out of `with_part`.
+-- `with_part`.
 module _ (done : Skipped) (part : SpanCount) (size bound k : ℕ) where
-  pub part-beyond : bound - done.passes < size → done ≡ with_part done part size bound k
-  unfolding with_part
-  part-beyond h = rw (lt-ltb (bound - done.passes) size h) refl
-
-  module _ (h : size ≤ bound - done.passes) {more : SpanCount} (e : more ≡ joined_counts done.before part) {b : Bool} (f : b ≡ leb k (value_of more.closed)) where
-    pub part-closes : b ≡ true → done ≡ with_part done part size bound k
-    unfolding with_part
-    part-closes g = let yes-k : leb k (value_of (joined_counts done.before part).closed) ≡ true = ap (λ (x : SpanCount). leb k (value_of x.closed)) (sym e) ∙ sym f ∙ g in rw (le-ltb (bound - done.passes) size h, yes-k) refl
-
-    pub part-taken : b ≡ false → record { before = more; passes = done.passes + size } ≡ with_part done part size bound k
-    unfolding with_part
-    part-taken g = let no-k : leb k (value_of (joined_counts done.before part).closed) ≡ false = ap (λ (x : SpanCount). leb k (value_of x.closed)) (sym e) ∙ sym f ∙ g in rw (le-ltb (bound - done.passes) size h, no-k, e) refl
-
   -- no more passes than there are
   within : done.passes ≤ bound → (with_part done part size bound k).passes ≤ bound
   unfolding with_part
@@ -119,24 +98,29 @@ module _ (t : Query) (few : atom_count t.tree ≤ 29) (k : ℕ) (fits : k ≤ mo
             far = λ z. let both : n + size + size ≡ n + 2 * size = omega arith in rw both (d.far (rw both at z));
           }
 
--- The ways out of `skip`.
-module _ {a part : SpanCount} {size bound k : ℕ} (fits : Fits w64 k) where
-  pub skip-few : {r : Skipped} → bound / 2 < size → r ≡ with_part (record { before = a; passes = 0 }) part size bound k → Skips a part size bound k r
-  skip-few {r} l e =
-      record {
-        within = rw e (within (record { before = a; passes = 0 }) part size bound k (omega arith));
-        skips = λ t few w v g h x y c. part-skipped t few k (omega arith) w v g h y (none-skipped t few k (omega arith) w v g h x c l) e;
-      }
+-- What `skip` has by a larger part, or none where that is too large.
+pub record Larger (a part : SpanCount) (size bound k : ℕ) (r : Skipped) : Type 0 where
+  pub within : r.passes ≤ bound
+  pub skips : (t : Query) → atom_count t.tree ≤ 29 → (w v : List ℕ) → is_run w ≡ true → is_run v ≡ true → a ≡ span_count t (line_end ∷ w) → part ≡ span_count t (times size v) → closed_by t w < k
+      → SkippedTo t k w v (2 * size) bound r
 
-  pub skip-many : {twice : SpanCount} {larger r : Skipped} → twice ≡ joined_counts part part → Skips a twice (2 * size) bound k larger → r ≡ with_part larger part size bound k → Skips a part size bound k r
-  skip-many {twice} {larger} {r} j s e =
+module _ {a part : SpanCount} {size bound k : ℕ} (fits : Fits w64 k) where
+  pub larger-none : bound / 2 < size → Larger a part size bound k (record { before = a; passes = 0 })
+  larger-none l = record { within = omega arith; skips = λ t few w v g h x y c. none-skipped t few k (omega arith) w v g h x c l }
+
+  pub larger-skip : {twice : SpanCount} {r : Skipped} → twice ≡ joined_counts part part → Skips a twice (2 * size) bound k r → Larger a part size bound k r
+  larger-skip {twice} {r} j s =
       record {
-        within = rw e (within larger part size bound k s.within);
+        within = s.within;
         skips = λ t few w v g h x y c.
             let two : twice ≡ span_count t (times (2 * size) v) = j ∙ rw y (join-counts t few (times size v) (times size v) (times-run size v h) (times-run size v h)) ∙ ap (span_count t) (sym (times-add size size v) ∙ ap (λ (n : ℕ). times n v) (let d : size + size ≡ 2 * size = omega arith in d)) in
-            part-skipped t few k (omega arith) w v g h y (s.skips t few w v g h x two c) e;
+            s.skips t few w v g h x two c;
       }
 
--- what was taken by the larger part is no more than there is
-pub larger-within : {a part : SpanCount} {size bound k : ℕ} {r : Skipped} → Skips a part size bound k r → r.passes ≤ bound
-larger-within s = s.within
+  -- then one part more
+  pub skip-part : {larger r : Skipped} → Larger a part size bound k larger → r ≡ with_part larger part size bound k → Skips a part size bound k r
+  skip-part {larger} {r} s e =
+      record {
+        within = rw e (within larger part size bound k s.within);
+        skips = λ t few w v g h x y c. part-skipped t few k (omega arith) w v g h y (s.skips t few w v g h x y c) e;
+      }

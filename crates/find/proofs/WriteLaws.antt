@@ -4,30 +4,29 @@ use native.Mathlib.Nat.{div-mul-le_self, mul-le-mul_right}
 use native.Mathlib.Omega.{arith}
 use mir.Val.{Fits}
 use mir.Syntax.{w64}
-use mathlib.Core.Path.{◌≡◌, refl, sym, ap, ◌∙◌}
+use mathlib.Core.Path.{◌≡◌, refl, sym, ap, subst, ◌∙◌}
 use mathlib.Core.Logic.{◌⊎◌, inl, inr, ⊎_elim}
-use mathlib.Core.Bool.{true, false, ◌&&◌, cond}
+use mathlib.Core.Bool.{true, false, cond}
 use mathlib.Core.List.{List, [], ◌∷◌, ◌++◌, append_assoc, Memᴰ}
-use lib.Dec.{eqb, ltb}
+use lib.Dec.{eqb}
 use lib.ListN.{length, get_or, set, take, drop, length-append, length-take, length-drop, take-append-drop}
 use lib.Seq.{take-nil, take_at, drop-append-add, drop-drop, set_split}
-use borrow.Author.Tests.{eqb-true, eqb-false, eq-eqb, ne_eqb, ltb-true, ltb-false, lt-ltb, le-ltb}
+use borrow.Author.Tests.{eqb-true, eqb-false, eq-eqb, ne_eqb, lt-ltb, le-ltb}
+use Rattle.std.specs.Prelude.{Some, slice_get}
 use Rattle.runs.specs.Keys.{line_end}
 use Rattle.runs.specs.Kept.{first_words, times}
-use Rattle.runs.proofs.Tests.{and_parts, by-test, either}
+use Rattle.runs.proofs.Tests.{by-test, either}
 use Rattle.runs.proofs.KeptLaws.{words-suc, times-add, times_none, times-one}
 use Rattle.book.specs.declared.item.Item.{Item}
 use Rattle.book.specs.declared.item.Item.TheVariants.{Key, Call}
-use Rattle.book.specs.declared.item.ItemRead.{ItemRead}
-use Rattle.book.specs.declared.item.ItemRead.TheVariants.{Found, Short}
-use Rattle.book.specs.declared.macro_items.Items.{Items}
+use Rattle.book.specs.declared.item.Repeated.{Repeated}
 use Rattle.book.specs.Format.{Macro, repeated, well_formed}
 use Rattle.book.specs.Expansion.{keys_of, expand, unrolled, expansion}
-use Rattle.book.specs.Reading.{item_of, macros_in}
-use Rattle.book.specs.MacroItems.{items_from, item_read_at, decoded}
-use Rattle.book.proofs.MacroItems.{count-few, items-all, items_more, item-among, read-inside, read-code, read-times, read-end}
+use Rattle.book.specs.Reading.{macros_in}
+use Rattle.book.specs.MacroItems.{items_from, decoded}
+use Rattle.book.proofs.MacroItems.{item-in, items-are}
 use Rattle.book.proofs.LayoutLaws.{well-in}
-use Rattle.book.proofs.Expansion.{well-key, well-call, unrolled-none, expand-none, expand-more, expansion-law}
+use Rattle.book.proofs.Expansion.{well-key, well-call, expansion-law}
 use Rattle.extents.specs.Capped.{most, capped}
 use Rattle.extents.specs.declared.extent.Extent.{Extent}
 use Rattle.extents.specs.Extents.{end_count, extent_of}
@@ -36,7 +35,7 @@ use Rattle.extents.proofs.ExtentLaws.{ends-none, ends-cons, ends-append, ends-ti
 use Rattle.find.specs.declared.writing.Pen.{Pen}
 use Rattle.find.specs.Answer.{extent_words_of}
 use Rattle.find.specs.Promises.{Extended, MacroAt, item_extent, behind_ends, writes, pen_after, buffer_after, passes_before, Served, ItemFits, WriteFits}
-use Rattle.find.proofs.FillLaws.{extent-at}
+use Rattle.find.proofs.FillLaws.{keys-none, keys-more, extent-at}
 
 -- The keys behind some line ends.
 
@@ -242,9 +241,6 @@ module _ {first : Pen} {before u : List ℕ} {now : Pen} {buffer : List ℕ} (ro
   wrote-room : now.at + now.left ≤ length buffer
   wrote-room = rw (x.behind, x.written) (room_after first before room u)
 
-  wrote-long : length buffer ≡ length before
-  wrote-long = rw x.written (buffer-long first before room u)
-
   wrote-both : {v : List ℕ} {next : Pen} {more : List ℕ} → Wrote now buffer v next more → Wrote first before (u ++ v) next more
   wrote-both {v} y =
       record {
@@ -290,42 +286,29 @@ module _ (key : ℕ) (pen : Pen) (b : List ℕ) (some : pen.left ≡ 0 → ⊥) 
     pub key-skipped-buffer : b ≡ buffer_after pen (key ∷ []) b
     key-skipped-buffer = sym (buffer-none pen (key ∷ []) b unwritten)
 
--- Passes before the place that some line ends lead to: the ways out of the code.
-module _ (n each ends : ℕ) where
-  pub before-none : ends ≡ 0 → 0 ≡ passes_before n each ends
-  unfolding passes_before
-  before-none h = rw (eq-eqb ends 0 h) refl
+-- Passes before the place that some line ends lead to.
 
-  module _ (some : ends ≡ 0 → ⊥) where
-    pub before-all : each ≡ 0 → n ≡ passes_before n each ends
-    unfolding passes_before
-    before-all h = rw (ne_eqb ends 0 some, eq-eqb each 0 h) refl
-
-    module _ (h : each ≡ 0 → ⊥) where
-      pub before-some : (ends - 1) / each < n → (ends - 1) / each ≡ passes_before n each ends
-      unfolding passes_before
-      before-some l = rw (ne_eqb ends 0 some, ne_eqb each 0 h, lt-ltb ((ends - 1) / each) n l) refl
-
-      pub before-most : n ≤ (ends - 1) / each → n ≡ passes_before n each ends
-      unfolding passes_before
-      before-most l = rw (ne_eqb ends 0 some, ne_eqb each 0 h, le-ltb ((ends - 1) / each) n l) refl
-
--- Those passes are no more than there are, and end before that place.
+-- They are no more than there are, and end before that place.
 module _ (n each ends q : ℕ) (f : q ≡ passes_before n each ends) where
   counted : (q ≤ n) × (q * each ≤ ends - 1)
+  unfolding passes_before
   counted =
-      by-test (eqb ends 0)
-      (λ e. let none : q ≡ 0 = f ∙ sym (before-none n each ends (eqb-true ends 0 e)) in rw none (omega arith, omega arith))
+      rw f
+      (by-test (eqb ends 0)
+      (λ e. rw e (omega arith, omega arith))
       (λ e.
-      let some = eqb-false ends 0 e in
       by-test (eqb each 0)
-      (λ g. let z = eqb-true each 0 g in let all : q ≡ n = f ∙ sym (before-all n each ends some z) in rw (z, all) (omega arith, omega arith))
+      (λ g. let z : each ≡ 0 = eqb-true each 0 g in rw (e, g, z) (omega arith, omega arith))
       (λ g.
-      let h = eqb-false each 0 g in
       let whole = div-mul-le_self (ends - 1) each in
       either ((ends - 1) / each) n
-      (λ l. let here : q ≡ (ends - 1) / each = f ∙ sym (before-some n each ends some h l) in rw here (omega arith, whole))
-      (λ l. let all : q ≡ n = f ∙ sym (before-most n each ends some h l) in rw all (omega arith, omega (arith, mul-le-mul_right each l, whole)))))
+      (λ l. rw (e, g, lt-ltb ((ends - 1) / each) n l) (omega arith, whole))
+      (λ l. rw (e, g, le-ltb ((ends - 1) / each) n l) (omega arith, omega (arith, mul-le-mul_right each l, whole))))))
+
+  -- none where no line end is to be skipped
+  none-before : ends ≡ 0 → q ≡ 0
+  unfolding passes_before
+  none-before h = f ∙ rw (eq-eqb ends 0 h) refl
 
   pub skipped-few : q ≤ n
   skipped-few = counted.0
@@ -344,7 +327,7 @@ module _ (n each ends q : ℕ) (f : q ≡ passes_before n each ends) where
       (λ z.
       let some = eqb-false q 0 z in
       let one : 1 * each ≤ q * each = mul-le-mul_right each (let l : 1 ≤ q = omega (arith, some) in l) in
-      let positive : ends ≡ 0 → ⊥ = λ w. some (f ∙ sym (before-none n each ends w)) in
+      let positive : ends ≡ 0 → ⊥ = λ w. some (none-before w) in
       let small : each < most = omega (arith, one, counted.1, positive) in
       let same : each ≡ e = g ∙ capped-below e (rw (← g) small) in
       inr (same, rw (← same) (omega (arith, counted.1, positive))))
@@ -406,80 +389,45 @@ call-inside {b} {offsets} {words} x {j} e = go (rw e at x.served)
     go : Served (macros_in b) words (Call j) → MacroAt b offsets j words
     go (l, y) = record { table = x.table; inside = l; below = extended-less (macros_in b) (suc j) j words (omega arith) y }
 
--- so many passes are left of all, and the others are done
-pub record Passing (b : List ℕ) (item : Item) (first : Pen) (before : List ℕ) (all : ℕ) (this : Item) (passes : ℕ) (now : Pen) (buffer : List ℕ) : Type 0 where
-  pub same : this ≡ item
-  pub few : passes ≤ all
-  pub wrote : Wrote first before (times (all - passes) (keys_of (λ j. expansion (macros_in b) j) item)) now buffer
-
-pub passing-first : (b : List ℕ) (item : Item) (first : Pen) (before : List ℕ) (all : ℕ) → Passing b item first before all item all first before
-passing-first b item first before all =
-    let v = keys_of (λ j. expansion (macros_in b) j) item in
-    let none : times (all - all) v ≡ [] = (let z : all - all ≡ 0 = omega arith in ap (λ (k : ℕ). times k v) z) ∙ times_none v in
-    record { same = refl; few = omega arith; wrote = rw none (wrote_none first before) }
-
-module _ {b : List ℕ} {item : Item} {first : Pen} {before : List ℕ} {all : ℕ} {this : Item} {passes : ℕ} {now : Pen} {buffer : List ℕ} (x : Passing b item first before all this passes now buffer) (room : first.at + first.left ≤ length before) where
+module _ {b offsets words : List ℕ} {item : Item} {pen : Pen} {before : List ℕ} (x : ItemFits b offsets words item pen before) where
   abbrev keys_there : List ℕ
   keys_there = keys_of (λ j. expansion (macros_in b) j) item
 
-  pub passing-room : now.at + now.left ≤ length buffer
-  passing-room = wrote-room room x.wrote
+  -- those that are skipped
+  pub passing-first : (pen.left ≡ 0 → ⊥) → Fits w64 pen.ends → {extent : Extent} → extent ≡ item_extent words item → (n q : ℕ) → q ≡ passes_before n extent.ends pen.ends
+      → Wrote pen before (times q keys_there) (record { ends = pen.ends - q * extent.ends; left = pen.left; at = pen.at }) before
+  passing-first some small {extent} e n q f =
+      let each : extent.ends ≡ capped (end_count keys_there) = ap (λ (r : Extent). r.ends) (e ∙ served-extent (macros_in b) words item x.served ∙ extent-fields keys_there) in
+      skipped pen some small keys_there n extent.ends q f each before
 
-  pub passing-long : length buffer ≡ length before
-  passing-long = wrote-long room x.wrote
+  module _ (k : ℕ) {now : Pen} {buffer : List ℕ} (s : Wrote pen before (times k keys_there) now buffer) where
+    pub passing-room : now.at + now.left ≤ length buffer
+    passing-room = wrote-room x.room s
 
-  -- what a call finds
-  pub call_fits : {offsets words : List ℕ} {pen : Pen} → ItemFits b offsets words item pen before → {j : ℕ} → this ≡ Call j → WriteFits b offsets j words now buffer
-  call_fits f e = record { macro = call-inside f (sym x.same ∙ e); room = passing-room }
+    -- what a call finds
+    pub call_fits : {j : ℕ} → item ≡ Call j → WriteFits b offsets j words now buffer
+    call_fits e = record { macro = call-inside x e; room = passing-room }
 
-  pub call-low : {j t : ℕ} → this ≡ Call j → depth_of item ≡ t → 2 * j + 1 < t
-  unfolding depth_of
-  call-low {j} {t} e f = let here : 2 * j + 2 ≡ t = sym (ap depth_of (sym x.same ∙ e)) ∙ f in omega arith
+    -- one pass more
+    pub passing-on : {v : List ℕ} {next : Pen} {more : List ℕ} → v ≡ keys_there → next ≡ pen_after now v → more ≡ buffer_after now v buffer → Wrote pen before (times (k + 1) keys_there) next more
+    passing-on {v} {next} {more} e f g =
+        let one_pass : Wrote now buffer keys_there next more = rw (← e) (record { behind = f; written = g }) in
+        let one : times (k + 1) keys_there ≡ times k keys_there ++ keys_there = times-add k 1 keys_there ∙ ap (λ (l : List ℕ). times k keys_there ++ l) (times-one keys_there) in
+        rw one (wrote-both x.room s one_pass)
 
-  -- the loop goes on while passes are left and keys to be written
-  module _ (h : ltb 0 passes && ltb 0 now.left ≡ true) where
-    pub passing-some : 0 < passes
-    passing-some = ltb-true 0 passes (and_parts (ltb 0 passes) (ltb 0 now.left) h).0
+    -- a pen that is done writes nothing more
+    pub passing-done : (n : ℕ) → k ≤ n → now.left ≡ 0 → Wrote pen before (times n keys_there) now buffer
+    passing-done n h z =
+        let m : k + (n - k) ≡ n = omega arith in
+        let all : times n keys_there ≡ times k keys_there ++ times (n - k) keys_there = sym (ap (λ (j : ℕ). times j keys_there) m) ∙ times-add k (n - k) keys_there in
+        rw all (wrote-both x.room s (wrote-done now buffer (times (n - k) keys_there) z))
 
-    pub passing-less : passes - 1 < passes
-    passing-less = omega (arith, passing-some)
+    pub passing-whole : (n : ℕ) → k ≡ n → Wrote pen before (times n keys_there) now buffer
+    passing-whole n e = rw (← e) s
 
-    passing-on : {that : Item} {next : Pen} {more : List ℕ} → that ≡ item → Wrote now buffer (keys_of (λ j. expansion (macros_in b) j) that) next more → Passing b item first before all that (passes - 1) next more
-    passing-on {that} {next} {more} t w =
-        let one : times (all - (passes - 1)) keys_there ≡ times (all - passes) keys_there ++ keys_there =
-        (let n : all - (passes - 1) ≡ (all - passes) + 1 = omega (arith, x.few, passing-some) in ap (λ (k : ℕ). times k keys_there) n)
-        ∙ times-add (all - passes) 1 keys_there
-        ∙ ap (λ (l : List ℕ). times (all - passes) keys_there ++ l) (times-one keys_there) in
-        record { same = t; few = omega (arith, x.few); wrote = rw one (wrote-both room x.wrote (rw t at w)) }
-
-    pub passing-key : {k : ℕ} {next : Pen} {more : List ℕ} → this ≡ Key k → next ≡ pen_after now (k ∷ []) → more ≡ buffer_after now (k ∷ []) buffer → Passing b item first before all (Key k) (passes - 1) next more
-    passing-key t e f = passing-on (sym t ∙ x.same) (record { behind = e; written = f })
-
-    pub passing-call : {j : ℕ} {next : Pen} {more : List ℕ} → this ≡ Call j → next ≡ pen_after now (expansion (macros_in b) j) → more ≡ buffer_after now (expansion (macros_in b) j) buffer → Passing b item first before all (Call j) (passes - 1) next more
-    passing-call t e f = passing-on (sym t ∙ x.same) (record { behind = e; written = f })
-
-  -- then what is left of them changes nothing
-  passing-all : ltb 0 passes && ltb 0 now.left ≡ false → Wrote first before (times all keys_there) now buffer
-  passing-all h =
-      let n : (all - passes) + passes ≡ all = omega (arith, x.few) in
-      let all_of : times all keys_there ≡ times (all - passes) keys_there ++ times passes keys_there = sym (ap (λ (k : ℕ). times k keys_there) n) ∙ times-add (all - passes) passes keys_there in
-      rw all_of (wrote-both room x.wrote rest)
-    where
-      rest : Wrote now buffer (times passes keys_there) now buffer
-      rest =
-          either 0 passes
-          (λ l. wrote-done now buffer (times passes keys_there) (let z : now.left ≡ 0 = omega (arith, ltb-false 0 now.left (rw (lt-ltb 0 passes l) at h)) in z))
-          (λ l. let none : times passes keys_there ≡ [] = (let z : passes ≡ 0 = omega arith in ap (λ (k : ℕ). times k keys_there) z) ∙ times_none keys_there in rw none (wrote_none now buffer))
-
--- all passes: those that are skipped, and the others
-module _ {b offsets words : List ℕ} {item : Item} {pen : Pen} {before : List ℕ} (x : ItemFits b offsets words item pen before) (some : pen.left ≡ 0 → ⊥) (small : Fits w64 pen.ends) {extent : Extent} (e : extent ≡ item_extent words item) (n q : ℕ) (f : q ≡ passes_before n extent.ends pen.ends) where
-  pub item-wrote : {this : Item} {passes : ℕ} {now : Pen} {buffer : List ℕ} → Passing b item (record { ends = pen.ends - q * extent.ends; left = pen.left; at = pen.at }) before (n - q) this passes now buffer → ltb 0 passes && ltb 0 now.left ≡ false → Wrote pen before (times n (keys_of (λ j. expansion (macros_in b) j) item)) now buffer
-  item-wrote s h =
-      let v = keys_of (λ j. expansion (macros_in b) j) item in
-      let each : extent.ends ≡ capped (end_count v) = ap (λ (r : Extent). r.ends) (e ∙ served-extent (macros_in b) words item x.served ∙ extent-fields v) in
-      let m : q + (n - q) ≡ n = omega (arith, skipped-few n extent.ends pen.ends q f) in
-      let all_of : times n v ≡ times q v ++ times (n - q) v = sym (ap (λ (k : ℕ). times k v) m) ∙ times-add q (n - q) v in
-      rw all_of (wrote-both x.room (skipped pen some small v n extent.ends q f each before) (passing-all s x.room h))
+pub call-low : {item : Item} {j t : ℕ} → item ≡ Call j → depth_of item ≡ t → 2 * j + 1 < t
+unfolding depth_of
+call-low {item} {j} {t} e f = let here : 2 * j + 2 ≡ t = sym (ap depth_of e) ∙ f in omega arith
 
 -- A macro's items.
 
@@ -487,23 +435,21 @@ module _ {b offsets words : List ℕ} {item : Item} {pen : Pen} {before : List �
 abbrev pub up_to : List ℕ → List ℕ → ℕ → ℕ → List ℕ
 up_to b offsets i k = expand (λ j. expansion (macros_in b) j) (unrolled (take k (decoded (items_from b offsets i))))
 
-pub record Itemed (b offsets : List ℕ) (i : ℕ) (first : Pen) (before : List ℕ) (k : ℕ) (now : Pen) (buffer : List ℕ) : Type 0 where
-  pub wrote : Wrote first before (up_to b offsets i k) now buffer
-
-pub items-first : (b offsets : List ℕ) (i : ℕ) (first : Pen) (before : List ℕ) → Itemed b offsets i first before 0 first before
-items-first b offsets i first before =
-    let none : up_to b offsets i 0 ≡ [] = ap (expand (λ j. expansion (macros_in b) j)) unrolled-none ∙ expand-none (λ j. expansion (macros_in b) j) in
-    record { wrote = rw none (wrote_none first before) }
+pub items-first : (b offsets : List ℕ) (i : ℕ) (first : Pen) (before : List ℕ) → Wrote first before (up_to b offsets i 0) first before
+items-first b offsets i first before = rw (keys-none (λ j. expansion (macros_in b) j)) (wrote_none first before)
 
 module _ {b offsets : List ℕ} {i : ℕ} {words : List ℕ} {pen : Pen} {before : List ℕ} (x : WriteFits b offsets i words pen before) where
   abbrev ms : List Macro
   ms = macros_in b
 
-  abbrev items : Items
-  items = items_from b offsets i
+  abbrev items : Macro
+  items = decoded (items_from b offsets i)
 
   well : well_formed ms ≡ true
   well = well-in b x.macro.inside
+
+  its : items ≡ get_or ms i []
+  its = items-are b offsets i x.macro.table x.macro.inside
 
   -- an item of the macro is a key, or calls a lower one, whose words stand in front
   served : (item : Item) (n : ℕ) → Memᴰ (repeated item n) (get_or ms i []) → Served ms words item
@@ -518,57 +464,23 @@ module _ {b offsets : List ℕ} {i : ℕ} {words : List ℕ} {pen : Pen} {before
   low (Key k) n m = omega arith
   low (Call j) n m = omega (arith, well-call ms well i m)
 
-  module _ {k : ℕ} {now : Pen} {buffer : List ℕ} (s : Itemed b offsets i pen before k now buffer) where
-    pub items-long : length buffer ≡ length before
-    items-long = wrote-long x.room s.wrote
+  module _ (k : ℕ) {now : Pen} {buffer : List ℕ} (s : Wrote pen before (up_to b offsets i k) now buffer) where
+    -- there is no more
+    pub items-all : take k (decoded (items_from b offsets i)) ≡ decoded (items_from b offsets i) → Wrote pen before (expansion ms i) now buffer
+    items-all h = rw (h ∙ its, ← expansion-law ms well i) at s
 
-    module _ {r : ItemRead} (e : r ≡ item_read_at (items_from b offsets i) k) where
-      -- there is no more
-      all-items : r ≡ Short → up_to b offsets i k ≡ expansion (macros_in b) i
-      all-items f = ap (λ (is : Macro). expand (λ j. expansion ms j) (unrolled is)) (items-all b offsets i x.macro.table x.macro.inside {r = items} refl k (read-end items k e f)) ∙ sym (expansion-law ms well i)
+    module _ {next : Repeated} (e : slice_get items k ≡ Some next) where
+      among : Memᴰ next (get_or ms i [])
+      among = subst (Memᴰ next) its (item-in items k e)
 
-      pub macro-behind : r ≡ Short → now ≡ pen_after pen (expansion (macros_in b) i)
-      macro-behind f = s.wrote.behind ∙ ap (pen_after pen) (all-items f)
+      pub item-low : {t : ℕ} → 2 * i + 1 ≡ t → depth_of next.item < t
+      item-low h = rw (← h) (low next.item next.times among)
 
-      pub macro-written : r ≡ Short → buffer ≡ buffer_after pen (expansion (macros_in b) i) before
-      macro-written f = s.wrote.written ∙ ap (λ (w : List ℕ). buffer_after pen w before) (all-items f)
+      pub item-fits : ItemFits b offsets words next.item now buffer
+      item-fits = record { table = x.macro.table; served = served next.item next.times among; room = wrote-room x.room s }
 
-      -- one item more
-      module _ {c n : ℕ} (f : r ≡ Found c n) where
-        inside : k < items.count
-        inside = read-inside items k e f
+      abbrev keys_here : List ℕ
+      keys_here = times next.times (keys_of (λ j. expansion ms j) next.item)
 
-        few : k < 64
-        few = omega (arith, inside, count-few b offsets i {r = items} refl)
-
-        pub item-next : Fits w64 (k + 1)
-        item-next = omega (arith, few)
-
-        pub item-less : 65 - (k + 1) < 65 - k
-        item-less = omega (arith, few)
-
-        module _ {item : Item} (g : item ≡ item_of c) where
-          there : item ≡ item_of (get_or items.codes k 0)
-          there = g ∙ ap item_of (read-code items k e f)
-
-          among : Memᴰ (repeated item (get_or items.times k 0)) (get_or ms i [])
-          among = item-among b offsets i x.macro.table x.macro.inside {r = items} refl k inside there
-
-          pub item-low : {t : ℕ} → 2 * i + 1 ≡ t → depth_of item < t
-          item-low h = rw (← h) (low item (get_or items.times k 0) among)
-
-          pub item-fits : ItemFits b offsets words item now buffer
-          item-fits = record { table = x.macro.table; served = served item (get_or items.times k 0) among; room = wrote-room x.room s.wrote }
-
-          module _ {t : ℕ} (w : t ≡ n) where
-            abbrev keys_here : List ℕ
-            keys_here = times t (keys_of (λ j. expansion (macros_in b) j) item)
-
-            more-items : up_to b offsets i (k + 1) ≡ up_to b offsets i k ++ keys_here
-            more-items =
-                ap (λ (is : Macro). expand (λ j. expansion ms j) (unrolled is)) (items_more b offsets i x.macro.table x.macro.inside {r = items} refl k inside there)
-                ∙ expand-more (λ j. expansion ms j) (take k (decoded items)) (repeated item (get_or items.times k 0))
-                ∙ ap (λ (a : ℕ). up_to b offsets i k ++ times a (keys_of (λ j. expansion ms j) item)) (sym (w ∙ read-times items k e f))
-
-            pub items-on : {next : Pen} {more : List ℕ} → next ≡ pen_after now keys_here → more ≡ buffer_after now keys_here buffer → Itemed b offsets i pen before (k + 1) next more
-            items-on p q = record { wrote = rw more-items (wrote-both x.room s.wrote (record { behind = p; written = q })) }
+      pub items-on : {after : Pen} {more : List ℕ} → after ≡ pen_after now keys_here → more ≡ buffer_after now keys_here buffer → Wrote pen before (up_to b offsets i (k + 1)) after more
+      items-on p q = rw (keys-more (λ j. expansion ms j) items k e) (wrote-both x.room s (record { behind = p; written = q }))

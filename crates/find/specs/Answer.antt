@@ -1,5 +1,5 @@
 -- Document 02, S-3: what is answered for the k-th matching line of a macro's run, and what the work words and the buffer hold afterwards.
-use Rattle.std.specs.Prelude.{ℕ, suc, ◌+◌, ◌-◌, ◌*◌, cond, List, ◌++◌, ltb, length, drop}
+use Rattle.std.specs.Prelude.{ℕ, suc, ◌+◌, ◌-◌, ◌*◌, cond, List, ◌++◌, Result, Ok, Err, ltb, length, drop}
 use Rattle.refusal.specs.declared.Refusal.{Refusal}
 use Rattle.refusal.specs.declared.Refusal.TheVariants.{NoSuchLine, LineNumberOverflow, BufferTooShort}
 use Rattle.refusal.specs.Number.{number}
@@ -72,9 +72,9 @@ find_result c book pattern m k work buffer =
     (front book pattern (λ t. needed (query c t) m) m (length work))
 
 -- what `find_line` answers, with the work words and the buffer after it
-abbrev pub outcome : FoundLine → List ℕ → List ℕ → Outcome
-outcome (FoundLine.Line n l) work buffer = finished n l work buffer
-outcome (FoundLine.Refused r) work buffer = stopped r work buffer
+abbrev pub outcome : Result FoundLine Refusal → List ℕ → List ℕ → Outcome
+outcome (Ok line) work buffer = finished line.number line.length work buffer
+outcome (Err r) work buffer = stopped r work buffer
 
 -- Where the line is, without its keys, for whoever has no buffer that is long enough: the number of its keys is told up to 2^64 − 2.
 abbrev pub longest : ℕ
@@ -104,6 +104,6 @@ locate_result c book pattern m k work =
     (front book pattern (λ t. needed (query c t) m) m (length work))
 
 -- what `locate_line` answers
-abbrev pub placed : FoundLine → List ℕ → Location
-placed (FoundLine.Line n l) work = record { refusal = 0; number = n; length = l; work = work }
-placed (FoundLine.Refused r) work = nowhere r work
+abbrev pub placed : Result FoundLine Refusal → List ℕ → Location
+placed (Ok line) work = record { refusal = 0; number = line.number; length = line.length; work = work }
+placed (Err r) work = nowhere r work

@@ -1,32 +1,31 @@
 -- What private functions promise each other; no public contract cites these.
-use Rattle.std.specs.Prelude.{ℕ, suc, ◌+◌, ◌-◌, ◌*◌, ◌/◌, ◌<◌, ◌≤◌, ◌≡◌, Bool, true, cond, ◌&&◌, eqb, leb, ltb, length, take, drop}
+use Rattle.std.specs.Prelude.{ℕ, suc, ◌+◌, ◌-◌, ◌*◌, ◌/◌, ◌<◌, ◌≤◌, ◌≡◌, Bool, true, cond, ◌&&◌, Result, Ok, Err, eqb, leb, ltb, length, take, drop}
 use mathlib.Core.List.{List, [], ◌∷◌, ◌++◌, Memᴰ}
+use Rattle.refusal.specs.declared.Refusal.{Refusal}
 use Rattle.refusal.specs.declared.Refusal.TheVariants.{NoSuchLine, LineNumberOverflow}
 use Rattle.runs.specs.Keys.{is_key, is_run, line_end}
 use Rattle.runs.specs.Kept.{first_words, times}
 use Rattle.book.specs.declared.item.Item.{Item}
 use Rattle.book.specs.declared.item.Item.TheVariants.{Key, Call}
-use Rattle.book.specs.declared.macro_items.Items.{Items}
 use Rattle.book.specs.Format.{repeated, Macro, well_formed}
 use Rattle.book.specs.declared.item.Repeated.{Repeated}
 use Rattle.book.specs.Expansion.{keys_of, expand, unrolled, expansion}
-use Rattle.book.specs.Reading.{Reading, read_book, macros_in}
-use Rattle.book.specs.Steps.{settled, answer_by, book_step}
-use Rattle.book.specs.Answer.{layout}
+use Rattle.book.specs.Reading.{Reading, macros_in}
+use Rattle.book.specs.Steps.{answer_by}
+use Rattle.book.specs.Answer.{offsets_in}
 use Rattle.letters.specs.declared.Case.{Case}
 use Rattle.pattern.specs.Meaning.{Query, query}
 use Rattle.pattern.specs.Reader as reader
-use Rattle.pattern.specs.Form.{Pattern, atom_count}
+use Rattle.pattern.specs.Form.{atom_count}
 use Rattle.pattern.specs.Automata.{Automaton}
-use Rattle.pattern.specs.declared.automaton.Accepting.{Accepting}
+use Rattle.pattern.specs.declared.automaton.Tables.{Tables}
 use Rattle.lines.specs.Lines.{lines, matching}
 use Rattle.spans.specs.Spans.{closed_lines}
 use Rattle.reports.specs.declared.span_count.SpanCount.{SpanCount}
 use Rattle.reports.specs.Totals.{value_of}
 use Rattle.reports.specs.Reports.{span_count, joined_counts}
-use Rattle.reports.specs.Words.{behind_rows}
-use Rattle.counter.specs.declared.counting.BookCount.{BookCount}
-use Rattle.counter.specs.Front.{front, pattern_step}
+use Rattle.counter.specs.declared.counting.Count.{Count}
+use Rattle.counter.specs.Front.{front}
 use Rattle.counter.specs.Counting.{macro_words}
 use Rattle.extents.specs.declared.extent.Extent.{Extent}
 use Rattle.extents.specs.Capped.{most, capped}
@@ -40,7 +39,6 @@ use Rattle.find.specs.declared.descent.Stop.{Stop}
 use Rattle.find.specs.declared.descent.Located.{Located}
 use Rattle.find.specs.declared.finding.FoundLine.{FoundLine}
 use Rattle.find.specs.declared.finding.LinePlace.{LinePlace}
-use Rattle.find.specs.declared.finding.Placed.{Placed}
 use Rattle.find.specs.declared.passes.Skipped.{Skipped}
 use Rattle.find.specs.declared.writing.Pen.{Pen}
 use Rattle.find.specs.Lines.{Sought, missing, found, kth_line}
@@ -59,21 +57,15 @@ Extended ms n words = (behind : List ℕ) × (words ≡ first_words (extent_word
 
 -- macro i, whose calls go to macros whose words stand there
 pub record MacroAt (b offsets : List ℕ) (i : ℕ) (words : List ℕ) : Type 0 where
-  pub table : offsets ≡ (layout b).offsets
+  pub table : offsets ≡ offsets_in b
   pub inside : i < length (macros_in b)
   pub below : Extended (macros_in b) i words
 
 -- macro m of a book, with room for the words of macros 0 to m
 pub record WordsFit (b offsets : List ℕ) (m : ℕ) (words : List ℕ) : Type 0 where
-  pub table : offsets ≡ (layout b).offsets
+  pub table : offsets ≡ offsets_in b
   pub inside : m < length (macros_in b)
   pub room : suc m * extents.width ≤ length words
-
--- the same from a place in the work words on
-pub record BehindFits (b offsets : List ℕ) (m base : ℕ) (work : List ℕ) : Type 0 where
-  pub table : offsets ≡ (layout b).offsets
-  pub inside : m < length (macros_in b)
-  pub room : base + suc m * extents.width ≤ length work
 
 -- Passes.
 
@@ -101,18 +93,12 @@ pub record Skips (a part : SpanCount) (size bound k : ℕ) (r : Skipped) : Type 
 
 -- The walk down.
 
--- what the walk rests on: the tables of t, and the work words that hold the reports of macros 0 to m and, from a place on, their extents
-pub record Ready (t : Query) (keys enter : List ℕ) (ms : List Macro) (search : Search) (work : List ℕ) : Type 0 where
-  pub tables : Automaton t keys enter search.p
+-- what the walk rests on: the tables of t, and the work words that hold the reports and the extents of macros 0 to m
+pub record Ready (t : Query) (ms : List Macro) (search : Search) : Type 0 where
+  pub tables : Automaton t search.tables.now.keys search.tables.now.enter search.tables.now.accepting
   pub well : well_formed ms ≡ true
-  pub behind : List ℕ
-  pub reports : work ≡ first_words (macro_words t ms) (suc search.m) ++ behind
-  pub extents : Extended ms (suc search.m) (drop search.base work)
-
--- the states are few, and the extents have a place
-pub record SearchFits (search : Search) (work : List ℕ) : Type 0 where
-  pub small : search.p.states ≤ 32
-  pub room : search.base ≤ length work
+  pub reports : search.reports.now ≡ first_words (macro_words t ms) (suc search.m)
+  pub extents : Extended ms (suc search.m) search.extents.now
 
 -- a place of a run, behind the keys w
 pub record PlaceAt (t : Query) (w : List ℕ) (at : Place) : Type 0 where
@@ -120,17 +106,21 @@ pub record PlaceAt (t : Query) (w : List ℕ) (at : Place) : Type 0 where
   pub kept : at.count ≡ span_count t (line_end ∷ w)
   pub sized : at.extent ≡ extent_of w
 
-pub record Starts (keys enter : List ℕ) (p : Accepting) (at : Place) : Type 0 where
-  pub place : (t : Query) → Automaton t keys enter p → PlaceAt t [] at
+pub record Starts (tables : Tables) (at : Place) : Type 0 where
+  pub place : (t : Query) → Automaton t tables.keys tables.enter tables.accepting → PlaceAt t [] at
 
 -- an item of one of macros 0 to m: a key, or a call of one of them
 unfoldable pub Known : ℕ → Item → Type 0
 Known m (Key k) = is_key k ≡ true
 Known m (Call j) = j ≤ m
 
+-- the run of macro i
+pub record RunOf (search : Search) (i : ℕ) (r : SpanCount) : Type 0 where
+  pub run : (t : Query) (ms : List Macro) → Ready t ms search → i ≤ search.m → r ≡ span_count t (expansion ms i)
+
 -- one pass of an item
-pub record PassOf (keys enter : List ℕ) (search : Search) (work : List ℕ) (item : Item) (r : SpanCount) : Type 0 where
-  pub pass : (t : Query) (ms : List Macro) → Ready t keys enter ms search work → Known search.m item → r ≡ span_count t (keys_of (λ j. expansion ms j) item)
+pub record PassOf (search : Search) (item : Item) (r : SpanCount) : Type 0 where
+  pub pass : (t : Query) (ms : List Macro) → Ready t ms search → Known search.m item → r ≡ span_count t (keys_of (λ j. expansion ms j) item)
 
 -- passes of v behind w, n at the most: k lines are not closed by so many of them, but by one more, if there is one
 pub record PassedTo (t : Query) (k : ℕ) (w v : List ℕ) (n : ℕ) (r : Past) : Type 0 where
@@ -138,9 +128,9 @@ pub record PassedTo (t : Query) (k : ℕ) (w v : List ℕ) (n : ℕ) (r : Past) 
   pub few : closed_by t (w ++ times r.passes v) < k
   pub far : r.passes < n → k ≤ closed_by t (w ++ times (r.passes + 1) v)
 
-pub record PastItem (keys enter : List ℕ) (search : Search) (work : List ℕ) (from : Place) (item : Item) (n : ℕ) (r : Past) : Type 0 where
+pub record PastItem (search : Search) (from : Place) (item : Item) (n : ℕ) (r : Past) : Type 0 where
   pub within : r.passes ≤ n
-  pub passed : (t : Query) (ms : List Macro) → Ready t keys enter ms search work → Known search.m item → (w : List ℕ) → PlaceAt t w from → closed_by t w < search.k
+  pub passed : (t : Query) (ms : List Macro) → Ready t ms search → Known search.m item → (w : List ℕ) → PlaceAt t w from → closed_by t w < search.k
       → PassedTo t search.k w (keys_of (λ j. expansion ms j) item) n r
 
 -- the item of a macro with such a run in which the line ends, and the place before the pass in which it does, behind u
@@ -155,23 +145,15 @@ pub record StoppedAt (t : Query) (k : ℕ) (ms : List Macro) (u run : List ℕ) 
 abbrev pub AllKnown : ℕ → Macro → Type 0
 AllKnown m items = (i : Repeated) → Memᴰ i items → Known m i.item
 
-pub record StopIn (keys enter : List ℕ) (search : Search) (work : List ℕ) (from : Place) (items : Macro) (r : Stop) : Type 0 where
+pub record StopIn (search : Search) (from : Place) (items : Macro) (r : Stop) : Type 0 where
   pub among : (j : ℕ) → r.item ≡ Call j → (n : ℕ) × Memᴰ (repeated (Call j) n) items
-  pub stops : (t : Query) (ms : List Macro) → Ready t keys enter ms search work → AllKnown search.m items → (u : List ℕ) → PlaceAt t u from → closed_by t u < search.k
+  pub stops : (t : Query) (ms : List Macro) → Ready t ms search → AllKnown search.m items → (u : List ℕ) → PlaceAt t u from → closed_by t u < search.k
       → search.k ≤ closed_by t (u ++ expand (λ j. expansion ms j) (unrolled items)) → StoppedAt t search.k ms u (expand (λ j. expansion ms j) (unrolled items)) r
 
--- items and states within the limits of the code
-pub record ItemsFit (items : Items) (search : Search) (work : List ℕ) : Type 0 where
-  pub few : items.count ≤ 64
-  pub there : items.count ≤ length items.codes
-  pub often : items.count ≤ length items.times
-  pub fits : SearchFits search work
-
 -- macro m of a book whose layout has these offsets
-pub record SearchIn (b offsets : List ℕ) (search : Search) (work : List ℕ) : Type 0 where
-  pub table : offsets ≡ (layout b).offsets
+pub record SearchIn (b offsets : List ℕ) (search : Search) : Type 0 where
+  pub table : offsets ≡ offsets_in b
   pub inside : search.m < length (macros_in b)
-  pub fits : SearchFits search work
 
 -- the place of the LF that closes the k-th matching line
 pub record EndsAt (t : Query) (k : ℕ) (run : List ℕ) (at : Place) : Type 0 where
@@ -182,8 +164,8 @@ pub record EndsAt (t : Query) (k : ℕ) (run : List ℕ) (at : Place) : Type 0 w
   pub few : closed_by t before < k
   pub far : k ≤ closed_by t (before ++ (line_end ∷ []))
 
-pub record Descends (keys enter b : List ℕ) (search : Search) (work : List ℕ) (at : Place) : Type 0 where
-  pub ends : (t : Query) → Ready t keys enter (macros_in b) search work → 1 ≤ search.k → search.k ≤ closed_by t (expansion (macros_in b) search.m) → EndsAt t search.k (expansion (macros_in b) search.m) at
+pub record Descends (b : List ℕ) (search : Search) (at : Place) : Type 0 where
+  pub ends : (t : Query) → Ready t (macros_in b) search → 1 ≤ search.k → search.k ≤ closed_by t (expansion (macros_in b) search.m) → EndsAt t search.k (expansion (macros_in b) search.m) at
 
 -- where the k-th matching line is
 pub record LineAt (t : Query) (k : ℕ) (run : List ℕ) (r : Located) : Type 0 where
@@ -193,8 +175,8 @@ pub record LineAt (t : Query) (k : ℕ) (run : List ℕ) (r : Located) : Type 0 
   pub ends : r.ends ≡ capped before
   pub size : r.length ≡ told (length line)
 
-pub record Locates (keys enter b : List ℕ) (search : Search) (work : List ℕ) (r : Located) : Type 0 where
-  pub located : (t : Query) → Ready t keys enter (macros_in b) search work → 1 ≤ search.k → search.k ≤ matching t (expansion (macros_in b) search.m) → LineAt t search.k (expansion (macros_in b) search.m) r
+pub record Locates (b : List ℕ) (search : Search) (r : Located) : Type 0 where
+  pub located : (t : Query) → Ready t (macros_in b) search → 1 ≤ search.k → search.k ≤ matching t (expansion (macros_in b) search.m) → LineAt t search.k (expansion (macros_in b) search.m) r
 
 -- Writing.
 
@@ -228,7 +210,7 @@ Served ms words (Call j) = (j < length ms) × Extended ms (suc j) words
 
 -- an item, and a pen with room for what it is to write
 pub record ItemFits (b offsets words : List ℕ) (item : Item) (pen : Pen) (buffer : List ℕ) : Type 0 where
-  pub table : offsets ≡ (layout b).offsets
+  pub table : offsets ≡ offsets_in b
   pub served : Served (macros_in b) words item
   pub room : pen.at + pen.left ≤ length buffer
 
@@ -240,48 +222,37 @@ pub record WriteFits (b offsets : List ℕ) (i : ℕ) (words : List ℕ) (pen : 
 -- The answer.
 
 -- so many lines match that there is a k-th
-unfoldable pub has_line : BookCount → ℕ → Bool
-has_line (BookCount.Lines n steps) k = leb 1 k && leb k n
-has_line (BookCount.Refused r) k = leb 1 k
+unfoldable pub has_line : Result Count Refusal → ℕ → Bool
+has_line (Ok a) k = leb 1 k && leb k a.lines
+has_line (Err r) k = leb 1 k
 
 -- the number of a line behind so many others, or 16
-unfoldable pub numbered_at : Located → ℕ → Placed
-numbered_at line base = cond (eqb line.ends most) (Placed.Refused LineNumberOverflow) (Placed.Line (line.ends + 1) line.length base)
+unfoldable pub numbered_at : Located → Result FoundLine Refusal
+numbered_at line = cond (eqb line.ends most) (Err LineNumberOverflow) (Ok (record { number = line.ends + 1; length = line.length }))
 
 -- what is answered for a line, with where the extents stand
-unfoldable pub placed_for : ℕ → Sought → Placed
-placed_for base missing = Placed.Refused NoSuchLine
-placed_for base (found n l) = cond (ltb most n) (Placed.Refused LineNumberOverflow) (Placed.Line n (told (length l)) base)
+abbrev pub line_at : ℕ → ℕ → ℕ → LinePlace
+line_at n l base = record { line = record { number = n; length = l }; base = base }
+
+unfoldable pub placed_for : ℕ → Sought → Result LinePlace Refusal
+placed_for base missing = Err NoSuchLine
+placed_for base (found n l) = cond (ltb most n) (Err LineNumberOverflow) (Ok (line_at n (told (length l)) base))
 
 -- that and the work words, of any book and pattern
 pub record Placing : Type 0 where
-  pub answer : Placed
+  pub answer : Result LinePlace Refusal
   pub work : List ℕ
 
-abbrev pub placing : Placed → List ℕ → Placing
+abbrev pub placing : Result LinePlace Refusal → List ℕ → Placing
 placing r work = record { answer = r; work = work }
 
 unfoldable pub placing_of : Case → Reading (List Macro) → reader.Read → ℕ → ℕ → List ℕ → Placing
 placing_of c book pattern m k work =
-    answer_by (λ r. placing (Placed.Refused r) work) (λ (ms, t). placing (placed_for (base_of (query c t) m) (kth_line (query c t) k (expansion ms m))) (written (query c t) ms m work))
+    answer_by (λ r. placing (Err r) work) (λ (ms, t). placing (placed_for (base_of (query c t) m) (kth_line (query c t) k (expansion ms m))) (written (query c t) ms m work))
     (front book pattern (λ t. needed (query c t) m) m (length work))
 
--- macro m of a sound book, with room for all words
-pub record MacroFits (b offsets : List ℕ) (search : Search) (work : List ℕ) : Type 0 where
-  pub sound : book_step (read_book b) ≡ settled (macros_in b)
-  pub table : offsets ≡ (layout b).offsets
-  pub inside : search.m < length (macros_in b)
-  pub small : search.p.states ≤ 32
-  pub base : search.base ≡ suc search.m * (search.p.states + behind_rows)
-  pub room : suc search.m * (search.p.states + behind_rows + extents.width) ≤ length work
-
--- the line under the accepted pattern whose tables these are
-pub record PlacesLine (keys enter b s : List ℕ) (search : Search) (work after : List ℕ) (r : Placed) : Type 0 where
-  pub places : (tree : Pattern) → pattern_step (reader.read_pattern s) ≡ settled tree → Automaton (query search.case tree) keys enter search.p
-      → placing r after ≡ placing (placed_for search.base (kth_line (query search.case tree) search.k (expansion (macros_in b) search.m))) (written (query search.case tree) (macros_in b) search.m work)
-
 -- a line of a run: so many stand before it, and so many keys are told of
-pub record LineOf (run : List ℕ) (line : LinePlace) (keys : List ℕ) : Type 0 where
+pub record LineOf (run : List ℕ) (line : FoundLine) (keys : List ℕ) : Type 0 where
   pub before : List (List ℕ)
   pub after : List (List ℕ)
   pub split : lines run ≡ before ++ (keys ∷ after)
@@ -290,13 +261,13 @@ pub record LineOf (run : List ℕ) (line : LinePlace) (keys : List ℕ) : Type 0
   pub low : line.number ≤ most
 
 -- a line of macro m's run, and the extents of macros 0 to m from a place on
-pub record LineFits (b offsets : List ℕ) (m : ℕ) (line : LinePlace) (work : List ℕ) : Type 0 where
-  pub table : offsets ≡ (layout b).offsets
+pub record LineFits (b offsets : List ℕ) (m : ℕ) (place : LinePlace) (work : List ℕ) : Type 0 where
+  pub table : offsets ≡ offsets_in b
   pub inside : m < length (macros_in b)
   pub keys : List ℕ
-  pub is : LineOf (expansion (macros_in b) m) line keys
-  pub room : line.base ≤ length work
-  pub extents : Extended (macros_in b) (suc m) (drop line.base work)
+  pub is : LineOf (expansion (macros_in b) m) place.line keys
+  pub room : place.base ≤ length work
+  pub extents : Extended (macros_in b) (suc m) (drop place.base work)
 
-pub record WritesLine (run : List ℕ) (line : LinePlace) (before after : List ℕ) (r : FoundLine) : Type 0 where
+pub record WritesLine (run : List ℕ) (line : FoundLine) (before after : List ℕ) (r : Result FoundLine Refusal) : Type 0 where
   pub writes : (keys : List ℕ) → LineOf run line keys → (work : List ℕ) → outcome r work after ≡ find_of (found line.number keys) work before

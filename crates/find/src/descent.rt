@@ -1,26 +1,12 @@
 // The walk down the calls, to the end of the line that is sought.
-ghost use Rattle.std.specs.Prelude.{◌≡◌, cond, ◌-◌, ◌<◌, ◌≤◌};
-ghost use Rattle.book.specs.MacroItems.{decoded};
-ghost use Rattle.find.specs.Answer.{told as toldLength};
-ghost use Rattle.find.specs.Promises.{Descends, ItemsFit, Locates, PassOf, PastItem, SearchFits, SearchIn, Starts, StopIn};
+ghost use Rattle.std.specs.Prelude.{◌<◌, ◌≤◌};
 
 use crate::filling::item_extent;
 use crate::passes::{closes, skip};
-use book::{Item, Items, item_of, items_of};
+use book::{Book, Item, Repeated};
 use extents::{Extent, WIDTH, joined_extents, load_extent, no_extent, repeated_extent};
-use letters::Case;
-use pattern::Accepting;
+use pattern::Tables;
 use reports::{BEHIND_ROWS, SpanCount, empty_count, extended, in_report, joined, load};
-
-// The k-th matching line of macro m's run under a pattern with this choice of case, where the extents stand from `base` on in the work words.
-#[derive(Clone, Copy)]
-pub(crate) struct Search {
-    pub(crate) p: Accepting,
-    pub(crate) case: Case,
-    pub(crate) m: usize,
-    pub(crate) k: u64,
-    pub(crate) base: usize,
-}
 
 // A place in a run: what is kept of the keys before it, with a line end in front of them, so that every line is closed between two; and
 // how far they go.
@@ -30,18 +16,26 @@ struct Place {
     extent: Extent,
 }
 
-// An item of a macro, and how often it stands there.
-#[derive(Clone, Copy)]
-struct Repeated {
-    item: Item,
-    times: usize,
+impl Place {
+    ghost use Rattle.find.specs.Promises.{Starts};
+
+    // The start of a run.
+    fn start(tables: &Tables) -> Place
+        ensures { Starts tables.now result }
+    {
+        let none = empty_count(tables.accepting.states as u64);
+        Place {
+            count: extended(none, b'\n', tables),
+            extent: no_extent(),
+        }
+    }
 }
 
 // The place behind some passes of an item.
 #[derive(Clone, Copy)]
 struct Past {
     at: Place,
-    passes: usize,
+    passes: u16,
 }
 
 // The item in which the line ends, and the place before the pass in which it does.
@@ -58,178 +52,122 @@ pub(crate) struct Located {
     pub(crate) length: u64,
 }
 
-// The start of a run.
-fn start(keys: &[u64; 256], enter: &[u64; 32], p: Accepting) -> Place
-    ensures { Starts keys.now enter.now p result }
-{
-    let count = extended(empty_count(p.states as u64), 10, keys, enter, p);
-    let extent = no_extent();
-    Place { count, extent }
-}
-
-// One pass of an item; a called macro's report stands in the work words.
-fn pass_of(
-    item: Item,
-    search: Search,
-    work: &[u64],
-    keys: &[u64; 256],
-    enter: &[u64; 32],
-) -> SpanCount
-    requires { search.p.states ≤ 32 }
-    ensures { PassOf keys.now enter.now search work.now item result }
-{
-    let p = search.p;
-    let s = p.states as u64;
-    match item {
-        Item::Key(k) => extended(empty_count(s), k, keys, enter, p),
-        Item::Call(j) => in_report(load(work, j as usize * (p.states + BEHIND_ROWS), s)),
-    }
-}
-
-// The passes of an item before the line's end.
-fn past_item(
-    from: Place,
-    next: Repeated,
-    search: Search,
-    work: &[u64],
-    keys: &[u64; 256],
-    enter: &[u64; 32],
-) -> Past
-    requires search_fits { SearchFits search work.now }
-    requires times_bound { next.times < 65536 }
-    ensures { PastItem keys.now enter.now search work.now from next.item next.times result }
-{
-    let item = next.item;
-    let pass = pass_of(item, search, work, keys, enter);
-    let skipped = skip(from.count, pass, 1, next.times, search.k);
-    let passes = skipped.passes;
-    let count = skipped.before;
-    let base = search.base;
-    let one = item_extent(item, &work[base..]);
-    let extent = joined_extents(from.extent, repeated_extent(one, passes as u64));
-    let at = Place { count, extent };
-    Past { at, passes }
-}
-
-fn wide(n: u16) -> usize
-    ensures { (result ≡ n) × (result < 65536) }
-{
-    n as usize
-}
-
-// The item of a macro in which the line ends.
-fn stop_in(
-    items: Items,
-    from: Place,
-    search: Search,
-    work: &[u64],
-    keys: &[u64; 256],
-    enter: &[u64; 32],
-) -> Stop
-    requires { ItemsFit items search work.now }
-    ensures { StopIn keys.now enter.now search work.now from (decoded items) result }
-{
-    let codes = items.codes;
-    let times = items.times;
-    let count = items.count;
-    let mut at = from;
-    let mut c = 0;
-    while c < count {
-        let item = item_of(codes[c]);
-        let often = wide(times[c]);
-        let next = Repeated { item, times: often };
-        let past = past_item(at, next, search, work, keys, enter);
-        at = past.at;
-        if past.passes < often {
-            return Stop { item, at };
-        }
-        c += 1;
-    }
-    // Not reached: the line ends in one of the items.
-    Stop {
-        item: Item::Key(10),
-        at,
-    }
-}
-
-// The place of the line end that closes the line.
-fn descend(
-    book: &[u8],
-    offsets: &[usize; 1025],
-    search: Search,
-    work: &[u64],
-    keys: &[u64; 256],
-    enter: &[u64; 32],
-) -> Place
-    requires { SearchIn book.now offsets.now search work.now }
-    ensures { Descends keys.now enter.now book.now search work.now result }
-{
-    let mut i = search.m;
-    let mut at = start(keys, enter, search.p);
-    loop {
-        let stop = stop_in(items_of(book, offsets, i), at, search, work, keys, enter);
-        at = stop.at;
-        let item = stop.item;
-        match item {
-            Item::Key(_) => {
-                return at;
-            }
-            Item::Call(j) => {
-                i = j as usize;
-            }
-        }
-    }
+// The k-th matching line of macro m's run under the pattern of these tables, and the work words with the reports and the extents of macros 0
+// to m.
+#[derive(Clone, Copy)]
+pub(crate) struct Search<'a> {
+    pub(crate) tables: &'a Tables,
+    pub(crate) reports: &'a [u64],
+    pub(crate) extents: &'a [u64],
+    pub(crate) m: usize,
+    pub(crate) k: u64,
+    ghost few: { tables.now.accepting.states ≤ 32 },
 }
 
 // The most keys of a line that are told.
-const LONGEST: u64 = 0xffff_ffff_ffff_fffe;
+const LONGEST: u64 = u64::MAX - 1;
 
-// How many keys are told of.
-fn told(keys: u64) -> u64
-    ensures { result ≡ toldLength keys }
-{
-    if keys < LONGEST { keys } else { LONGEST }
-}
+impl<'a> Search<'a> {
+    ghost use Rattle.find.specs.Promises.{Descends, Locates, PassOf, PastItem, RunOf, SearchIn, StopIn};
 
-// The keys less a final CR, where there is one.
-fn without_return(keys: u64, trailing: bool) -> u64
-    ensures { result ≡ keys - cond trailing 1 0 }
-{
-    if trailing & (0 < keys) {
-        return keys - 1;
+    // What is kept of macro i's run.
+    fn run_of(&self, i: usize) -> SpanCount
+        requires { i < 65536 }
+        ensures { RunOf self.now i result }
+    {
+        let states = self.tables.accepting.states;
+        let at = i * (states + BEHIND_ROWS);
+        in_report(load(self.reports, at, states as u64))
     }
-    keys
-}
 
-// Where the k-th matching line is, of which there is one: closed by a line end, or the last one.
-pub(crate) fn locate(
-    book: &[u8],
-    offsets: &[usize; 1025],
-    search: Search,
-    work: &[u64],
-    keys: &[u64; 256],
-    enter: &[u64; 32],
-) -> Located
-    requires { SearchIn book.now offsets.now search work.now }
-    ensures { Locates keys.now enter.now book.now search work.now result }
-{
-    let p = search.p;
-    let m = search.m;
-    let base = search.base;
-    let first = start(keys, enter, p);
-    let run = in_report(load(work, m * (p.states + BEHIND_ROWS), p.states as u64));
-    if !closes(joined(first.count, run), search.k) {
-        let whole = load_extent(&work[base..], m * WIDTH);
-        return Located {
-            ends: whole.ends,
-            length: told(whole.last),
+    // One pass of an item.
+    fn pass_of(&self, item: Item) -> SpanCount
+        ensures { PassOf self.now item result }
+    {
+        let none = empty_count(self.tables.accepting.states as u64);
+        match item {
+            Item::Key(k) => extended(none, k, self.tables),
+            Item::Call(j) => self.run_of(j as usize),
+        }
+    }
+
+    // The passes of an item before the line's end.
+    fn past_item(&self, from: Place, next: Repeated) -> Past
+        ensures { PastItem self.now from next.item next.times result }
+    {
+        let pass = self.pass_of(next.item);
+        let skipped = skip(from.count, pass, 1, next.times, self.k);
+        let passes = skipped.passes;
+        let one = item_extent(next.item, self.extents);
+        let extent = joined_extents(from.extent, repeated_extent(one, u64::from(passes)));
+        let at = Place {
+            count: skipped.before,
+            extent,
         };
+        Past { at, passes }
     }
-    let at = descend(book, offsets, search, work, keys, enter);
-    let before = at.extent;
-    let trailing = at.count.span.edges.trailing;
-    Located {
-        ends: before.ends,
-        length: told(without_return(before.last, trailing)),
+
+    // The item of a macro in which the line ends.
+    fn stop_in(&self, items: &[Repeated], from: Place) -> Stop
+        ensures { StopIn self.now from items.now result }
+    {
+        let mut at = from;
+        for next in items {
+            let past = self.past_item(at, *next);
+            at = past.at;
+            if past.passes < next.times {
+                return Stop {
+                    item: next.item,
+                    at,
+                };
+            }
+        }
+        // Not reached: the line ends in one of the items.
+        Stop {
+            item: Item::Key(b'\n'),
+            at,
+        }
+    }
+
+    // The place of the line end that closes the line.
+    fn descend(&self, book: &Book) -> Place
+        requires { SearchIn book.now.bytes.now book.now.offsets self.now }
+        ensures { Descends book.now.bytes.now self.now result }
+    {
+        let mut i = self.m;
+        let mut at = Place::start(self.tables);
+        loop {
+            let items = book.items(i);
+            let stop = self.stop_in(items.as_slice(), at);
+            at = stop.at;
+            match stop.item {
+                Item::Key(_) => return at,
+                Item::Call(j) => i = j as usize,
+            }
+        }
+    }
+
+    // Where the line is, where there is one: closed by a line end, or the last one.
+    pub(crate) fn locate(&self, book: &Book) -> Located
+        requires { SearchIn book.now.bytes.now book.now.offsets self.now }
+        ensures { Locates book.now.bytes.now self.now result }
+    {
+        let first = Place::start(self.tables);
+        let run = joined(first.count, self.run_of(self.m));
+        if !closes(run, self.k) {
+            let whole = load_extent(self.extents, self.m * WIDTH);
+            return Located {
+                ends: whole.ends,
+                length: whole.last.min(LONGEST),
+            };
+        }
+        let at = self.descend(book);
+        // A CR in front of the line end is no key of the line.
+        let trailing = at.count.span.edges.trailing;
+        let keys = at.extent.last.saturating_sub(trailing as u64);
+        Located {
+            ends: at.extent.ends,
+            length: keys.min(LONGEST),
+        }
     }
 }

@@ -5,161 +5,115 @@ ghost use Rattle.book.specs.Reading.{macros_in, read_book};
 ghost use Rattle.book.specs.Steps.{InBook};
 ghost use Rattle.pattern.specs.Reader.{read_pattern};
 ghost use Rattle.find.specs.Answer.{find_result, locate_result, outcome, placed};
-ghost use Rattle.find.specs.Promises.{LineFits, MacroFits, PlacesLine, WritesLine, has_line, numbered_at, placing, placing_of};
+ghost use Rattle.find.specs.Promises.{LineFits, WritesLine, has_line, numbered_at, placing, placing_of};
 
-use crate::descent::{Located, Search, locate};
-use crate::filling::fill_behind;
+use crate::descent::{Located, Search};
+use crate::filling::fill_extents;
 use crate::writing::{Pen, write_macro};
-use book::{Checked, Space, layout_of, space_for};
-use counter::{BookCount, count_book};
+use book::{Book, space_for};
+use counter::{Count, count_book};
 use extents::WIDTH;
 use letters::Case;
-use pattern::{Verdict, read_pattern};
+use pattern::read_pattern;
 use refusal::Refusal;
 use reports::BEHIND_ROWS;
 
 // Work words that are enough for every book and pattern: 1,024 macros with 32 states.
 pub const MOST_WORDS: usize = 1024 * (32 + BEHIND_ROWS + WIDTH);
 
-// The number of a line and how many keys it has, or why it is refused.
+// The number of a line, and how many keys it has.
 #[derive(Clone, Copy)]
-pub enum FoundLine {
-    Line(u64, u64),
-    Refused(Refusal),
+pub struct FoundLine {
+    pub number: u64,
+    pub length: u64,
 }
 
-// The macro that is asked for, how many the book has, whether case is ignored, and which matching line.
+// A line, with how many of its keys are told of, and where the extents stand in the work words.
 #[derive(Clone, Copy)]
-struct Asked {
-    macros: usize,
-    m: usize,
-    case: Case,
-    k: u64,
+struct LinePlace {
+    line: FoundLine,
+    base: usize,
 }
-
-// The same with where the extents stand in the work words.
-#[derive(Clone, Copy)]
-enum Placed {
-    Line(u64, u64, usize),
-    Refused(Refusal),
-}
-
-// The largest number.
-const MOST: u64 = 0xffff_ffff_ffff_ffff;
 
 // Whether so many lines match that there is a k-th.
-fn has_line(count: BookCount, k: u64) -> bool
+#[tactic(auto, unfolding(crate::specs::Promises::has_line))]
+fn has_line(count: Result<Count, Refusal>, k: u64) -> bool
     ensures { result ≡ has_line count k }
 {
     match count {
-        BookCount::Lines(n, _) => (1 <= k) & (k <= n),
-        BookCount::Refused(_) => 1 <= k,
+        Ok(count) => (1 <= k) & (k <= count.lines),
+        Err(_) => 1 <= k,
     }
 }
 
 // The number of a line that is located, or 16.
-fn numbered(line: Located, base: usize) -> Placed
-    ensures { result ≡ numbered_at line base }
+#[tactic(auto, unfolding(crate::specs::Promises::numbered_at))]
+fn numbered(line: Located) -> Result<FoundLine, Refusal>
+    ensures { result ≡ numbered_at line }
 {
-    if line.ends == MOST {
-        return Placed::Refused(Refusal::LineNumberOverflow);
-    }
-    Placed::Line(line.ends + 1, line.length, base)
+    let number = line.ends.checked_add(1).ok_or(Refusal::LineNumberOverflow)?;
+    Ok(FoundLine {
+        number,
+        length: line.length,
+    })
 }
 
-// The line of macro m of a sound book, where the work words suffice: the count writes the reports, and behind them stand the extents.
-fn placed_macro(
-    book: &[u8],
-    offsets: &[usize; 1025],
+// Where the line is in a sound book: 7 to 11, 15 and 16 of the table, in that order. The count writes the reports, and behind them stand the
+// extents.
+fn placed_line(
+    book: &Book,
     pattern: &[u8],
-    search: Search,
+    case: Case,
+    m: usize,
+    k: u64,
     work: &mut [u64],
-    keys: &[u64; 256],
-    enter: &[u64; 32],
-) -> Placed
-    requires { MacroFits book.now offsets.now search work.old }
-    ensures { PlacesLine keys.now enter.now book.now pattern.now search work.old work.new result }
+) -> Result<LinePlace, Refusal>
+    requires { InBook book.now.bytes.now book.now.offsets book.now.macros }
+    ensures { placing result work.new ≡ placing_of case (read_book book.now.bytes.now) (read_pattern pattern.now) m k work.old }
 {
-    let m = search.m;
-    let base = search.base;
-    let case = search.case;
-    let count = count_book(book, pattern, case, m, work);
-    fill_behind(book, offsets, m, base, work);
-    if !has_line(count, search.k) {
-        return Placed::Refused(Refusal::NoSuchLine);
+    let tables = read_pattern(pattern, case)?;
+    let width = tables.accepting.states + BEHIND_ROWS;
+    space_for(book.macros as usize, m, width + WIDTH, work.len())?;
+    let base = (m + 1) * width;
+    let count = count_book(book.bytes, pattern, case, m, work);
+    let (reports, extents) = work.split_at_mut(base);
+    fill_extents(book, m, extents);
+    if !has_line(count, k) {
+        return Err(Refusal::NoSuchLine);
     }
-    numbered(locate(book, offsets, search, work, keys, enter), base)
-}
-
-// A sound book: 7 to 11 of the table come before the line.
-fn placed_sound(
-    book: &[u8],
-    offsets: &[usize; 1025],
-    asked: Asked,
-    pattern: &[u8],
-    work: &mut [u64],
-) -> Placed
-    requires { InBook book.now offsets.now asked.macros }
-    ensures { placing result work.new ≡ placing_of asked.case (read_book book.now) (read_pattern pattern.now) asked.m asked.k work.old }
-{
-    let m = asked.m;
-    let k = asked.k;
-    let case = asked.case;
-    let mut keys = [0; 256];
-    let mut enter = [0; 32];
-    match read_pattern(pattern, case, &mut keys, &mut enter) {
-        Verdict::Refused(r) => Placed::Refused(r),
-        Verdict::Accepted(p) => {
-            let width = p.states + BEHIND_ROWS;
-            match space_for(asked.macros, m, width + WIDTH, work.len()) {
-                Space::Refused(r) => Placed::Refused(r),
-                Space::Enough => {
-                    let base = (m + 1) * width;
-                    let search = Search {
-                        p,
-                        case,
-                        m,
-                        k,
-                        base,
-                    };
-                    placed_macro(book, offsets, pattern, search, work, &keys, &enter)
-                }
-            }
-        }
-    }
-}
-
-// A line that is placed: its number, how many keys are told of, and where the extents stand in the work words.
-#[derive(Clone, Copy)]
-struct LinePlace {
-    number: u64,
-    length: u64,
-    base: usize,
+    let search = Search {
+        tables: &tables,
+        reports,
+        extents,
+        m,
+        k,
+    };
+    let line = numbered(search.locate(book))?;
+    Ok(LinePlace { line, base })
 }
 
 // The line with its keys at the front of the buffer, or 17.
 fn written_line(
-    book: &[u8],
-    offsets: &[usize; 1025],
+    book: &Book,
     m: usize,
-    line: LinePlace,
+    place: LinePlace,
     work: &[u64],
     buffer: &mut [u8],
-) -> FoundLine
-    requires { LineFits book.now offsets.now m line work.now }
-    ensures { WritesLine (expansion (macros_in book.now) m) line buffer.old buffer.new result }
+) -> Result<FoundLine, Refusal>
+    requires { LineFits book.now.bytes.now book.now.offsets m place work.now }
+    ensures { WritesLine (expansion (macros_in book.now.bytes.now) m) place.line buffer.old buffer.new result }
 {
-    let base = line.base;
+    let line = place.line;
     if (buffer.len() as u64) < line.length {
-        return FoundLine::Refused(Refusal::BufferTooShort);
+        return Err(Refusal::BufferTooShort);
     }
     let pen = Pen {
         ends: line.number - 1,
         left: line.length as usize,
         at: 0,
     };
-    write_macro(book, offsets, &work[base..], m, pen, buffer);
-    FoundLine::Line(line.number, line.length)
+    write_macro(book, &work[place.base..], m, pen, buffer);
+    Ok(line)
 }
 
 // Where the k-th matching line of macro m's run is: its number and how many keys it has, 2^64 - 2 if there are more.
@@ -170,22 +124,12 @@ pub fn locate_line(
     m: usize,
     k: u64,
     work: &mut [u64],
-) -> FoundLine
+) -> Result<FoundLine, Refusal>
     ensures { placed result work.new ≡ locate_result case (read_book book.now) (read_pattern pattern.now) m k work.old }
 {
-    let found = layout_of(book);
-    let answer = found.answer;
-    match answer {
-        Checked::Refused(r) => FoundLine::Refused(r),
-        Checked::Sound(n) => {
-            let macros = n as usize;
-            let asked = Asked { macros, m, case, k };
-            match placed_sound(book, &found.offsets, asked, pattern, work) {
-                Placed::Refused(r) => FoundLine::Refused(r),
-                Placed::Line(number, length, _) => FoundLine::Line(number, length),
-            }
-        }
-    }
+    let opened = Book::open(book)?;
+    let place = placed_line(&opened, pattern, case, m, k, work)?;
+    Ok(place.line)
 }
 
 // The k-th matching line of macro m's run, with its keys at the front of the buffer (document 02, S-3).
@@ -197,27 +141,10 @@ pub fn find_line(
     k: u64,
     work: &mut [u64],
     buffer: &mut [u8],
-) -> FoundLine
+) -> Result<FoundLine, Refusal>
     ensures { outcome result work.new buffer.new ≡ find_result case (read_book book.now) (read_pattern pattern.now) m k work.old buffer.old }
 {
-    let found = layout_of(book);
-    let answer = found.answer;
-    match answer {
-        Checked::Refused(r) => FoundLine::Refused(r),
-        Checked::Sound(n) => {
-            let macros = n as usize;
-            let asked = Asked { macros, m, case, k };
-            match placed_sound(book, &found.offsets, asked, pattern, work) {
-                Placed::Refused(r) => FoundLine::Refused(r),
-                Placed::Line(number, length, base) => {
-                    let line = LinePlace {
-                        number,
-                        length,
-                        base,
-                    };
-                    written_line(book, &found.offsets, m, line, work, buffer)
-                }
-            }
-        }
-    }
+    let opened = Book::open(book)?;
+    let place = placed_line(&opened, pattern, case, m, k, work)?;
+    written_line(&opened, m, place, work, buffer)
 }

@@ -1,61 +1,55 @@
 // Passes of a run that lie before the line that is sought.
-ghost use Rattle.std.specs.Prelude.{◌≡◌, ◌<◌, ◌≤◌, leb};
+ghost use Rattle.std.specs.Prelude.{◌≡◌, ◌≤◌, leb};
 ghost use Rattle.reports.specs.Totals.{value_of};
 ghost use Rattle.find.specs.Promises.{Skips, with_part};
 
-use reports::{SpanCount, Total, joined};
-
-// A run with so many passes of another behind it.
-#[derive(Clone, Copy)]
-pub(crate) struct Skipped {
-    pub(crate) before: SpanCount,
-    pub(crate) passes: usize,
-}
+use reports::{SpanCount, joined};
 
 // Whether k matching lines are closed.
 pub(crate) fn closes(a: SpanCount, k: u64) -> bool
     ensures { result ≡ leb k (value_of a.closed) }
 {
-    let closed = a.closed;
-    match closed {
-        Total::Lines(n) => k <= n,
-        Total::TooMany => true,
-    }
+    a.closed.is_none_or(|n| k <= n)
 }
 
-// With `size` passes more, which `part` is, where there are so many and k lines are not closed then.
-fn with_part(done: Skipped, part: SpanCount, size: usize, most: usize, k: u64) -> Skipped
-    requires { done.passes ≤ most }
-    ensures { result ≡ with_part done part size most k }
-{
-    let passes = done.passes;
-    if most - passes < size {
-        return done;
-    }
-    let more = joined(done.before, part);
-    if closes(more, k) {
-        return done;
-    }
-    Skipped {
-        before: more,
-        passes: passes + size,
+// A run with so many passes of another behind it.
+#[derive(Clone, Copy)]
+pub(crate) struct Skipped {
+    pub(crate) before: SpanCount,
+    pub(crate) passes: u16,
+}
+
+impl Skipped {
+    // With `size` passes more, which `part` is, where there are so many and k lines are not closed then.
+    #[tactic(auto, unfolding(crate::specs::Promises::with_part))]
+    fn with_part(self, part: SpanCount, size: u16, most: u16, k: u64) -> Skipped
+        requires { self.passes ≤ most }
+        ensures { result ≡ with_part self part size most k }
+    {
+        if most - self.passes < size {
+            return self;
+        }
+        let before = joined(self.before, part);
+        if closes(before, k) {
+            return self;
+        }
+        Skipped {
+            before,
+            passes: self.passes + size,
+        }
     }
 }
 
 // As many passes as can be taken by `size`, which `part` is, up to `most`, before k lines are closed. Larger parts are taken first, so that
 // 65,535 passes take 31 joinings.
-pub(crate) fn skip(a: SpanCount, part: SpanCount, size: usize, most: usize, k: u64) -> Skipped
-    requires some { 1 ≤ size }
-    requires few { most < 65536 }
-    ensures { Skips a part size most k result }
+pub(crate) fn skip(before: SpanCount, part: SpanCount, size: u16, most: u16, k: u64) -> Skipped
+    requires { 1 ≤ size }
+    ensures { Skips before part size most k result }
 {
-    if most / 2 < size {
-        let none = Skipped {
-            before: a,
-            passes: 0,
-        };
-        return with_part(none, part, size, most, k);
-    }
-    let larger = skip(a, joined(part, part), 2 * size, most, k);
-    with_part(larger, part, size, most, k)
+    let larger = if most / 2 < size {
+        Skipped { before, passes: 0 }
+    } else {
+        skip(before, joined(part, part), 2 * size, most, k)
+    };
+    larger.with_part(part, size, most, k)
 }

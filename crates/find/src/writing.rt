@@ -6,7 +6,7 @@ ghost use Rattle.book.specs.Reading.{macros_in};
 ghost use Rattle.find.specs.Promises.{ItemFits, WriteFits, buffer_after, passes_before, pen_after};
 
 use crate::filling::item_extent;
-use book::{Item, ItemRead, item_at, item_of};
+use book::{Book, Item, Repeated};
 
 // How many line ends are to be skipped, how many keys to be written then, and where the next one goes.
 #[derive(Clone, Copy)]
@@ -16,42 +16,36 @@ pub(crate) struct Pen {
     pub(crate) at: usize,
 }
 
-// An item of a macro, and how often it stands there.
-#[derive(Clone, Copy)]
-struct Repeated {
-    item: Item,
-    times: u64,
-}
-
-// One key.
-fn write_key(key: u8, pen: Pen, buffer: &mut [u8]) -> Pen
-    requires { pen.at + pen.left ≤ length buffer.old }
-    ensures behind { result ≡ pen_after pen (key ∷ []) }
-    ensures written { buffer.new ≡ buffer_after pen (key ∷ []) buffer.old }
-{
-    if pen.left == 0 {
-        return pen;
+impl Pen {
+    // One key.
+    fn write_key(self, key: u8, buffer: &mut [u8]) -> Pen
+        requires { self.at + self.left ≤ length buffer.old }
+        ensures behind { result ≡ pen_after self (key ∷ []) }
+        ensures written { buffer.new ≡ buffer_after self (key ∷ []) buffer.old }
+    {
+        if self.left == 0 {
+            return self;
+        }
+        if self.ends == 0 {
+            buffer[self.at] = key;
+            return Pen {
+                ends: 0,
+                left: self.left - 1,
+                at: self.at + 1,
+            };
+        }
+        if key == b'\n' {
+            return Pen {
+                ends: self.ends - 1,
+                ..self
+            };
+        }
+        self
     }
-    if pen.ends == 0 {
-        let at = pen.at;
-        buffer[at] = key;
-        return Pen {
-            ends: 0,
-            left: pen.left - 1,
-            at: at + 1,
-        };
-    }
-    if key == 10 {
-        return Pen {
-            ends: pen.ends - 1,
-            left: pen.left,
-            at: pen.at,
-        };
-    }
-    pen
 }
 
 // How many of n passes with so many line ends each lie before the place that some line ends lead to.
+#[tactic(auto, unfolding(crate::specs::Promises::passes_before))]
 fn passes_before(n: u64, each: u64, ends: u64) -> u64
     ensures { result ≡ passes_before n each ends }
 {
@@ -61,82 +55,57 @@ fn passes_before(n: u64, each: u64, ends: u64) -> u64
     if each == 0 {
         return n;
     }
-    let whole = (ends - 1) / each;
-    if whole < n { whole } else { n }
+    n.min((ends - 1) / each)
 }
 
 // All passes of an item. Those that are skipped whole are not entered, nor those behind the last key that is written.
 #[cycle(write_item_write_macro)]
-fn write_item(
-    book: &[u8],
-    offsets: &[usize; 1025],
-    extents: &[u64],
-    next: Repeated,
-    pen: Pen,
-    buffer: &mut [u8],
-) -> Pen
-    requires { ItemFits book.now offsets.now extents.now next.item pen buffer.old }
-    ensures behind { result ≡ pen_after pen (times next.times (keys_of (expansion (macros_in book.now)) next.item)) }
-    ensures written { buffer.new ≡ buffer_after pen (times next.times (keys_of (expansion (macros_in book.now)) next.item)) buffer.old }
+fn write_item(book: &Book, extents: &[u64], next: Repeated, pen: Pen, buffer: &mut [u8]) -> Pen
+    requires { ItemFits book.now.bytes.now book.now.offsets extents.now next.item pen buffer.old }
+    ensures behind { result ≡ pen_after pen (times next.times (keys_of (expansion (macros_in book.now.bytes.now)) next.item)) }
+    ensures written { buffer.new ≡ buffer_after pen (times next.times (keys_of (expansion (macros_in book.now.bytes.now)) next.item)) buffer.old }
 {
     if pen.left == 0 {
         return pen;
     }
-    let item = next.item;
-    let extent = item_extent(item, extents);
-    let skipped = passes_before(next.times, extent.ends, pen.ends);
-    let mut passes = next.times - skipped;
+    let all = u64::from(next.times);
+    let extent = item_extent(next.item, extents);
+    let skipped = passes_before(all, extent.ends, pen.ends);
     let mut now = Pen {
         ends: pen.ends - skipped * extent.ends,
-        left: pen.left,
-        at: pen.at,
+        ..pen
     };
-    while (0 < passes) & (0 < now.left) {
-        match item {
-            Item::Key(k) => {
-                now = write_key(k, now, buffer);
-            }
-            Item::Call(j) => {
-                now = write_macro(book, offsets, extents, j as usize, now, buffer);
-            }
+    for _ in skipped..all {
+        if now.left == 0 {
+            return now;
         }
-        passes -= 1;
+        now = match next.item {
+            Item::Key(k) => now.write_key(k, buffer),
+            Item::Call(j) => write_macro(book, extents, j as usize, now, buffer),
+        };
     }
     now
-}
-
-fn wide(n: u16) -> u64
-    ensures { result ≡ n }
-{
-    n as u64
 }
 
 // The run of macro i. Its items are read one by one: there may be 1,024 macros, one inside the other.
 #[cycle(write_item_write_macro)]
 pub(crate) fn write_macro(
-    book: &[u8],
-    offsets: &[usize; 1025],
+    book: &Book,
     extents: &[u64],
     i: usize,
     pen: Pen,
     buffer: &mut [u8],
 ) -> Pen
-    requires { WriteFits book.now offsets.now i extents.now pen buffer.old }
-    ensures behind { result ≡ pen_after pen (expansion (macros_in book.now) i) }
-    ensures written { buffer.new ≡ buffer_after pen (expansion (macros_in book.now) i) buffer.old }
+    requires { WriteFits book.now.bytes.now book.now.offsets i extents.now pen buffer.old }
+    ensures behind { result ≡ pen_after pen (expansion (macros_in book.now.bytes.now) i) }
+    ensures written { buffer.new ≡ buffer_after pen (expansion (macros_in book.now.bytes.now) i) buffer.old }
 {
     let mut now = pen;
-    let mut k = 0;
-    loop {
-        let read = item_at(book, offsets, i, k);
-        let ItemRead::Found(code, times) = read else {
+    for k in 0..64 {
+        let Some(next) = book.item(i, k) else {
             return now;
         };
-        let next = Repeated {
-            item: item_of(code),
-            times: wide(times),
-        };
-        now = write_item(book, offsets, extents, next, now, buffer);
-        k += 1;
+        now = write_item(book, extents, next, now, buffer);
     }
+    now
 }

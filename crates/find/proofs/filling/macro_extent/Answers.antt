@@ -1,31 +1,15 @@
 -- `filling::macro_extent`: what is kept is that of the items so far.
-use native.Mathlib.Omega.{arith}
-use Rattle.find.proofs.FillLaws.{items-start, item-few, item-place, item-next, items-on, items-done}
+use Rattle.std.proofs.lemmas.Option.{slice_get-get_or}
+use Rattle.find.proofs.FillLaws.{items-start, items-on, items-done}
 use Rattle.find.proofs.filling.macro_extent.Goals as goal
 
-pub loop-k-init : goal.loop-k-init
-loop-k-init c = search (items-start)
+pub loop-next-init : goal.loop-next-init
+loop-next-init c = search (items-start)
 
-pub offset_bounds-items-k : goal.offset_bounds-items-k
-offset_bounds-items-k c = search (item-place)
-
-pub bounds-items-k : goal.bounds-items-k
-bounds-items-k c = search (item-few)
-
-pub offset_bounds-items-k-in-loop-k : goal.offset_bounds-items-k-in-loop-k
-offset_bounds-items-k-in-loop-k c = search (item-place)
-
-pub bounds-items-k-in-loop-k : goal.bounds-items-k-in-loop-k
-bounds-items-k-in-loop-k c = search (item-few)
-
-pub overflow_add-k : goal.overflow_add-k
-overflow_add-k c = search (item-next)
-
-pub loop-k-smaller : goal.loop-k-smaller
-loop-k-smaller c = omega arith
-
-pub loop-k-preserved : goal.loop-k-preserved
-loop-k-preserved c = search (items-on)
+pub loop-next-preserved : goal.loop-next-preserved
+loop-next-preserved c =
+    items-on c.requires (rw c.items-items.ensures at c.as_slice-next-items.ensures) _ c.loop-next.invariant (slice_get-get_or _ _ _ c.loop-next-test.true) c.item_extent.ensures c.from.ensures c.repeated_extent-passes.ensures c.joined_extents-all.ensures
 
 pub returns : goal.returns
-returns c = search (items-done)
+returns c =
+    items-done c.requires (rw c.items-items.ensures at c.as_slice-next-items.ensures) _ c.loop-next.invariant c.loop-next-test.false

@@ -1,24 +1,41 @@
 -- `finding::find_line`: what is refused, or the line with its keys.
-use Rattle.book.specs.Steps.{InBook}
+use mathlib.Core.Path.{◌≡◌, ap}
+use Rattle.std.proofs.lemmas.Result.{err_from_is_err_and}
 use Rattle.book.proofs.StepLaws.{book-in}
-use Rattle.find.proofs.AnswerLaws.{book-refused, told-refused, line-fits-in, line-outcome}
+use Rattle.find.proofs.AnswerLaws.{book-refused, find-refused, line-fits-in, line-outcome}
 use Rattle.find.proofs.finding.find_line.Goals as goal
 
-pub placed_sound-requires : goal.placed_sound-requires
-placed_sound-requires c = search (book-in)
+pub returns-in_err-opened : goal.returns-in_err-opened
+returns-in_err-opened c =
+    let p = err_from_is_err_and c.from_residual.result c.from_residual.ensures.1 in
+    let a = c.args in
+    rw (p.1, p.2) (book-refused a.book.now _ c.in_err-opened.ensures.figures a.case _ a.m a.k a.work.now a.buffer.now)
+
+pub placed_line-requires : goal.placed_line-requires
+placed_line-requires c =
+    let b = c.in_ok-opened.opened in
+    let bytes : b.bytes.now ≡ c.args.book.now = ap (λ x. x.now) c.in_ok-opened.ensures.same in
+    rw (bytes) (book-in c.args.book.now b c.in_ok-opened.ensures.figures c.in_ok-opened.ensures.table)
+
+pub returns-in_err-place : goal.returns-in_err-place
+returns-in_err-place c =
+    let p = err_from_is_err_and c.from_residual-in_err-place.result c.from_residual-in_err-place.ensures.1 in
+    let a = c.args in
+    let bytes : c.in_ok-opened.opened.bytes.now ≡ a.book.now = ap (λ x. x.now) c.in_ok-opened.ensures.same in
+    rw (p.1, p.2, ← bytes) (find-refused a.case _ _ a.m a.k a.work.now a.buffer.now c.in_err-place.ensures)
 
 pub written_line-requires : goal.written_line-requires
 written_line-requires c =
-    let sound : InBook c.args.book.now c.layout_of-found.result.offsets c.in-Sound.n = search book-in in
-    line-fits-in sound _ _ _ _ _ c.placed_sound.ensures c.in-Line.is
+    let a = c.args in
+    let b = c.in_ok-opened.opened in
+    let bytes : b.bytes.now ≡ a.book.now = ap (λ x. x.now) c.in_ok-opened.ensures.same in
+    let sound = rw (← bytes) at (book-in a.book.now b c.in_ok-opened.ensures.figures c.in_ok-opened.ensures.table) in
+    line-fits-in sound a.case a.pattern.now a.m a.k a.work.now c.in_ok-place.ensures
 
-pub returns-in-Refused : goal.returns-in-Refused
-returns-in-Refused c = search (book-refused)
-
-pub returns-in-Refused-placed_sound : goal.returns-in-Refused-placed_sound
-returns-in-Refused-placed_sound c = search (told-refused)
-
-pub returns-in-Line : goal.returns-in-Line
-returns-in-Line c =
-    let sound : InBook c.args.book.now c.layout_of-found.result.offsets c.in-Sound.n = search book-in in
-    line-outcome sound _ _ _ _ _ c.placed_sound.ensures c.in-Line.is _ c.written_line.ensures
+pub returns : goal.returns
+returns c =
+    let a = c.args in
+    let b = c.in_ok-opened.opened in
+    let bytes : b.bytes.now ≡ a.book.now = ap (λ x. x.now) c.in_ok-opened.ensures.same in
+    let sound = rw (← bytes) at (book-in a.book.now b c.in_ok-opened.ensures.figures c.in_ok-opened.ensures.table) in
+    rw (← bytes) (line-outcome sound a.case a.pattern.now a.m a.k a.work.now c.in_ok-place.ensures a.buffer.now c.written_line.ensures)

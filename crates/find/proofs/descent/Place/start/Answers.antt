@@ -1,6 +1,6 @@
--- `descent::start`: the line end in front.
+-- `Place::start`: the line end in front.
 use Rattle.find.proofs.DescentLaws.{starts-at}
-use Rattle.find.proofs.descent.start.Goals as goal
+use Rattle.find.proofs.descent.Place.start.Goals as goal
 
 pub returns : goal.returns
 returns c = search (starts-at)
