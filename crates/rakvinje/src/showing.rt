@@ -26,8 +26,8 @@ fn told(
     first: bool,
 ) -> bool {
     match found {
-        Ok(LineAnswer::Shown(_, _)) => write_front(rt, out, length),
-        Ok(LineAnswer::Long(_, _)) => {
+        Ok(LineAnswer::Shown(_)) => write_front(rt, out, length),
+        Ok(LineAnswer::Long(_)) => {
             let written = write_front(rt, out, length);
             say::long_line(rt);
             written
