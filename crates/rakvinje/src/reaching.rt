@@ -17,6 +17,8 @@ fn refusal_of(reached: Reached) -> Option<Refusal> {
     }
 }
 
+// Not inlined: the buffers of all verbs in one frame would need more than 1 MiB of stack.
+#[inline(never)]
 pub(crate) fn reach(rt: &HostRuntime) {
     let mut space = [0; BOOK_READ];
     let Some(book) = book_at(rt, 2, &mut space) else {
