@@ -75,6 +75,8 @@ fn lines_in(rt: &HostRuntime, book: &[u8], pattern: &[u8], asked: Asked, lines: 
     }
 }
 
+// Not inlined: the buffers of all verbs in one frame would need more than 1 MiB of stack.
+#[inline(never)]
 fn lines_by(rt: &HostRuntime, lines: Range) {
     let mut given = [0; PATTERN_READ];
     let pattern = pattern_at(rt, 5, &mut given);
