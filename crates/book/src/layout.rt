@@ -49,44 +49,54 @@ fn read_header(s: &[u8]) -> Result<u16, Refusal>
     Ok(count)
 }
 
-// One item of macro n, in a book of a version: where the next one stands.
-fn check_item(s: &[u8], at: usize, n: u16, version: u16) -> Result<usize, Refusal>
-    ensures { result ≡ walk_of (length s.now) (read_item version n (drop at s.now)) }
-{
-    let next = read_item(s, at, version).ok_or(Refusal::MalformedBody)?;
-    match next.item {
-        Item::Key(k) if k == 0 => Err(Refusal::InvalidKey),
-        Item::Call(j) if n <= j => Err(Refusal::ForwardReference),
-        _ if next.times == 0 => Err(Refusal::ZeroRepeatCount),
-        _ => Ok(at + width_of(version)),
-    }
+// A macro under check: the book's bytes and version, and the macro's number.
+#[derive(Clone, Copy)]
+struct MacroCheck<'a> {
+    bytes: &'a [u8],
+    version: u16,
+    n: u16,
 }
 
-// The items of macro n: `count` of them.
-fn check_items(s: &[u8], start: usize, count: u16, n: u16, version: u16) -> Result<usize, Refusal>
-    requires { start ≤ length s.now }
-    ensures { result ≡ walk_of (length s.now) (read_items version n count (drop start s.now)) }
-{
-    let mut at = start;
-    for _ in 0..count {
-        at = check_item(s, at, n, version)?;
+impl<'a> MacroCheck<'a> {
+    // One item of it: where the next one stands.
+    fn item(&self, at: usize) -> Result<usize, Refusal>
+        ensures { result ≡ walk_of (length self.now.bytes.now) (read_item self.now.version self.now.n (drop at self.now.bytes.now)) }
+    {
+        let next = read_item(self.bytes, at, self.version).ok_or(Refusal::MalformedBody)?;
+        match next.item {
+            Item::Key(k) if k == 0 => Err(Refusal::InvalidKey),
+            Item::Call(j) if self.n <= j => Err(Refusal::ForwardReference),
+            _ if next.times == 0 => Err(Refusal::ZeroRepeatCount),
+            _ => Ok(at + width_of(self.version)),
+        }
     }
-    Ok(at)
-}
 
-// Macro n, its item count and its items.
-fn check_macro(s: &[u8], at: usize, n: u16, version: u16) -> Result<usize, Refusal>
-    requires { at ≤ length s.now }
-    ensures { result ≡ walk_of (length s.now) (read_macro version n (drop at s.now)) }
-{
-    if s.len() - at < 2 {
-        return Err(Refusal::MalformedBody);
+    // Its items: `count` of them.
+    fn items(&self, start: usize, count: u16) -> Result<usize, Refusal>
+        requires { start ≤ length self.now.bytes.now }
+        ensures { result ≡ walk_of (length self.now.bytes.now) (read_items self.now.version self.now.n count (drop start self.now.bytes.now)) }
+    {
+        let mut at = start;
+        for _ in 0..count {
+            at = self.item(at)?;
+        }
+        Ok(at)
     }
-    let count = le16_at(s, at);
-    if !((1 <= count) & (count <= 64)) {
-        return Err(Refusal::MalformedBody);
+
+    // Its item count and its items.
+    fn whole(&self, at: usize) -> Result<usize, Refusal>
+        requires { at ≤ length self.now.bytes.now }
+        ensures { result ≡ walk_of (length self.now.bytes.now) (read_macro self.now.version self.now.n (drop at self.now.bytes.now)) }
+    {
+        if self.bytes.len() - at < 2 {
+            return Err(Refusal::MalformedBody);
+        }
+        let count = le16_at(self.bytes, at);
+        if !((1 <= count) & (count <= 64)) {
+            return Err(Refusal::MalformedBody);
+        }
+        self.items(at + 2, count)
     }
-    check_items(s, at + 2, count, n, version)
 }
 
 // The macros of a book whose header gives `count`: where they stand.
@@ -99,7 +109,7 @@ fn layout_macros(s: &[u8], count: u16) -> Result<[usize; 1025], Refusal>
     let mut at = 7;
     offsets[0] = at;
     for n in 0..count {
-        at = check_macro(s, at, n, version)?;
+        at = MacroCheck { bytes: s, version, n }.whole(at)?;
         offsets[n as usize + 1] = at;
     }
     if at < s.len() {

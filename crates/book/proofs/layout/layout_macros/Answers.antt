@@ -13,13 +13,13 @@ returns-in_err-at c =
     let p = err_from_is_err_and c.from_residual.result c.from_residual.ensures.1 in
     let a = c.args in
     let x = c.loop-n in
-    rw (p.1, p.2) (laid-refused _ a.s.now c.version_of-version.ensures a.count x.offsets x.at x.n x.invariant.1 _ (omega arith) c.check_macro.ensures _ c.in_err-at.was)
+    rw (p.1, p.2) (laid-refused _ a.s.now c.version_of-version.ensures a.count x.offsets x.at x.n x.invariant.1 _ (omega arith) c.whole.ensures _ c.in_err-at.was)
 
 pub loop-n-preserved : goal.loop-n-preserved
 loop-n-preserved c =
     let a = c.args in
     let x = c.loop-n in
-    laid_more _ a.s.now c.version_of-version.ensures a.count x.offsets x.at x.n x.invariant.1 _ (omega arith) c.check_macro.ensures _ x.invariant.0 (omega arith) c.in_ok-at.was
+    laid_more _ a.s.now c.version_of-version.ensures a.count x.offsets x.at x.n x.invariant.1 _ (omega arith) c.whole.ensures _ x.invariant.0 (omega arith) c.in_ok-at.was
 
 pub returns-then-at-s : goal.returns-then-at-s
 returns-then-at-s c =
