@@ -6,10 +6,10 @@ pub mod DescentLaws
 pub mod LocateLaws
 pub mod WriteLaws
 pub mod KeysLaws
+pub mod Readings
 pub mod SoundLaws
 pub mod FindLaws
 pub mod AnswerLaws
-pub mod Readings
 pub mod Theorems
 pub mod Refusals
 pub mod Locating
