@@ -133,27 +133,27 @@ module _ (q : Refusal) {b : Bool} (g : b ≡ not (sameb the_type q BufferTooShor
   pub told-other : (x : finding.Location) → b ≡ true → told_by (Err q) [] ≡ unwritten (number q) x
   told-other x t = sym (unwritten-other (number q) x (λ h. differs_true the_type q BufferTooShort (sym g ∙ t) (number-injective q BufferTooShort h)))
 
-  module _ (t : b ≡ false) (a : FoundLine) (w : List ℕ) {x : finding.Location} (e : finding.placed a w ≡ x) where
+  module _ (t : b ≡ false) (a : Result FoundLine Refusal) (w : List ℕ) {x : finding.Location} (e : finding.placed a w ≡ x) where
     short : number q ≡ 17
     short = ap number (differs_false the_type (search) q BufferTooShort (sym g ∙ t))
 
-    pub told-place : {n l : ℕ} → a ≡ FoundLine.Line n l → told_by (Ok (LineAnswer.Long n l)) [] ≡ unwritten (number q) x
-    told-place {n} {l} f = rw (← e, f) (sym (unwritten-line (finding.placed (FoundLine.Line n l) w) short refl))
+    pub told-place : {i : FoundLine} → a ≡ Ok i → told_by (Ok (LineAnswer.Long i)) [] ≡ unwritten (number q) x
+    told-place {i} f = rw (← e, f) (sym (unwritten-line (finding.placed (Ok i) w) short refl))
 
-    pub told_none : {o : Refusal} → a ≡ FoundLine.Refused o → told_by (Err o) [] ≡ unwritten (number q) x
+    pub told_none : {o : Refusal} → a ≡ Err o → told_by (Err o) [] ≡ unwritten (number q) x
     told_none {o} f = rw (← e, f) (sym (unwritten-refused (finding.nowhere o w) short (number-positive o)))
 
 -- What the code answers, by what it has been answered.
 module _ (before after w : List ℕ) (x : finding.Location) where
-  shown_by : (t : Told) (n l : ℕ) → Seen before t (finding.finished n l w after) x → Answers t before after (Ok (LineAnswer.Shown n l))
-  shown_by (shown i j keys) n l (e, f, g, k, h) = record { told = rw (f, g, k, h, take-append_seam keys (drop (length keys) before)) refl; buffer = h }
-  shown_by (long i j) n l (e, f, g, h, k) = absurd (omega (arith, e))
-  shown_by (refused r) n l (e, f, g, h) = absurd (omega (arith, e, f))
+  shown_by : (t : Told) (i : FoundLine) → Seen before t (finding.finished i.number i.length w after) x → Answers t before after (Ok (LineAnswer.Shown i))
+  shown_by (shown n j keys) i (e, f, g, k, h) = record { told = rw (f, g, k, h, take-append_seam keys (drop (length keys) before)) refl; buffer = h }
+  shown_by (long n j) i (e, f, g, h, k) = absurd (omega (arith, e))
+  shown_by (refused r) i (e, f, g, h) = absurd (omega (arith, e, f))
 
   -- what shows no keys tells the same, whatever the buffer holds
   told-alike : (r : Result LineAnswer Refusal) (t : Told) → ((n i : ℕ) (l : List ℕ) → t ≡ shown n i l → ⊥) → told_by r [] ≡ t → told_by r after ≡ t
-  told-alike (Ok (LineAnswer.Shown n l)) t h v = absurd (h n l (take l []) (sym v))
-  told-alike (Ok (LineAnswer.Long n l)) t h v = v
+  told-alike (Ok (LineAnswer.Shown i)) t h v = absurd (h i.number i.length (take i.length []) (sym v))
+  told-alike (Ok (LineAnswer.Long i)) t h v = v
   told-alike (Err u) t h v = v
 
   unwritten-by : (t : Told) (q : Refusal) (r : Result LineAnswer Refusal) → told_by r [] ≡ unwritten (number q) x → Seen before t (finding.stopped q w after) x → Answers t before after r
@@ -161,18 +161,18 @@ module _ (before after w : List ℕ) (x : finding.Location) where
   unwritten-by (long i j) q r told (e, f, g, h, k) = record { told = told-alike r (long i j) (λ n i l v. clash (cc)) (told ∙ unwritten-line x e g ∙ rw (h, k) refl); buffer = f }
   unwritten-by (refused i) q r told (e, f, g, h) = record { told = told-alike r (refused i) (λ n i l v. clash (cc)) (told ∙ unwritten-other (number q) x (λ s. g (sym e ∙ s)) ∙ ap refused e); buffer = h }
 
-module _ (c : Case) (b p : List ℕ) (m k : ℕ) (before w after : List ℕ) (a : FoundLine) (wide : length before ≡ 65536)
+module _ (c : Case) (b p : List ℕ) (m k : ℕ) (before w after : List ℕ) (a : Result FoundLine Refusal) (wide : length before ≡ 65536)
     (e : finding.outcome a w after ≡ finding.find_result c (read_book b) (reader.read_pattern p) m k (replicate finding.most_words 0) before) where
   -- whatever words the second search has
   seen : (space : List ℕ) → length space ≡ finding.most_words → Seen before (line_answer c b p m k) (finding.outcome a w after) (finding.locate_result c (read_book b) (reader.read_pattern p) m k space)
   seen space room = rw e (answer-seen c b p m k before wide (replicate finding.most_words 0) space (length-replicate {A = ℕ} finding.most_words 0) room)
 
-  pub found-shown : {n l : ℕ} → a ≡ FoundLine.Line n l → Answers (line_answer c b p m k) before after (Ok (LineAnswer.Shown n l))
-  found-shown {n} {l} f =
-      shown_by before after w (finding.locate_result c (read_book b) (reader.read_pattern p) m k (replicate finding.most_words 0)) (line_answer c b p m k) n l
+  pub found-shown : {i : FoundLine} → a ≡ Ok i → Answers (line_answer c b p m k) before after (Ok (LineAnswer.Shown i))
+  found-shown {i} f =
+      shown_by before after w (finding.locate_result c (read_book b) (reader.read_pattern p) m k (replicate finding.most_words 0)) (line_answer c b p m k) i
       (rw f at (seen (replicate finding.most_words 0) (length-replicate {A = ℕ} finding.most_words 0)))
 
-  pub found-unwritten : {q : Refusal} (r : Result LineAnswer Refusal) → a ≡ FoundLine.Refused q → length w ≡ finding.most_words → told_by r [] ≡ unwritten (number q) (finding.locate_result c (read_book b) (reader.read_pattern p) m k w) → Answers (line_answer c b p m k) before after r
+  pub found-unwritten : {q : Refusal} (r : Result LineAnswer Refusal) → a ≡ Err q → length w ≡ finding.most_words → told_by r [] ≡ unwritten (number q) (finding.locate_result c (read_book b) (reader.read_pattern p) m k w) → Answers (line_answer c b p m k) before after r
   found-unwritten {q} r f room told = unwritten-by before after w (finding.locate_result c (read_book b) (reader.read_pattern p) m k w) (line_answer c b p m k) q r told (rw f at (seen w room))
 
 -- No book has a macro from 1,024 on: all such numbers are refused alike.

@@ -40,8 +40,8 @@ line_answer c b p m k = line_result c (read_book b) (reader.read_pattern p) m k
 
 -- what an answer tells, with the buffer after it
 abbrev pub told_by : Result LineAnswer Refusal → List ℕ → Told
-told_by (Ok (LineAnswer.Shown n l)) line = shown n l (take l line)
-told_by (Ok (LineAnswer.Long n l)) line = long n l
+told_by (Ok (LineAnswer.Shown f)) line = shown f.number f.length (take f.length line)
+told_by (Ok (LineAnswer.Long f)) line = long f.number f.length
 told_by (Err r) line = refused (number r)
 
 -- what private functions promise each other: what is told where `find_line` refuses a line, by where `locate_line` finds it

@@ -14,11 +14,11 @@ use refusal::Refusal;
 // The bytes of the buffer that the command lends: longer lines are not shown.
 pub const BUFFER: usize = 65536;
 
-// A line's number and how many keys it has: of one whose keys stand at the front of the buffer, or of one that is longer than the buffer.
+// Where a line is: one whose keys stand at the front of the buffer, or one that is longer than the buffer.
 #[derive(Clone, Copy)]
 pub enum LineAnswer {
-    Shown(u64, u64),
-    Long(u64, u64),
+    Shown(FoundLine),
+    Long(FoundLine),
 }
 
 // What is told where no line is written: where the line is, if the buffer is too short for it.
@@ -36,10 +36,8 @@ fn unwritten_in(
     if r != Refusal::BufferTooShort {
         return Err(r);
     }
-    match locate_line(book, pattern, case, m, k, work) {
-        FoundLine::Line(number, keys) => Ok(LineAnswer::Long(number, keys)),
-        FoundLine::Refused(other) => Err(other),
-    }
+    let found = locate_line(book, pattern, case, m, k, work)?;
+    Ok(LineAnswer::Long(found))
 }
 
 // The k-th matching line of macro m's run, from 1, with work words for every book.
@@ -55,8 +53,8 @@ fn line_in(
 {
     let mut work = [0; MOST_WORDS];
     match find_line(book, pattern, case, m, k, &mut work, line) {
-        FoundLine::Line(number, keys) => Ok(LineAnswer::Shown(number, keys)),
-        FoundLine::Refused(r) => unwritten_in(book, pattern, case, m, k, r, &mut work),
+        Ok(found) => Ok(LineAnswer::Shown(found)),
+        Err(r) => unwritten_in(book, pattern, case, m, k, r, &mut work),
     }
 }
 

@@ -44,8 +44,8 @@ pub(crate) fn line_text(
     ensures { Line (line_text (told_by found line.now)) out.old out.new result }
 {
     match found {
-        Ok(LineAnswer::Shown(number, keys)) => shown_line(number, keys, line, out),
-        Ok(LineAnswer::Long(number, keys)) => long_line(number, keys, out),
+        Ok(LineAnswer::Shown(found)) => shown_line(found.number, found.length, line, out),
+        Ok(LineAnswer::Long(found)) => long_line(found.number, found.length, out),
         Err(r) => refused_line(r, out),
     }
 }

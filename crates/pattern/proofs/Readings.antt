@@ -80,9 +80,10 @@ tables-told c d e = ap verdict_figures e ∙ tables-figures c d
 
 -- Read by either choice, a pattern is accepted or refused alike, with the same number of atoms and of states, and the same table of entering.
 pub verdict-alike : (c d : Case) (p : List ℕ) {v w : Result Tables Refusal} → TablesOn c p v → TablesOn d p w → (verdict_figures v ≡ verdict_figures w) × ((a b : Tables) → v ≡ Ok a → w ≡ Ok b → a.enter ≡ b.enter)
-verdict-alike c d p {v} {w} f g =
-    (tables-told c (read_pattern p) f ∙ sym (tables-told d (read_pattern p) g),
-     λ a b h k. alike (read_pattern p) a b (sym h ∙ f) (sym k ∙ g))
+verdict-alike c d p {v} {w} f g = (
+  tables-told c (read_pattern p) f ∙ sym (tables-told d (read_pattern p) g),
+  λ a b h k. alike (read_pattern p) a b (sym h ∙ f) (sym k ∙ g),
+)
   where
     alike : (r : Read) (a b : Tables) → Ok a ≡ tables_of c r → Ok b ≡ tables_of d r → a.enter ≡ b.enter
     alike (accepted t) a b h k =

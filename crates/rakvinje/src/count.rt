@@ -8,6 +8,8 @@ use output::{LINE, write_front};
 use replies::count_reply;
 
 // Counts with this choice of case.
+// Not inlined: the buffers of all verbs in one frame would need more than 1 MiB of stack.
+#[inline(never)]
 fn count_by(rt: &HostRuntime, case: Case) {
     let mut given = [0; PATTERN_READ];
     let pattern = pattern_at(rt, 3, &mut given);

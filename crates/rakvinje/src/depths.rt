@@ -30,6 +30,8 @@ fn explain_report(rt: &HostRuntime, report: Result<Depths, Refusal>) {
 }
 
 // The depths with these two keys.
+// Not inlined: the buffers of all verbs in one frame would need more than 1 MiB of stack.
+#[inline(never)]
 fn depth_by(rt: &HostRuntime, keys: Delimiters) {
     let mut space = [0; BOOK_READ];
     let Some(book) = book_at(rt, 4, &mut space) else {

@@ -7,6 +7,8 @@ use output::{LISTING, write_front};
 use replies::reach_reply;
 use survey::LIST;
 
+// Not inlined: the buffers of all verbs in one frame would need more than 1 MiB of stack.
+#[inline(never)]
 pub(crate) fn reach(rt: &HostRuntime) {
     let mut space = [0; BOOK_READ];
     let Some(book) = book_at(rt, 2, &mut space) else {

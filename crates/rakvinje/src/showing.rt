@@ -26,8 +26,8 @@ fn told(
     first: bool,
 ) -> bool {
     match found {
-        Ok(LineAnswer::Shown(_, _)) => write_front(rt, out, length),
-        Ok(LineAnswer::Long(_, _)) => {
+        Ok(LineAnswer::Shown(_)) => write_front(rt, out, length),
+        Ok(LineAnswer::Long(_)) => {
             let written = write_front(rt, out, length);
             say::long_line(rt);
             written
@@ -75,6 +75,8 @@ fn lines_in(rt: &HostRuntime, book: &[u8], pattern: &[u8], asked: Asked, lines: 
     }
 }
 
+// Not inlined: the buffers of all verbs in one frame would need more than 1 MiB of stack.
+#[inline(never)]
 fn lines_by(rt: &HostRuntime, lines: Range) {
     let mut given = [0; PATTERN_READ];
     let pattern = pattern_at(rt, 5, &mut given);

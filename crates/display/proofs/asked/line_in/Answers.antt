@@ -2,8 +2,8 @@
 use Rattle.display.proofs.AskedLaws.{found-shown, found-unwritten}
 use Rattle.display.proofs.asked.line_in.Goals as goal
 
-pub returns-in-Line : goal.returns-in-Line
-returns-in-Line c = search (found-shown)
+pub returns-in-Ok : goal.returns-in-Ok
+returns-in-Ok c = search (found-shown)
 
-pub returns-in-Refused : goal.returns-in-Refused
-returns-in-Refused c = search (found-unwritten)
+pub returns-in-Err : goal.returns-in-Err
+returns-in-Err c = search (found-unwritten)
