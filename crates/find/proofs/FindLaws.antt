@@ -1,5 +1,5 @@
 -- Laws of what is answered for the k-th matching line.
-use Prim.Native.Nat.{ℕ, suc, ◌+◌, ◌*◌, ◌<◌, ◌≤◌}
+use Prim.Native.Nat.{ℕ, suc, ◌*◌, ◌<◌, ◌≤◌}
 use native.Mathlib.Omega.{arith}
 use native.Mathlib.Numerals.{add-one}
 use mir.Val.{Fits}
@@ -16,9 +16,8 @@ use Rattle.refusal.specs.declared.Refusal.{Refusal}
 use Rattle.refusal.specs.declared.Refusal.TheVariants.{CountOverflow, NoSuchLine}
 use Rattle.refusal.specs.Number.{number}
 use Rattle.refusal.proofs.Number.{number-positive}
-use Rattle.runs.specs.Kept.{first_words, words_over}
+use Rattle.runs.specs.Kept.{words_over}
 use Rattle.runs.proofs.Tests.{either, clash, and_parts}
-use Rattle.runs.proofs.KeptLaws.{words-length}
 use Rattle.book.specs.Format.{Macro}
 use Rattle.book.specs.Expansion.{expansion}
 use Rattle.book.specs.Reading.{Reading, read_book, macros_in, version_in}
@@ -26,7 +25,6 @@ use Rattle.book.specs.Steps.{settled, book_step}
 use Rattle.book.proofs.LayoutLaws.{well-in}
 use Rattle.pattern.specs.Meaning.{Query, query, matches}
 use Rattle.pattern.specs.Reader as reader
-use Rattle.pattern.specs.Moves.{states}
 use Rattle.pattern.specs.Form.{Pattern}
 use Rattle.pattern.specs.Automata.{Automaton}
 use Rattle.pattern.specs.declared.automaton.Tables.{Tables}
@@ -34,9 +32,7 @@ use Rattle.letters.specs.declared.Case.{Case}
 use Rattle.lines.specs.Lines.{lines, matching}
 use Rattle.lines.proofs.LineLaws.{matching-is}
 use Rattle.reports.specs.Totals.{total_of}
-use Rattle.reports.specs.Words.{behind_rows}
 use Rattle.reports.proofs.TotalLaws.{few-lines, many-lines}
-use Rattle.reports.proofs.StoredLaws as stored
 use Rattle.counter.specs.declared.counting.Count.{Count}
 use Rattle.counter.specs.Counting as counting
 use Rattle.counter.specs.Counting.{macro_words, filled, count_of, finished_by, matching_lines}
@@ -54,6 +50,7 @@ use Rattle.find.specs.Lines.{missing, found, kth_line}
 use Rattle.find.specs.Answer.{base_of, extent_words_of, written, told}
 use Rattle.find.specs.Promises.{Extended, WordsFit, Ready, Locates, has_line, numbered_at, line_at, placed_for, placing, placing_of}
 use Rattle.find.proofs.SoundLaws.{Placeable, placed_by}
+use Rattle.find.proofs.Readings.{reports_front, extents_behind, written_is, front-length}
 use Rattle.find.proofs.LineLaws.{kth-is, kth-missing, kth-zero}
 
 -- the count says whether there is a k-th line
@@ -147,25 +144,15 @@ module _ {b offsets : List ℕ} {c : Case} {s : List ℕ} {a : Tables} {m base :
           go (Ok q) h = ap (λ (o : counting.Outcome). o.work) h ∙ by_total (total_of (matching t (expansion ms m)))
           go (Err r) h = ap (λ (o : counting.Outcome). o.work) h ∙ by_total (total_of (matching t (expansion ms m)))
 
-      abbrev reports_front : List ℕ
-      reports_front = first_words (macro_words t ms) (suc m)
+      front-is : front ≡ reports_front t ms m before
+      front-is = ff ∙ ap (take base) reports-are ∙ take_at (reports_front t ms m before) (drop (base_of t m) before) base (front-length t ms m before d.few x.based)
 
-      abbrev extents_behind : List ℕ
-      extents_behind = words_over (extent_words_of ms) width (suc m) (drop (base_of t m) before)
-
-      front_length : length reports_front ≡ base
-      front_length = words-length (macro_words t ms) (states t + behind_rows) (λ i. stored.words-length t d.few (expansion ms i)) (suc m) ∙ sym x.based
-
-      front-is : front ≡ reports_front
-      front-is = ff ∙ ap (take base) reports-are ∙ take_at reports_front (drop (base_of t m) before) base front_length
-
-      part-is : part ≡ extents_behind
-      part-is = f ∙ ap (words_over (extent_words_of ms) width (suc m)) (fb ∙ ap (drop base) reports-are ∙ drop_at reports_front (drop (base_of t m) before) base front_length)
+      part-is : part ≡ extents_behind t ms m before
+      part-is = f ∙ ap (words_over (extent_words_of ms) width (suc m)) (fb ∙ ap (drop base) reports-are ∙ drop_at (reports_front t ms m before) (drop (base_of t m) before) base (front-length t ms m before d.few x.based))
 
       -- they are what is to be written
-      written_is : front ++ part ≡ written t ms m before
-      unfolding written
-      written_is = rw (front-is, part-is) refl
+      parts-are : front ++ part ≡ written t ms m before
+      parts-are = rw (front-is, part-is, written_is t ms m before) refl
 
       -- and what the search rests on
       ready : (search : Search) → search.tables.now ≡ a → search.reports.now ≡ front → search.extents.now ≡ part → search.m ≡ m → Ready t ms search
@@ -185,7 +172,7 @@ module _ {b offsets : List ℕ} {c : Case} {s : List ℕ} {a : Tables} {m base :
 
         -- it is where it is looked for, or there is none
         settled-is : {r : Result LinePlace Refusal} → r ≡ placed_for base (kth_line t k (expansion ms m)) → placing r (front ++ part) ≡ placing_of c (read_book b) (reader.read_pattern s) m k before
-        settled-is e = rw (e, written_is, x.based) (placed_by c (read_book b) (reader.read_pattern s) m k before x.settles)
+        settled-is e = rw (e, parts-are, x.based) (placed_by c (read_book b) (reader.read_pattern s) m k before x.settles)
 
         pub macro-none : not some ≡ true → placing (Err NoSuchLine) (front ++ part) ≡ placing_of c (read_book b) (reader.read_pattern s) m k before
         unfolding placed_for

@@ -56,15 +56,16 @@ module _ (t : Query) (ms : List Macro) (m : ℕ) (work : List ℕ) where
   unfolding written
   written_is = refl
 
-  module _ (few : atom_count t.tree ≤ 29) {base : ℕ} {after : List ℕ} (based : base ≡ base_of t m) (stands : after ≡ written t ms m work) where
-    front_length : length reports_front ≡ base
-    front_length = words-length (macro_words t ms) (report_size t) (λ i. stored.words-length t few (expansion ms i)) (suc m) ∙ sym based
+  module _ (few : atom_count t.tree ≤ 29) {base : ℕ} (based : base ≡ base_of t m) where
+    pub front-length : length reports_front ≡ base
+    front-length = words-length (macro_words t ms) (report_size t) (λ i. stored.words-length t few (expansion ms i)) (suc m) ∙ sym based
 
-    pub written-room : base ≤ length after
-    written-room = rw (stands ∙ written_is, length-append reports_front extents_behind) (omega (arith, front_length))
+    module _ {after : List ℕ} (stands : after ≡ written t ms m work) where
+      pub written-room : base ≤ length after
+      written-room = rw (stands ∙ written_is, length-append reports_front extents_behind) (omega (arith, front-length))
 
-    pub written_behind : drop base after ≡ extents_behind
-    written_behind = ap (drop base) (stands ∙ written_is) ∙ drop_at reports_front extents_behind base front_length
+      pub written_behind : drop base after ≡ extents_behind
+      written_behind = ap (drop base) (stands ∙ written_is) ∙ drop_at reports_front extents_behind base front-length
 
 -- `find_line`, by the readings
 module _ (c : Case) (m k : ℕ) (work buffer : List ℕ) where

@@ -230,10 +230,11 @@ has_line (Err r) k = leb 1 k
 unfoldable pub numbered_at : Located → Result FoundLine Refusal
 numbered_at line = cond (eqb line.ends most) (Err LineNumberOverflow) (Ok (record { number = line.ends + 1; length = line.length }))
 
--- what is answered for a line, with where the extents stand
+-- a line with its number and so many keys, and where the extents stand
 abbrev pub line_at : ℕ → ℕ → ℕ → LinePlace
 line_at n l base = record { line = record { number = n; length = l }; base = base }
 
+-- what is answered for a line
 unfoldable pub placed_for : ℕ → Sought → Result LinePlace Refusal
 placed_for base missing = Err NoSuchLine
 placed_for base (found n l) = cond (ltb most n) (Err LineNumberOverflow) (Ok (line_at n (told (length l)) base))

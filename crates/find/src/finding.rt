@@ -41,7 +41,7 @@ fn has_line(count: Result<Count, Refusal>, k: u64) -> bool
     ensures { result ≡ has_line count k }
 {
     match count {
-        Ok(count) => (1 <= k) & (k <= count.lines),
+        Ok(count) => (1..=count.lines).contains(&k),
         Err(_) => 1 <= k,
     }
 }

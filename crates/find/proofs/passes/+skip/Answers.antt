@@ -1,12 +1,8 @@
 -- `passes::skip`, which calls itself. The measure: the part grows, and is never larger than all passes.
-use native.Mathlib.Omega.{arith}
 use Prim.Native.Nat.{ℕ}
 use Rattle.find.proofs.PassLaws.{Larger, larger-none, larger-skip, skip-part}
 use Rattle.find.proofs.passes.+skip.Goals as goal
 use Rattle.find.proofs.passes.+skip.Goals.{Joined-most-size, then-most-size, else-most-size}
-
-pub overflow_mul-size : goal.overflow_mul-size
-overflow_mul-size t c = omega arith
 
 larger : (t : ℕ) (c : Joined-most-size t) → Larger c.args.before c.args.part c.args.size c.args.most c.args.k c.if-most-size.larger
 larger t c =
