@@ -1,5 +1,5 @@
 // Counts over a book, and the joining of reports.
-ghost use Rattle.std.specs.Prelude.{◌≤◌, length};
+ghost use Rattle.std.specs.Prelude.{◌<◌, ◌≤◌, IfSome, length};
 ghost use Rattle.counter.specs.Counting.{most_words};
 
 use crate::numbers::{hash, prepare, report, small};
@@ -30,33 +30,33 @@ fn count(rt: &HostRuntime, book: &[u8], pattern: &[u8], case: Case, m: usize, w:
 }
 
 // `C`: the macro, the work words, the pattern's length, the book's, the pattern and the book; `c` with case ignored.
-pub(crate) fn counting(rt: &HostRuntime, bytes: &[u8], case: Case) -> usize
-    ensures { result ≤ length bytes.now }
+pub(crate) fn counting(rt: &HostRuntime, bytes: &[u8], case: Case) -> Option<usize>
+    ensures { IfSome result (λ n. (0 < n) × (n ≤ length bytes.now)) }
 {
     if bytes.len() < HEAD {
-        return 0;
+        return None;
     }
     let m = small(bytes, 1);
     let w = small(bytes, 4);
     let book = HEAD + small(bytes, 7);
     let end = book + small(bytes, 10);
     if w > MOST_WORDS {
-        return 0;
+        return None;
     }
     if end > bytes.len() {
-        return 0;
+        return None;
     }
     count(rt, &bytes[book..end], &bytes[HEAD..book], case, m, w);
-    end
+    Some(end)
 }
 
 // `J`: two reports.
-pub(crate) fn joining(rt: &HostRuntime, bytes: &[u8]) -> usize
-    ensures { result ≤ length bytes.now }
+pub(crate) fn joining(rt: &HostRuntime, bytes: &[u8]) -> Option<usize>
+    ensures { IfSome result (λ n. (0 < n) × (n ≤ length bytes.now)) }
 {
     if bytes.len() < JOINING {
-        return 0;
+        return None;
     }
     show::joined(rt, join(report(bytes, 1), report(bytes, 313)));
-    JOINING
+    Some(JOINING)
 }

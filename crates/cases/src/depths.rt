@@ -1,5 +1,5 @@
 // Cases of depths.
-ghost use Rattle.std.specs.Prelude.{◌≤◌, length};
+ghost use Rattle.std.specs.Prelude.{◌<◌, ◌≤◌, IfSome, length};
 
 use crate::numbers::{hash, prepare, small};
 use crate::show::{named, refused, text};
@@ -52,11 +52,11 @@ fn depth_with(rt: &HostRuntime, book: &[u8], keys: Delimiters, m: usize, w: usiz
 }
 
 // `D`: the macro, the work words, the two keys, the book's length and the book.
-pub(crate) fn depths(rt: &HostRuntime, bytes: &[u8]) -> usize
-    ensures { result ≤ length bytes.now }
+pub(crate) fn depths(rt: &HostRuntime, bytes: &[u8]) -> Option<usize>
+    ensures { IfSome result (λ n. (0 < n) × (n ≤ length bytes.now)) }
 {
     if bytes.len() < HEAD {
-        return 0;
+        return None;
     }
     let m = small(bytes, 1);
     let w = small(bytes, 4);
@@ -67,11 +67,11 @@ pub(crate) fn depths(rt: &HostRuntime, bytes: &[u8]) -> usize
     };
     let end = HEAD + small(bytes, 13);
     if w > WORDS {
-        return 0;
+        return None;
     }
     if end > bytes.len() {
-        return 0;
+        return None;
     }
     depth_with(rt, &bytes[HEAD..end], keys, m, w);
-    end
+    Some(end)
 }

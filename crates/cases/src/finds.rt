@@ -1,5 +1,5 @@
 // Cases of lines.
-ghost use Rattle.std.specs.Prelude.{◌≤◌, length};
+ghost use Rattle.std.specs.Prelude.{◌<◌, ◌≤◌, IfSome, length};
 ghost use Rattle.find.specs.Answer.{most_words};
 
 use crate::numbers::{hash, large, prepare, small};
@@ -83,11 +83,11 @@ fn find_with(rt: &HostRuntime, book: &[u8], pattern: &[u8], q: Question)
 
 // `F`: the macro, the work words, the buffer's bytes, k in eight bytes, the pattern's length, the book's, the pattern and the book; `f` with
 // case ignored.
-pub(crate) fn finds(rt: &HostRuntime, bytes: &[u8], case: Case) -> usize
-    ensures { result ≤ length bytes.now }
+pub(crate) fn finds(rt: &HostRuntime, bytes: &[u8], case: Case) -> Option<usize>
+    ensures { IfSome result (λ n. (0 < n) × (n ≤ length bytes.now)) }
 {
     if bytes.len() < HEAD {
-        return 0;
+        return None;
     }
     let q = Question {
         case,
@@ -99,14 +99,14 @@ pub(crate) fn finds(rt: &HostRuntime, bytes: &[u8], case: Case) -> usize
     let book = HEAD + small(bytes, 18);
     let end = book + small(bytes, 21);
     if q.words > MOST_WORDS {
-        return 0;
+        return None;
     }
     if q.bytes > BUFFER {
-        return 0;
+        return None;
     }
     if end > bytes.len() {
-        return 0;
+        return None;
     }
     find_with(rt, &bytes[book..end], &bytes[HEAD..book], q);
-    end
+    Some(end)
 }

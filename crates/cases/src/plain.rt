@@ -1,5 +1,5 @@
 // Cases without a book: the pattern's length, the data's, the pattern and the data.
-ghost use Rattle.std.specs.Prelude.{◌≤◌, length};
+ghost use Rattle.std.specs.Prelude.{◌<◌, ◌≤◌, IfSome, length};
 
 use crate::numbers::small;
 use crate::show;
@@ -9,33 +9,33 @@ use counter::{Case, count_run, test_line};
 const HEAD: usize = 7;
 
 // `L`, the one-line test; `l` with case ignored.
-pub(crate) fn lines(rt: &HostRuntime, bytes: &[u8], case: Case) -> usize
-    ensures { result ≤ length bytes.now }
+pub(crate) fn lines(rt: &HostRuntime, bytes: &[u8], case: Case) -> Option<usize>
+    ensures { IfSome result (λ n. (0 < n) × (n ≤ length bytes.now)) }
 {
     if bytes.len() < HEAD {
-        return 0;
+        return None;
     }
     let line = HEAD + small(bytes, 1);
     let end = line + small(bytes, 4);
     if end > bytes.len() {
-        return 0;
+        return None;
     }
     show::line(rt, test_line(&bytes[HEAD..line], case, &bytes[line..end]));
-    end
+    Some(end)
 }
 
 // `R`, the count over a plain run; `r` with case ignored.
-pub(crate) fn runs(rt: &HostRuntime, bytes: &[u8], case: Case) -> usize
-    ensures { result ≤ length bytes.now }
+pub(crate) fn runs(rt: &HostRuntime, bytes: &[u8], case: Case) -> Option<usize>
+    ensures { IfSome result (λ n. (0 < n) × (n ≤ length bytes.now)) }
 {
     if bytes.len() < HEAD {
-        return 0;
+        return None;
     }
     let run = HEAD + small(bytes, 1);
     let end = run + small(bytes, 4);
     if end > bytes.len() {
-        return 0;
+        return None;
     }
     show::run(rt, count_run(&bytes[HEAD..run], case, &bytes[run..end]));
-    end
+    Some(end)
 }

@@ -1,6 +1,6 @@
 // The cases, one behind the other, as docs/src/second/PROTOCOL.md has them: a byte for the kind, and what the functions of the kinds
 // say. A number has three bytes, low byte first; in a report it has eight.
-ghost use Rattle.std.specs.Prelude.{◌≤◌, length};
+ghost use Rattle.std.specs.Prelude.{◌<◌, ◌≤◌, IfSome, length};
 
 use crate::books::{bodies, checks};
 use crate::counts::{counting, joining};
@@ -11,15 +11,12 @@ use crate::reach_lists::reaches;
 use crate::show;
 use counter::Case;
 
-// Answers the case that begins some bytes. The result, as that of each kind's function, is how many of them the case has: none
-// if it is damaged.
-fn first(rt: &HostRuntime, bytes: &[u8]) -> usize
-    ensures { result ≤ length bytes.now }
+// Answers the case that begins some bytes. The result, as that of each kind's function, is how many of them the case has; none if it is
+// damaged.
+fn first(rt: &HostRuntime, bytes: &[u8]) -> Option<usize>
+    ensures { IfSome result (λ n. (0 < n) × (n ≤ length bytes.now)) }
 {
-    let Some(&kind) = bytes.first() else {
-        return 0;
-    };
-    match kind {
+    match bytes.first()? {
         b'L' => lines(rt, bytes, Case::Sensitive),
         b'l' => lines(rt, bytes, Case::Ignored),
         b'R' => runs(rt, bytes, Case::Sensitive),
@@ -33,7 +30,7 @@ fn first(rt: &HostRuntime, bytes: &[u8]) -> usize
         b'F' => finds(rt, bytes, Case::Sensitive),
         b'f' => finds(rt, bytes, Case::Ignored),
         b'J' => joining(rt, bytes),
-        _ => 0,
+        _ => None,
     }
 }
 
@@ -41,11 +38,10 @@ fn first(rt: &HostRuntime, bytes: &[u8]) -> usize
 pub(crate) fn all(rt: &HostRuntime, bytes: &[u8]) {
     let mut rest = bytes;
     while !rest.is_empty() {
-        let size = first(rt, rest);
-        if size == 0 {
+        let Some(size) = first(rt, rest) else {
             show::text(rt, "bad case\n");
             return;
-        }
+        };
         rest = &rest[size..];
     }
 }
