@@ -5,7 +5,7 @@ ghost use Rattle.command.specs.Asked.{asked_number};
 use crate::last::last_macro;
 use decimals::number_in;
 
-// The last macro of a book, or the one whose number a text has in decimal digits.
+// The last macro of a book, or the one whose number a text has in decimal digits. No Option of a text: without one, a macro is asked for, too.
 #[derive(Clone, Copy)]
 pub enum Asked<'a> {
     Last,

@@ -23,7 +23,8 @@ fn with_digit(n: usize, c: u8) -> usize
     more.min(BEYOND)
 }
 
-// The number that decimal digits write, BEYOND for all from there on; none if the text is no number.
+// The number that decimal digits write, BEYOND for all from there on; none if the text is no number. The loop of `wide_in` with another step:
+// one function over any step would be no shorter, since its contract would have to speak of any step.
 pub fn number_in(text: &[u8]) -> Option<usize>
     ensures { result ≡ number_in text.now }
 {

@@ -16,7 +16,8 @@ pub struct Filled {
     pub error: Option<Error>,
 }
 
-// Reads until the buffer is full, the input ends or a read fails.
+// Reads until the buffer is full, the input ends or a read fails. By a count of its own: what std has for it reads into a `Vec`, or fails where
+// the input ends first.
 pub fn fill<R: Read>(input: &mut R, buf: &mut [u8]) -> Filled
     ensures { IsPrefixLen result.bytes buf.new }
 {

@@ -25,7 +25,8 @@ pub(crate) fn item_extent(item: Item, extents: &[u64]) -> Extent
     }
 }
 
-// The run of macro i, whose calls go to macros whose extents stand already.
+// The run of macro i, whose calls go to macros whose extents stand already. `depth` has such a loop over what it keeps, `counter` another: over a
+// trait they would be no shorter, since it would have six methods and their laws, each under what its own joining asks for.
 fn macro_extent(book: &Book, i: usize, extents: &[u64]) -> Extent
     requires { MacroAt book.now.bytes.now book.now.offsets i extents.now }
     ensures { result ≡ extent_of (expansion (macros_in book.now.bytes.now) i) }

@@ -51,7 +51,7 @@ fn run_end(keys: &[u64; 256], k: usize) -> usize
         .map_or(256, |n| k + 1 + n)
 }
 
-// The words of the keys, in runs of equal ones.
+// The words of the keys, in runs of equal ones; by a place and no `for`, which goes on behind a run.
 fn keyed(rt: &HostRuntime, keys: &[u64; 256]) {
     text(rt, "keys");
     let mut k = 0;

@@ -18,7 +18,8 @@ pub struct Report {
     pub s: u64,
     // The states reached from each state, without a line end in the run.
     pub rows: [u64; 32],
-    // 0 without a line end, 1 with one, 2 with one and more closed lines than 64 bits count.
+    // 0 without a line end, 1 with one, 2 with one and more closed lines than 64 bits count. A number and no Option around `closed`: document 01
+    // has both among a report's words, and `report-fields` speaks of each.
     pub flag: u64,
     // The states from which the first line is accepted.
     pub heads: u64,

@@ -53,7 +53,7 @@ pub fn chosen(t: bool, a: u64) -> u64
     if t { a } else { 0 }
 }
 
-// The union of the rows of the set's members; a member from 32 on has no row and adds nothing.
+// The union of the rows of the set's members; a member from 32 on has no row and adds nothing. By the bits and no `for`: as many rounds as members.
 pub fn image(rows: &[u64; 32], set: u64) -> u64
     ensures { result ≡ image_of rows.now set }
 {
