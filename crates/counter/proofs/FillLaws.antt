@@ -89,9 +89,6 @@ module _ {keys enter : List ℕ} {p : Accepting} {book : List ℕ} {m : ℕ} {be
     few : i < 1024
     few = omega (arith, g.inside, macros-few book)
 
-    pub next_fits : Fits w64 (i + 1)
-    next_fits = omega (arith, few)
-
     -- so a place is small
     pub place-fits : Fits w64 (place_of p i)
     place-fits =

@@ -30,7 +30,7 @@ fn fill(book: &Book, m: usize, tables: &Tables, work: &mut [u64]) -> u64
 {
     let width = tables.accepting.states + BEHIND_ROWS;
     let mut steps = 0;
-    for i in 0..m + 1 {
+    for i in 0..=m {
         let items = book.items(i);
         let r = items_report(items.as_slice(), work, tables);
         steps += r.steps;

@@ -19,5 +19,7 @@ pub loop-i-preserved : goal.loop-i-preserved
 loop-i-preserved c =
     fill_on c.loop-i.invariant c.requires (omega arith) (c.as_slice.ensures ∙ ap decoded c.items-items.ensures) c.items_report-r.ensures (search rules) c.store.ensures
 
-pub returns : goal.returns
-returns c = fill_done c.loop-i.invariant (omega arith)
+pub returns-2 : goal.returns-2
+returns-2 c =
+    let all = fill_on c.loop-i.invariant c.requires (omega arith) (c.as_slice.ensures ∙ ap decoded c.items-items.ensures) c.items_report-r.ensures (search rules) c.store.ensures in
+    fill_done all (omega arith)
