@@ -2,13 +2,14 @@
 ghost use Rattle.command.specs.Reads.{CountsAsked};
 
 use crate::asked::Asked;
+use crate::buffer::{BOOK_READ, PATTERN_READ};
 use counter::{BookCount, MOST_WORDS, count_book};
 use letters::Case;
 
 // How many lines of the run of the macro that is asked for match the pattern, and the steps, in every book and under every pattern of which
 // this was read; none if the macro's text is no number.
 pub fn count_asked(book: &[u8], pattern: &[u8], case: Case, asked: Asked) -> Option<BookCount>
-    ensures { CountsAsked book.now pattern.now case asked.entry result }
+    ensures { CountsAsked BOOK_READ PATTERN_READ book.now pattern.now case asked.entry result }
 {
     let m = asked.number_in(book)?;
     let mut work = [0; MOST_WORDS];
