@@ -74,7 +74,7 @@ function step(file, line,    rest) {
     over = 0
     sub(/ *\/\/.*/, "", line)
     if (line ~ /^ *#\[cycle\(/) { cycle = line; sub(/^ *#\[cycle\(/, "", cycle); cycle = word(cycle) }
-    if (line ~ /^impl /) { rest = line; sub(/^impl /, "", rest); type = word(rest) }
+    if (line ~ /^impl[ <]/) { rest = line; sub(/^impl(<[^>]*>)? /, "", rest); sub(/^.* for /, "", rest); type = word(rest) }
     if (line ~ fn_head) {
         rest = line
         sub(fn_head, "", rest)

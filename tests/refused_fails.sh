@@ -131,10 +131,10 @@ says 1 'FAILED: crates/letters/must-fail/one_way.edit: rt has not tried it' '0 p
 # Functions that call one another have a proof in one folder; a method's is that of its type's module.
 crates reach brackets
 takes reach/reach_twice reach/reach_misses brackets/bracket_back brackets/escape_place
-refuses reach/reach_twice './proofs/listing/+enter_enter_items/Answers.antt:9:24: error: `enter.returns`: '"$search"
+refuses reach/reach_twice './proofs/listing/Walker/+walk/Answers.antt:9:24: error: `enter.returns`: '"$search"
 refuses reach/reach_misses "note: src/listing.rt:$(line reach/listing.rt 'fn enter_items'):1: $ensures"
 refuses brackets/bracket_back './proofs/cursor/AtomCursor/atom/Answers.antt:9:24: error: `returns`: '"$search"
-refuses brackets/escape_place "note: src/atom.rt:$(line brackets/atom.rt 'return AtomRead::At(self.past(2))'):13: $ensures"
+refuses brackets/escape_place "note: src/atom.rt:$(line brackets/atom.rt 'Some(self.past(2))'):13: $ensures"
 says 0 '4 passed, 0 failed'
 refuses brackets/bracket_back './proofs/atom/AtomCursor/atom/Answers.antt:9:24: error: `returns`: '"$search"
 says 1 "$(elsewhere brackets/bracket_back proofs/atom/AtomCursor/atom 'cursor/AtomCursor/atom cursor/AtomCursor/+atom')" '3 passed, 1 failed'
@@ -148,7 +148,7 @@ says 0 '1 passed, 0 failed'
 # A constant is a change of each function that names it, and what everyone sees is one of any.
 crates depth stateset
 takes depth/not_capped
-refuses depth/not_capped './proofs/unmatched/repeated/Answers.antt:9:24: error: `returns`: '"$search"
+refuses depth/not_capped './proofs/unmatched/Unmatched/repeated/Answers.antt:9:24: error: `returns`: '"$search"
 edit stateset/union_promised <<'END'
 file: src/lib.rt
 old:     ensures { result ≡ bit_or a b }

@@ -39,9 +39,9 @@ module _ (c : Case) (book pattern : List ℕ) where
   asked-told Asked.Last e {t} {m} f g = let last : m ≡ last_macro (read_book book) = same_Some m (last_macro (read_book book)) (sym f ∙ e) in rw last at (ap Some g)
   asked-told (Asked.Named text) e f g = named-told c book pattern text.now e f g
 
-  pub asked_none : (a : Asked) {o : Option ℕ} → o ≡ asked_number a book → o ≡ None → None ≡ asked_answer c book pattern a
-  asked_none Asked.Last e f = absurd (none-some (last_macro (read_book book)) (sym f ∙ e))
-  asked_none (Asked.Named text) e f = named_none c book pattern text.now e f
+  pub asked_none : (a : Asked) {o : Option ℕ} → o ≡ asked_number a book → o ≡ None → (b p : List ℕ) → None ≡ asked_answer c b p a
+  asked_none Asked.Last e f b p = absurd (none-some (last_macro (read_book book)) (sym f ∙ e))
+  asked_none (Asked.Named text) e f b p = named_none c b p text.now e f
 
 -- Any answer to the number of the macro that is asked for, where all numbers from 1,024 on have the same.
 module _ {R : Type 0} (book b : List ℕ) (same : read_book book ≡ read_book b) (P : ℕ → R → Type 0) (N : Type 0) where

@@ -4,7 +4,7 @@ use native.Mathlib.Omega.{arith}
 use mathlib.Core.Path.{◌≡◌, refl, sym, ap, ◌∙◌}
 use mathlib.Core.Bool.{Bool, true, false}
 use mathlib.Core.List.{List}
-use Rattle.std.specs.Prelude.{Option, None, Some, option_map}
+use Rattle.std.specs.Prelude.{Option, Some, option_map}
 use lib.Dec.{leb}
 use lib.ListN.{length, take, length-take, replicate}
 use lib.Seq.{take_all, length-take-le}
@@ -19,7 +19,6 @@ use Rattle.refusal.specs.declared.Refusal.{Refusal}
 use Rattle.counter.specs.declared.counting.Count.{Count}
 use Rattle.counter.specs.Answers.{outcome}
 use Rattle.counter.specs.Counting.{book_result, most_words}
-use Rattle.command.specs.declared.input.TheConstants.{READ}
 use Rattle.command.specs.declared.asked.Asked.{Asked}
 use Rattle.command.specs.Buffers.{ReadFrom}
 use Rattle.command.specs.Input.{told_by, last_result, program_result, program_answer, macro_answer, last_answer}
@@ -27,7 +26,7 @@ use Rattle.decimals.specs.Decimals.{decimal}
 use Rattle.command.specs.Asked.{asked_number, named_answer, asked_answer}
 use Rattle.command.specs.Reads.{ProgramAnswers}
 use Rattle.command.proofs.InputLaws.{answer-long, program-told, macro-told}
-use Rattle.command.proofs.AskedLaws.{asked-told, asked_none}
+use Rattle.command.proofs.AskedLaws.{asked-told}
 
 -- What was read of an input: itself, where that has fewer bytes than are read, and a first part of it where as many were read.
 module _ (n : ℕ) (part w : List ℕ) (e : ReadFrom n part w) where
@@ -92,10 +91,7 @@ module _ (book pattern : List ℕ) (c : Case) (a : Asked) {o : Option ℕ} (e : 
   pub counts-read : {m : ℕ} (after : List ℕ) (r : Result Count Refusal) → o ≡ Some m → outcome r after ≡ book_result c book pattern m (replicate most_words 0) → (b p : List ℕ) → ReadFrom 264200 book b → ReadFrom 129 pattern p → option_map told_by (Some r) ≡ asked_answer c b p a
   counts-read {m} after r f g b p h k = asked-told c book pattern a e f (macro-told r after c book pattern m g) ∙ sym (asked-prefix c book pattern a) ∙ rw (h, k) (asked-prefix c b p a)
 
-  pub counts_none : o ≡ None → (b p : List ℕ) → ReadFrom 264200 book b → ReadFrom 129 pattern p → option_map told_by None ≡ asked_answer c b p a
-  counts_none f b p h k = asked_none c book pattern a e f ∙ sym (asked-prefix c book pattern a) ∙ rw (h, k) (asked-prefix c b p a)
-
 -- what it promises, for those who go on from it
-pub program-answers : (input : List ℕ) (r : Result Count Refusal) → ProgramAnswers input r → (w : List ℕ) → ReadFrom READ input w → told_by r ≡ program_answer w
+pub program-answers : (n : ℕ) (input : List ℕ) (r : Result Count Refusal) → ProgramAnswers n input r → (w : List ℕ) → ReadFrom n input w → told_by r ≡ program_answer w
 unfolding ProgramAnswers
-program-answers input r a = a
+program-answers n input r a = a

@@ -2,6 +2,7 @@
 ghost use Rattle.command.specs.Reads.{CountsAsked};
 
 use crate::asked::Asked;
+use crate::buffer::{BOOK_READ, PATTERN_READ};
 use counter::{Count, MOST_WORDS, count_book};
 use letters::Case;
 use refusal::Refusal;
@@ -14,7 +15,7 @@ pub fn count_asked(
     case: Case,
     asked: Asked,
 ) -> Option<Result<Count, Refusal>>
-    ensures { CountsAsked book.now pattern.now case asked.entry result }
+    ensures { CountsAsked BOOK_READ PATTERN_READ book.now pattern.now case asked.entry result }
 {
     let m = asked.number_in(book)?;
     let mut work = [0; MOST_WORDS];

@@ -48,7 +48,7 @@ fn answer_in(input: &[u8], work: &mut [u64]) -> Result<Count, Refusal>
 
 // What the program answers, with its 4,096 work words, to every input of which this was read.
 pub fn answer(input: &[u8]) -> Result<Count, Refusal>
-    ensures { ProgramAnswers input.now result }
+    ensures { ProgramAnswers READ input.now result }
 {
     let mut work = [0; 4096];
     answer_in(input, &mut work)

@@ -8,6 +8,7 @@ use Rattle.depth.specs.declared.unmatched.Delimiters.{Delimiters}
 use Rattle.depth.specs.declared.reporting.Depths.{Depths}
 use Rattle.reach.specs.Answer.{reached_figures}
 use Rattle.command.specs.declared.asked.Asked.{Asked}
+use Rattle.command.specs.declared.buffer.TheConstants.{BOOK_READ, PATTERN_READ}
 use Rattle.command.specs.declared.input.TheConstants.{READ}
 use Rattle.command.specs.Buffers.{ReadFrom}
 use Rattle.command.specs.Input.{told_by, program_answer}
@@ -46,7 +47,7 @@ pub record Printed {T : Type 0} (Answers : Option T → Type 0) (text : T → Li
 
 -- the line of a count
 abbrev pub CountReplies : List ℕ → List ℕ → Case → Asked → List ℕ → List ℕ → Option (Reply (Result Count Refusal)) → Type 0
-CountReplies book pattern c a before after r = Printed (CountsAsked book pattern c a) (λ found. count_line (told_by found)) before after r
+CountReplies book pattern c a before after r = Printed (CountsAsked BOOK_READ PATTERN_READ book pattern c a) (λ found. count_line (told_by found)) before after r
 
 -- the line of a run's depths
 abbrev pub DepthReplies : List ℕ → Delimiters → Asked → List ℕ → List ℕ → Option (Reply (Result Depths Refusal)) → Type 0
