@@ -14,7 +14,7 @@ use Rattle.book.proofs.Prefix.{version-prefix, book-prefix}
 use Rattle.book.specs.Reading.{read_book}
 use Rattle.pattern.specs.Reader.{read_pattern}
 use Rattle.pattern.proofs.Accepts.{pattern-prefix}
-use Rattle.std.specs.Prelude.{Result, Ok, Err}
+use Rattle.std.specs.Prelude.{Result}
 use Rattle.refusal.specs.declared.Refusal.{Refusal}
 use Rattle.counter.specs.declared.counting.Count.{Count}
 use Rattle.counter.specs.Answers.{outcome}

@@ -6,7 +6,7 @@ use Rattle.book.specs.Format.{Macro}
 use Rattle.book.specs.Reading.{Reading, got, refused, read_book}
 use Rattle.counter.specs.Counting.{Outcome, stopped, book_result, most_words}
 use Rattle.counter.specs.Answers.{outcome}
-use Rattle.std.specs.Prelude.{Result, Ok, Err}
+use Rattle.std.specs.Prelude.{Result}
 use Rattle.refusal.specs.declared.Refusal.{Refusal}
 use Rattle.counter.specs.declared.counting.Count.{Count}
 use Rattle.runs.specs.Keys.{line_end}

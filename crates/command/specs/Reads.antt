@@ -1,7 +1,7 @@
 -- What functions answer to every input of which something was read.
 use Rattle.std.specs.Prelude.{ℕ, ◌≡◌, Option, option_map, List}
 use Rattle.letters.specs.declared.Case.{Case}
-use Rattle.std.specs.Prelude.{Result, Ok, Err}
+use Rattle.std.specs.Prelude.{Result}
 use Rattle.refusal.specs.declared.Refusal.{Refusal}
 use Rattle.counter.specs.declared.counting.Count.{Count}
 use Rattle.command.specs.declared.asked.Asked.{Asked}

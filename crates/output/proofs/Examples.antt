@@ -4,8 +4,7 @@ use mathlib.Core.List.{[], ◌∷◌}
 use Rattle.refusal.specs.declared.Refusal.{Refusal}
 use Rattle.decimals.specs.Decimals.{numeral_to, numeral}
 use Rattle.decimals.specs.Texts.{ascii}
-use Rattle.std.specs.Prelude.{Result, Ok, Err}
-use Rattle.counter.specs.declared.counting.Count.{Count}
+use Rattle.std.specs.Prelude.{Ok, Err}
 use Rattle.command.specs.Input.{told_by, program_answer}
 use Rattle.command.proofs.PaperRuns.{example, example-told}
 use Rattle.std.specs.Prelude.{Ok}

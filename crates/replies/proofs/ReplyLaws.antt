@@ -3,7 +3,7 @@ use Prim.Native.Nat.{ℕ}
 use mathlib.Core.List.{List}
 use Rattle.std.specs.Prelude.{Result}
 use Rattle.refusal.specs.declared.Refusal.{Refusal}
-use Rattle.std.specs.Prelude.{Result, Ok, Err}
+use Rattle.std.specs.Prelude.{Result}
 use Rattle.counter.specs.declared.counting.Count.{Count}
 use Rattle.command.specs.Input.{told_by}
 use Rattle.command.specs.declared.input.TheConstants.{READ}

@@ -2,7 +2,7 @@
 use Rattle.std.specs.Prelude.{ℕ, ◌≡◌, Option, None, Some, option_map, Result, List}
 use Rattle.refusal.specs.declared.Refusal.{Refusal}
 use Rattle.letters.specs.declared.Case.{Case}
-use Rattle.std.specs.Prelude.{Result, Ok, Err}
+use Rattle.std.specs.Prelude.{Result}
 use Rattle.counter.specs.declared.counting.Count.{Count}
 use Rattle.depth.specs.declared.unmatched.Delimiters.{Delimiters}
 use Rattle.depth.specs.declared.reporting.Depths.{Depths}

@@ -6,7 +6,7 @@ use Rattle.command.specs.declared.asked.Asked.{Asked}
 use Rattle.command.specs.Asked.{AskedFor}
 use Rattle.command.specs.Reads.{BookFrom}
 use Rattle.depth.specs.declared.unmatched.Delimiters.{Delimiters}
-use Rattle.std.specs.Prelude.{Result, Ok, Err}
+use Rattle.std.specs.Prelude.{Result}
 use Rattle.refusal.specs.declared.Refusal.{Refusal}
 use Rattle.depth.specs.declared.reporting.Depths.{Depths}
 use Rattle.depth.specs.Answer.{Outcome, depth_result, most_words, outcome}
