@@ -116,12 +116,10 @@ pub(crate) fn asked_at<'a>(
     i: usize,
     space: &'a mut [u8; NUMBER],
 ) -> Option<Asked<'a>> {
-    if arg_count(rt) == i {
-        return Some(Asked::Last);
-    }
     match rt.arg(i, space) {
         Ok(n) => Some(Asked::Named(&space[..n])),
-        Err(_) => {
+        Err(FillError::NotPresent) => Some(Asked::Last),
+        Err(FillError::TooLong) => {
             say::text(rt, "the macro number is too long\n");
             None
         }
