@@ -13,7 +13,8 @@ use refusal::Refusal;
 // Document 01's mark, which a book begins with.
 const MAGIC: [u8; 3] = *b"MBK";
 
-// A sound book: its bytes, how many macros it has, and where they stand.
+// A sound book: its bytes, how many macros it has, and where they stand. `open` says so; no ghost field does, since `items` and `item` answer for
+// any places.
 #[derive(Clone, Copy)]
 pub struct Book<'a> {
     pub bytes: &'a [u8],
