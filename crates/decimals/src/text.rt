@@ -10,9 +10,9 @@ pub struct Draft<'a> {
     length: usize,
 }
 
-impl<'a> Draft<'a> {
+impl Draft<'_> {
     // The empty text.
-    pub fn new(bytes: &'a mut [u8]) -> Draft<'a>
+    pub fn new(bytes: &mut [u8]) -> Draft<'_>
         ensures same_buffer { result.bytes.ghost_name ≡ bytes.entry.ghost_name }
         ensures buffer { result.bytes.now ≡ bytes.old }
         ensures empty { result.length ≡ 0 }
