@@ -3,7 +3,8 @@ ghost use Rattle.std.specs.Prelude.{◌≡◌, ◌≤◌, length};
 ghost use Rattle.decimals.specs.Decimals.{numeral};
 ghost use Rattle.decimals.specs.Drafts.{Puts};
 
-// A text that grows from the front of a buffer.
+// A text that grows from the front of a buffer. Contracts read its fields: by the name of the reference a caller knows that what the draft
+// holds in the end is what the lent buffer holds.
 #[derive(Drop)]
 pub struct Draft<'a> {
     bytes: &'a mut [u8],
