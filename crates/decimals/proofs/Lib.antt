@@ -2,5 +2,6 @@
 pub mod NumberLaws
 pub mod NumeralLaws
 pub mod TextLaws
+pub mod DraftLaws
 pub mod WholeLaws
 pub mod WideLaws

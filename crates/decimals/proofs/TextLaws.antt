@@ -4,27 +4,21 @@ use native.Mathlib.Nat.{add_assoc}
 use native.Mathlib.Omega.{arith}
 use mathlib.Core.Path.{◌≡◌, refl, sym, ap, ◌∙◌}
 use mathlib.Core.Bool.{Bool, true, false, cond}
-use mathlib.Core.List.{List, [], ◌++◌, append_assoc}
+use mathlib.Core.List.{List, ◌++◌, append_assoc}
 use lib.Dec.{leb}
 use lib.ListN.{length, take, drop, length-append}
-use lib.Seq.{paste, take-append_seam, drop-append-add, drop-drop, take-length, length-paste, take-paste, drop-paste}
+use lib.Seq.{paste, drop-drop, take-length, length-paste, take-paste, drop-paste}
 use borrow.Author.Tests.{le-leb, leb-true}
-use Rattle.io.specs.Digits.{IsDigitCount}
-use Rattle.io.specs.Digits as io
-use Rattle.decimals.specs.Decimals.{numeral}
-use Rattle.decimals.proofs.NumeralLaws.{decimal-digits}
-use Rattle.runs.specs.Kept.{over}
-use Rattle.runs.proofs.KeptLaws.{over-length}
 use Rattle.decimals.specs.Texts.{put_at, place_after}
 
 -- A text that there is room for.
 module _ (out : List ℕ) (at : ℕ) (w : List ℕ) where
   module _ (room : at + length w ≤ length out) where
-    put_all : paste out at w (length w) ≡ put_at out at w
+    pub put_all : paste out at w (length w) ≡ put_at out at w
     unfolding put_at
     put_all = rw (le-leb (at + length w) (length out) room) refl
 
-    place-all : at + length w ≡ place_after out at w
+    pub place-all : at + length w ≡ place_after out at w
     unfolding place_after
     place-all = rw (le-leb (at + length w) (length out) room) refl
 
@@ -48,40 +42,6 @@ put-length out at w = go (leb (at + length w) (length out)) refl
 pub place-near : (out : List ℕ) (at : ℕ) (w : List ℕ) → place_after out at w ≤ at + length w
 unfolding place_after
 place-near out at w = grind arith
-
--- A text at the front of a buffer that held `old`, and the place behind it.
-pub record Put (old w new : List ℕ) (at : ℕ) : Type 0 where
-  pub front : new ≡ over w old
-  pub place : at ≡ length w
-  pub room : length w ≤ length old
-
-pub put-nothing : (old : List ℕ) → Put old [] old 0
-put-nothing old = record { front = refl; place = refl; room = omega arith }
-
--- one text more
-module _ {old w new : List ℕ} {at : ℕ} (p : Put old w new at) (v : List ℕ) (fits : length w + length v ≤ length old) where
-  pub put-more : {next : List ℕ} {place : ℕ} → next ≡ put_at new at v → place ≡ place_after new at v → Put old (w ++ v) next place
-  put-more {next} {place} e f =
-      let long : length new ≡ length old = ap length p.front ∙ over-length w old p.room in
-      let behind : at + length v ≤ length new = omega (arith, p.place) in
-      record {
-        front = e ∙ sym (put_all new at v behind) ∙ pasted;
-        place = f ∙ sym (place-all new at v behind) ∙ ap (λ (n : ℕ). n + length v) p.place ∙ sym (length-append w v);
-        room = rw (length-append w v) fits;
-      }
-    where
-      pasted : paste new at v (length v) ≡ over (w ++ v) old
-      pasted =
-          rw (p.place, p.front, take-append_seam w (drop (length w) old), take-length v, drop-append-add w (drop (length w) old) (length v), drop-drop (length v) (length w) old, length-append w v)
-          refl
-
--- the digits that `io::decimal` puts into an array, taken from its front
-module _ (out digits : List ℕ) (at n k : ℕ) (few : IsDigitCount 10 1 n k) (e : take k digits ≡ io.last_digits 10 k n) where
-  pub put-digits : {new : List ℕ} → new ≡ put_at out at (take k digits) → new ≡ put_at out at (numeral n)
-  put-digits f = f ∙ ap (λ (w : List ℕ). put_at out at w) (e ∙ decimal-digits n k few)
-
-  pub place-digits : {place : ℕ} → place ≡ place_after out at (take k digits) → place ≡ place_after out at (numeral n)
-  place-digits f = f ∙ ap (λ (w : List ℕ). place_after out at w) (e ∙ decimal-digits n k few)
 
 -- two texts put one behind the other are one text
 module _ (out : List ℕ) (at : ℕ) (u v : List ℕ) (room : at + (length u + length v) ≤ length out) where

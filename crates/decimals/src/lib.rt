@@ -7,6 +7,6 @@ mod whole;
 mod wide;
 
 pub use number::number_in;
-pub use text::{put_number, put_text};
+pub use text::Draft;
 pub use whole::size;
 pub use wide::wide_in;

@@ -7,10 +7,11 @@ use mathlib.Core.Bool.{Bool, true, false, cond, ◌||◌}
 use mathlib.Core.List.{List, [], ◌∷◌, ◌++◌, append-nil, append_assoc}
 use lib.Dec.{eqb, ltb}
 use lib.ListN.{length, get_or, take, length-append}
-use lib.Seq.{take_all, take-suc, length-take-le, paste-zero}
+use lib.Seq.{take_all, take-suc, length-take-le}
 use borrow.Author.Tests.{eq-eqb, ne_eqb, lt-ltb, le-ltb}
-use Rattle.decimals.specs.Texts.{put_at, place_after}
-use Rattle.decimals.proofs.TextLaws.{put-copied, place-copied, put_both, place-both, put-length}
+use Rattle.decimals.specs.declared.text.Draft.{Draft}
+use Rattle.decimals.specs.Drafts.{Puts}
+use Rattle.decimals.proofs.DraftLaws.{puts-as, puts-none, puts-both}
 use Rattle.display.specs.Shown.{hex_digit, code_text, shown_key, shown_keys}
 
 pub hex-low : (d : ℕ) → d < 10 → 48 + d ≡ hex_digit d
@@ -22,12 +23,8 @@ unfolding hex_digit
 hex-high d h = rw (le-ltb d 10 h) refl
 
 -- the four bytes of a key that is not shown as it is
-module _ (out : List ℕ) (at k : ℕ) {a b : ℕ} (e : a ≡ hex_digit (k / 16)) (f : b ≡ hex_digit (k % 16)) where
-  pub code_put : {new : List ℕ} → new ≡ put_at out at (92 ∷ 120 ∷ a ∷ b ∷ []) → new ≡ put_at out at (code_text k)
-  code_put g = g ∙ rw (e, f) refl
-
-  pub code-place : {new : ℕ} → new ≡ place_after out at (92 ∷ 120 ∷ a ∷ b ∷ []) → new ≡ place_after out at (code_text k)
-  code-place g = g ∙ rw (e, f) refl
+pub code-puts : (k : ℕ) {a b : ℕ} {x y : Draft} → a ≡ hex_digit (k / 16) → b ≡ hex_digit (k % 16) → Puts (92 ∷ 120 ∷ a ∷ b ∷ []) x y → Puts (code_text k) x y
+code-puts k e f = puts-as (rw (e, f) refl)
 
 -- one key, by its case
 module _ (k : ℕ) where
@@ -43,25 +40,16 @@ module _ (k : ℕ) where
   unfolding shown_key
   plain-is n t = rw (ne_eqb k 92 n, t) refl
 
-module _ (out : List ℕ) (at k : ℕ) where
-  pub slash-put : {new : List ℕ} → k ≡ 92 → new ≡ put_at out at (92 ∷ 92 ∷ []) → new ≡ put_at out at (shown_key k)
-  slash-put e g = g ∙ ap (put_at out at) (slash-is k e)
-
-  pub slash-place : {new : ℕ} → k ≡ 92 → new ≡ place_after out at (92 ∷ 92 ∷ []) → new ≡ place_after out at (shown_key k)
-  slash-place e g = g ∙ ap (place_after out at) (slash-is k e)
+module _ (k : ℕ) {x y : Draft} where
+  pub slash-puts : k ≡ 92 → Puts (92 ∷ 92 ∷ []) x y → Puts (shown_key k) x y
+  slash-puts e = puts-as (slash-is k e)
 
   module _ (n : k ≡ 92 → ⊥) where
-    pub shown-code : {new : List ℕ} → ltb k 32 || ltb 126 k ≡ true → new ≡ put_at out at (code_text k) → new ≡ put_at out at (shown_key k)
-    shown-code t g = g ∙ ap (put_at out at) (code_is k n t)
+    pub coded-puts : ltb k 32 || ltb 126 k ≡ true → Puts (code_text k) x y → Puts (shown_key k) x y
+    coded-puts t = puts-as (code_is k n t)
 
-    pub shown-code-place : {new : ℕ} → ltb k 32 || ltb 126 k ≡ true → new ≡ place_after out at (code_text k) → new ≡ place_after out at (shown_key k)
-    shown-code-place t g = g ∙ ap (place_after out at) (code_is k n t)
-
-    pub shown-plain : {new : List ℕ} → ltb k 32 || ltb 126 k ≡ false → new ≡ put_at out at (k ∷ []) → new ≡ put_at out at (shown_key k)
-    shown-plain t g = g ∙ ap (put_at out at) (plain-is k n t)
-
-    pub shown-plain-place : {new : ℕ} → ltb k 32 || ltb 126 k ≡ false → new ≡ place_after out at (k ∷ []) → new ≡ place_after out at (shown_key k)
-    shown-plain-place t g = g ∙ ap (place_after out at) (plain-is k n t)
+    pub plain-puts : ltb k 32 || ltb 126 k ≡ false → Puts (k ∷ []) x y → Puts (shown_key k) x y
+    plain-puts t = puts-as (plain-is k n t)
 
 -- a key takes four bytes at the most
 key-short : (k : ℕ) → length (shown_key k) ≤ 4
@@ -83,42 +71,24 @@ unfolding shown_keys
 shown-short [] = omega arith
 shown-short (k ∷ w) = rw (length-append (shown_key k) (shown_keys w)) (omega (arith, key-short k, shown-short w))
 
--- The first i keys, from a place on.
-pub record Showing (old : List ℕ) (at : ℕ) (keys : List ℕ) (new : List ℕ) (place i : ℕ) : Type 0 where
-  pub room : at + 4 * length keys ≤ length old
-  pub long : length new ≡ length old
-  pub put : new ≡ put_at old at (shown_keys (take i keys))
-  pub behind : place ≡ place_after old at (shown_keys (take i keys))
+-- The first i keys are shown.
+pub record Showing (keys : List ℕ) (start now : Draft) (i : ℕ) : Type 0 where
+  pub room : start.length + 4 * length keys ≤ length start.bytes.now
+  pub text : Puts (shown_keys (take i keys)) start now
 
-put-none : (old : List ℕ) (at : ℕ) → at ≤ length old → old ≡ put_at old at []
-put-none old at h = put-copied old at [] h (omega arith) (paste-zero old at [])
-
-place_none : (old : List ℕ) (at : ℕ) → at ≤ length old → at ≡ place_after old at []
-place_none old at h = (let none : at ≡ at + 0 = omega arith in none) ∙ place-copied old at [] h (omega arith)
-
-pub showing-none : (old : List ℕ) (at : ℕ) (keys : List ℕ) → at + 4 * length keys ≤ length old → Showing old at keys old at 0
+pub showing-none : (keys : List ℕ) (start : Draft) → start.length + 4 * length keys ≤ length start.bytes.now → Showing keys start start 0
 unfolding shown_keys
-showing-none old at keys h = record { room = h; long = refl; put = put-none old at (omega arith); behind = place_none old at (omega arith) }
+showing-none keys start h = record { room = h; text = puts-none start (omega arith) }
 
-module _ {old : List ℕ} {at : ℕ} {keys : List ℕ} {new : List ℕ} {place i : ℕ} (x : Showing old at keys new place i) where
-  pub showing-more : i < length keys → {next : List ℕ} {then : ℕ} → next ≡ put_at new place (shown_key (get_or keys i 0)) → then ≡ place_after new place (shown_key (get_or keys i 0)) → Showing old at keys next then (i + 1)
-  showing-more h {next} {then} e f =
+module _ {keys : List ℕ} {start now : Draft} {i : ℕ} (x : Showing keys start now i) where
+  pub showing-more : {next : Draft} → i < length keys → Puts (shown_key (get_or keys i 0)) now next → Showing keys start next (i + 1)
+  showing-more h p =
       let one : take (i + 1) keys ≡ take i keys ++ (get_or keys i 0 ∷ []) = ap (λ (k : ℕ). take k keys) (add-one i) ∙ take-suc keys i 0 (omega arith) in
       let more : shown_keys (take (i + 1) keys) ≡ shown_keys (take i keys) ++ shown_key (get_or keys i 0) = ap shown_keys one ∙ shown-more (take i keys) (get_or keys i 0) in
-      let fits : at + (length (shown_keys (take i keys)) + length (shown_key (get_or keys i 0))) ≤ length old = omega (arith, x.room, shown-short (take i keys), length-take-le i keys (omega arith), key-short (get_or keys i 0)) in
-      record {
-        room = x.room;
-        long = ap length e ∙ put-length new place (shown_key (get_or keys i 0)) ∙ x.long;
-        put = put_both old at (shown_keys (take i keys)) (shown_key (get_or keys i 0)) fits x.put x.behind e ∙ ap (put_at old at) (sym more);
-        behind = place-both old at (shown_keys (take i keys)) (shown_key (get_or keys i 0)) fits x.put x.behind f ∙ ap (place_after old at) (sym more);
-      }
+      let fits : start.length + (length (shown_keys (take i keys)) + length (shown_key (get_or keys i 0))) ≤ length start.bytes.now =
+      omega (arith, x.room, shown-short (take i keys), length-take-le i keys (omega arith), key-short (get_or keys i 0))
+      in
+      record { room = x.room; text = puts-as (sym more) (puts-both (shown_keys (take i keys)) (shown_key (get_or keys i 0)) fits x.text p) }
 
-  module _ (h : length keys ≤ i) where
-    all : shown_keys (take i keys) ≡ shown_keys keys
-    all = ap shown_keys (take_all i keys h)
-
-    pub showing-put : new ≡ put_at old at (shown_keys keys)
-    showing-put = x.put ∙ ap (put_at old at) all
-
-    pub showing-behind : place ≡ place_after old at (shown_keys keys)
-    showing-behind = x.behind ∙ ap (place_after old at) all
+  pub showing-all : length keys ≤ i → Puts (shown_keys keys) start now
+  showing-all h = puts-as (ap shown_keys (take_all i keys h)) x.text

@@ -1,9 +1,9 @@
 // Keys shown so that a terminal is safe.
 ghost use Rattle.std.specs.Prelude.{◌≡◌, ◌+◌, ◌*◌, ◌<◌, ◌≤◌, length};
-ghost use Rattle.decimals.specs.Texts.{place_after, put_at};
+ghost use Rattle.decimals.specs.Drafts.{Puts};
 ghost use Rattle.display.specs.Shown.{code_text, hex_digit, shown_key, shown_keys};
 
-use decimals::put_text;
+use decimals::Draft;
 
 // A hexadecimal digit.
 fn hex_digit(d: u8) -> u8
@@ -14,38 +14,33 @@ fn hex_digit(d: u8) -> u8
 }
 
 // A backslash, `x` and two hexadecimal digits.
-fn put_code(out: &mut [u8], at: usize, key: u8) -> usize
-    ensures buffer { out.new ≡ put_at out.old at (code_text key) }
-    ensures place { result ≡ place_after out.old at (code_text key) }
+fn put_code(line: &mut Draft, key: u8)
+    ensures { Puts (code_text key) line.old line.new }
 {
     let text = [b'\\', b'x', hex_digit(key / 16), hex_digit(key % 16)];
-    put_text(out, at, &text)
+    line.put(&text);
 }
 
 // One key.
-fn put_key(out: &mut [u8], at: usize, key: u8) -> usize
-    ensures buffer { out.new ≡ put_at out.old at (shown_key key) }
-    ensures place { result ≡ place_after out.old at (shown_key key) }
+fn put_key(line: &mut Draft, key: u8)
+    ensures { Puts (shown_key key) line.old line.new }
 {
     if key == b'\\' {
-        return put_text(out, at, b"\\\\");
+        return line.put(b"\\\\");
     }
     if (key < 32) | (126 < key) {
-        return put_code(out, at, key);
+        return put_code(line, key);
     }
     let text = [key];
-    put_text(out, at, &text)
+    line.put(&text);
 }
 
-// Keys, from a place on; answers the place behind them.
-pub(crate) fn put_keys(out: &mut [u8], at: usize, keys: &[u8]) -> usize
-    requires { at + 4 * length keys.now ≤ length out.old }
-    ensures buffer { out.new ≡ put_at out.old at (shown_keys keys.now) }
-    ensures place { result ≡ place_after out.old at (shown_keys keys.now) }
+// Keys, one behind the other.
+pub(crate) fn put_keys(line: &mut Draft, keys: &[u8])
+    requires { line.old.length + 4 * length keys.now ≤ length line.old.bytes.now }
+    ensures { Puts (shown_keys keys.now) line.old line.new }
 {
-    let mut place = at;
     for &key in keys {
-        place = put_key(out, place, key);
+        put_key(line, key);
     }
-    place
 }

@@ -6,7 +6,7 @@ ghost use Rattle.display.specs.Lines.{line_text, long_text, shown_text};
 
 use crate::asked::{BUFFER, LineAnswer};
 use crate::keys::put_keys;
-use decimals::{put_number, put_text};
+use decimals::Draft;
 use output::refused_line;
 use refusal::Refusal;
 
@@ -17,22 +17,26 @@ pub const SHOWN: usize = 4 * BUFFER + 64;
 fn shown_line(number: u64, keys: u64, line: &[u8; BUFFER], out: &mut [u8; SHOWN]) -> usize
     ensures { Line (shown_text number (take keys line.now)) out.old out.new result }
 {
-    let behind = put_number(out, 0, number);
-    let place = put_text(out, behind, b":");
+    let mut text = Draft::new(out);
+    text.put_number(number);
+    text.put(b":");
     // No more keys than the buffer has.
     let n = keys.min(BUFFER as u64) as usize;
-    let at = put_keys(out, place, &line[..n]);
-    put_text(out, at, b"\n")
+    put_keys(&mut text, &line[..n]);
+    text.put(b"\n");
+    text.length()
 }
 
 // `N length L` and LF.
 fn long_line(number: u64, keys: u64, out: &mut [u8; SHOWN]) -> usize
     ensures { Line (long_text number keys) out.old out.new result }
 {
-    let behind = put_number(out, 0, number);
-    let place = put_text(out, behind, b" length ");
-    let at = put_number(out, place, keys);
-    put_text(out, at, b"\n")
+    let mut text = Draft::new(out);
+    text.put_number(number);
+    text.put(b" length ");
+    text.put_number(keys);
+    text.put(b"\n");
+    text.length()
 }
 
 // The line of an answer, at the front of a buffer; answers its length.

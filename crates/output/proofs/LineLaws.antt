@@ -1,12 +1,12 @@
 -- Laws of the lines that the programs print.
-use Prim.Native.Nat.{ℕ, ◌+◌, ◌-◌, ◌*◌, ◌<◌, ◌≤◌, min}
+use Prim.Native.Nat.{ℕ, ◌+◌, ◌*◌, ◌<◌, ◌≤◌, min}
 use native.Mathlib.Omega.{arith}
 use native.Mathlib.Numerals.{add-one}
 use mathlib.Core.Path.{◌≡◌, refl, sym, ap, subst, ◌∙◌}
 use mathlib.Core.Bool.{Bool, true, false}
 use mathlib.Core.List.{List, [], ◌∷◌, ◌++◌, append_assoc, append-nil}
 use lib.Dec.{eqb, leb}
-use lib.ListN.{length, get_or, take, drop, length-append, length-drop}
+use lib.ListN.{length, get_or, take, length-append}
 use lib.Seq.{take_all, take-suc}
 use borrow.Author.Tests.{ne_eqb, leb-true, leb-false}
 use Rattle.refusal.specs.declared.Refusal.{Refusal}
@@ -16,71 +16,56 @@ use Rattle.std.specs.Prelude.{Result, Ok, Err}
 use Rattle.counter.specs.declared.counting.Count.{Count}
 use Rattle.command.specs.Input.{told_by}
 use Rattle.decimals.specs.Decimals.{numeral}
-use Rattle.decimals.specs.Texts.{ascii, put_at, place_after}
-use Rattle.decimals.proofs.TextLaws.{Put, put-nothing, put-more, put_both, place-both, put-length, place-near}
+use Rattle.decimals.specs.Texts.{ascii}
+use Rattle.decimals.specs.declared.text.Draft.{Draft}
+use Rattle.decimals.specs.Drafts.{Puts}
+use Rattle.decimals.proofs.DraftLaws.{puts-none, puts-both, puts-near, puts-wide, Holds, holds-none, holds-more}
 use Rattle.reach.specs.Answer.{reached_figures}
 use Rattle.survey.specs.declared.facts.Facts.{Facts}
 use Rattle.survey.specs.Facts.{survey_figures}
-use Rattle.output.specs.Lines.{field, ending, lines_text, refused_text, count_line, sound_text, facts_text, survey_line, list_text, reach_text, Line}
+use Rattle.output.specs.Lines.{field, ending, lines_text, refused_text, count_line, facts_text, survey_line, list_text, reach_text, Line}
 
 -- A name and a number behind it.
-module _ (out : List ℕ) (at : ℕ) (name : List ℕ) (n : ℕ) (room : at + (length name + 20) ≤ length out) (short : length (numeral n) ≤ 20) where
-  module _ {mid : List ℕ} {place : ℕ} (e : mid ≡ put_at out at name) (f : place ≡ place_after out at name) where
-    pub field_put : {new : List ℕ} → new ≡ put_at mid place (numeral n) → new ≡ put_at out at (name ++ numeral n)
-    field_put g = put_both out at name (numeral n) (omega arith) e f g
-
-    pub field-place : {new : ℕ} → new ≡ place_after mid place (numeral n) → new ≡ place_after out at (name ++ numeral n)
-    field-place g = place-both out at name (numeral n) (omega arith) e f g
-
-    pub field-near : {new : ℕ} → new ≡ place_after mid place (numeral n) → new ≤ at + (length name + 20)
-    field-near {new} g =
-        let near : place_after out at (name ++ numeral n) ≤ at + length (name ++ numeral n) = place-near out at (name ++ numeral n) in
-        omega (arith, field-place g, length-append name (numeral n))
+pub field-puts : (name : List ℕ) (n : ℕ) {a b c : Draft} → a.length + (length name + 20) ≤ length a.bytes.now → length (numeral n) ≤ 20 → Puts name a b → Puts (numeral n) b c → Puts (name ++ numeral n) a c
+field-puts name n room short p q = puts-both name (numeral n) (omega arith) p q
 
 -- Texts put one behind the other from the front of a buffer on.
-pub line_of : {old text new : List ℕ} {at : ℕ} → Put old text new at → Line text old new at
-line_of p = record { front = p.front; long = p.place }
+pub line_of : {old text new : List ℕ} {a : Draft} {k : ℕ} → Holds old text a → new ≡ a.bytes.now → k ≡ a.length → Line text old new k
+line_of h e f = record { front = e ∙ h.front; long = f ∙ h.place }
 
-module _ (old u : List ℕ) {a : List ℕ} {i : ℕ} (e : a ≡ put_at old 0 u) (f : i ≡ place_after old 0 u) where
-  one-put : length u ≤ length old → Put old u a i
-  one-put h = put-more (put-nothing old) u (omega arith) e f
+module _ {old : List ℕ} {a : Draft} (e : a.bytes.now ≡ old) (f : a.length ≡ 0) (u : List ℕ) {b : Draft} (p : Puts u a b) where
+  one-put : length u ≤ length old → Holds old u b
+  one-put h = holds-more (holds-none a e f) u (omega arith) p
 
-  module _ (v : List ℕ) {b : List ℕ} {j : ℕ} (g : b ≡ put_at a i v) (h : j ≡ place_after a i v) where
-    two-put : length u + length v ≤ length old → Put old (u ++ v) b j
-    two-put l = put-more (one-put (omega arith)) v l g h
+  module _ (v : List ℕ) {c : Draft} (q : Puts v b c) where
+    two-put : length u + length v ≤ length old → Holds old (u ++ v) c
+    two-put l = holds-more (one-put (omega arith)) v l q
 
-    module _ (w : List ℕ) {c : List ℕ} {k : ℕ} (x : c ≡ put_at b j w) (y : k ≡ place_after b j w) where
-      pub three-put : length u + length v + length w ≤ length old → Put old (u ++ v ++ w) c k
-      three-put l = put-more (two-put (omega arith)) w (rw (length-append u v) l) x y
+    module _ (w : List ℕ) {d : Draft} (r : Puts w c d) where
+      pub three-put : length u + length v + length w ≤ length old → Holds old (u ++ v ++ w) d
+      three-put l = holds-more (two-put (omega arith)) w (rw (length-append u v) l) r
 
 -- `refused R`
-pub refused-put : (old : List ℕ) (n r : ℕ) {a b c : List ℕ} {i j k : ℕ} → n ≡ r → length (numeral n) ≤ 20
-    → a ≡ put_at old 0 (ascii "refused ") → i ≡ place_after old 0 (ascii "refused ") → b ≡ put_at a i (numeral n) → j ≡ place_after a i (numeral n)
-    → c ≡ put_at b j ending → k ≡ place_after b j ending → 29 ≤ length old → Line (refused_text r) old c k
-refused-put old n r same short e f g h x y wide = rw (← same) (line_of (three-put old (ascii "refused ") e f (numeral n) g h ending x y (omega arith)))
+pub refused-put : (old : List ℕ) (n r : ℕ) {a b c d : Draft} {new : List ℕ} {k : ℕ} → n ≡ r → length (numeral n) ≤ 20 → a.bytes.now ≡ old → a.length ≡ 0
+    → Puts (ascii "refused ") a b → Puts (numeral n) b c → Puts ending c d → new ≡ d.bytes.now → k ≡ d.length → 29 ≤ length old → Line (refused_text r) old new k
+refused-put old n r same short e f p q x y z wide = rw (← same) (line_of (three-put e f (ascii "refused ") p (numeral n) q ending x (omega arith)) y z)
 
 -- `lines N steps S`
-pub lines-put : (old : List ℕ) (n k : ℕ) {a b c : List ℕ} {i j l : ℕ} → length old ≡ 128 → length (numeral n) ≤ 20 → length (numeral k) ≤ 20
-    → a ≡ put_at old 0 (field "lines " n) → i ≡ place_after old 0 (field "lines " n) → b ≡ put_at a i (field " steps " k) → j ≡ place_after a i (field " steps " k)
-    → c ≡ put_at b j ending → l ≡ place_after b j ending → Line (lines_text n k) old c l
-lines-put old n k wide short small e f g h x y = line_of (three-put old (field "lines " n) e f (field " steps " k) g h ending x y (omega arith))
+pub lines-put : (old : List ℕ) (n k : ℕ) {a b c d : Draft} {new : List ℕ} {l : ℕ} → length old ≡ 128 → length (numeral n) ≤ 20 → length (numeral k) ≤ 20 → a.bytes.now ≡ old → a.length ≡ 0
+    → Puts (field "lines " n) a b → Puts (field " steps " k) b c → Puts ending c d → new ≡ d.bytes.now → l ≡ d.length → Line (lines_text n k) old new l
+lines-put old n k wide short small e f p q x y z = line_of (three-put e f (field "lines " n) p (field " steps " k) q ending x (omega arith)) y z
 
--- `sound version V macros M`
-pub sound-put : (old : List ℕ) (f : Facts) {a b : List ℕ} {i j : ℕ} → length old ≡ 128 → length (numeral f.version) ≤ 20 → length (numeral f.macros) ≤ 20
-    → a ≡ put_at old 0 (field "sound version " f.version) → i ≡ place_after old 0 (field "sound version " f.version)
-    → b ≡ put_at a i (field " macros " f.macros) → j ≡ place_after a i (field " macros " f.macros) → Line (sound_text f) old b j
-sound-put old f wide short small e g h x = line_of (two-put old (field "sound version " f.version) e g (field " macros " f.macros) h x (omega arith))
-
--- and ` items I bytes B` behind it
-pub facts-put : (old : List ℕ) (f : Facts) {a b c d : List ℕ} {i j k l : ℕ} → length a ≡ 128 → length (numeral f.items) ≤ 20 → length (numeral f.bytes) ≤ 20
-    → Line (sound_text f) old a i → i ≤ 62 → b ≡ put_at a i (field " items " f.items) → j ≡ place_after a i (field " items " f.items)
-    → c ≡ put_at b j (field " bytes " f.bytes) → k ≡ place_after b j (field " bytes " f.bytes) → d ≡ put_at c k ending → l ≡ place_after c k ending → Line (facts_text f) old d l
-facts-put old f wide short small start near e g h x y z =
-    let grown : length (sound_text f) + (length old - length (sound_text f)) ≡ 128 = sym (rw (length-append (sound_text f) (drop (length (sound_text f)) old), length-drop (length (sound_text f)) old) at (ap length start.front)) ∙ wide in
-    let first : Put old (sound_text f) _ _ = record { front = start.front; place = start.long; room = omega (arith, start.long) } in
-    let second = put-more first (field " items " f.items) (omega (arith, start.long)) e g in
-    let third = put-more second (field " bytes " f.bytes) (rw (length-append (sound_text f) (field " items " f.items)) (omega (arith, start.long))) h x in
-    line_of (put-more third ending (rw (length-append (sound_text f ++ field " items " f.items) (field " bytes " f.bytes), length-append (sound_text f) (field " items " f.items)) (omega (arith, start.long))) y z)
+-- `sound version V macros M items I bytes B`
+pub facts-put : (old : List ℕ) (s : Facts) {a b c d g h : Draft} {new : List ℕ} {l : ℕ} → length old ≡ 128 → length (numeral s.version) ≤ 20 → length (numeral s.macros) ≤ 20 → length (numeral s.items) ≤ 20 → length (numeral s.bytes) ≤ 20
+    → a.bytes.now ≡ old → a.length ≡ 0 → Puts (field "sound version " s.version) a b → Puts (field " macros " s.macros) b c → Puts (field " items " s.items) c d → Puts (field " bytes " s.bytes) d g → Puts ending g h
+    → new ≡ h.bytes.now → l ≡ h.length → Line (facts_text s) old new l
+facts-put old s wide short small few less e f p q r x y u z =
+    let third = three-put e f (field "sound version " s.version) p (field " macros " s.macros) q (field " items " s.items) r (omega arith) in
+    let long : length (field "sound version " s.version ++ field " macros " s.macros ++ field " items " s.items) ≤ 89 =
+    rw (length-append (field "sound version " s.version ++ field " macros " s.macros) (field " items " s.items), length-append (field "sound version " s.version) (field " macros " s.macros)) (omega arith)
+    in
+    let fourth = holds-more third (field " bytes " s.bytes) (omega arith) x in
+    line_of (holds-more fourth ending (rw (length-append (field "sound version " s.version ++ field " macros " s.macros ++ field " items " s.items) (field " bytes " s.bytes)) (omega arith)) y) u z
 
 -- By the answer's case.
 pub refusal-told : (r : Refusal) → eqb (number r) 0 ≡ false
@@ -120,46 +105,47 @@ unfolding list_text
 list-more [] j = append-nil (numeral j ++ ending)
 list-more (k ∷ js) j = rw (list-more js j) (sym (append_assoc (numeral k ++ ending) (list_text js) (numeral j ++ ending)))
 
--- a number and LF
-module _ (out : List ℕ) (at n : ℕ) (room : at + 21 ≤ length out) (short : length (numeral n) ≤ 20) where
-  module _ {mid : List ℕ} {place : ℕ} (e : mid ≡ put_at out at (numeral n)) (f : place ≡ place_after out at (numeral n)) where
-    pub entry-put : {new : List ℕ} → new ≡ put_at mid place ending → new ≡ put_at out at (numeral n ++ ending)
-    entry-put g = put_both out at (numeral n) ending (omega arith) e f g
-
-    pub entry_place : {new : ℕ} → new ≡ place_after mid place ending → new ≡ place_after out at (numeral n ++ ending)
-    entry_place g = place-both out at (numeral n) ending (omega arith) e f g
+-- a number has 20 digits at the most, so that an entry has 21 bytes
+pub entry-puts : (n : ℕ) {a b c : Draft} → a.length + 21 ≤ length a.bytes.now → length (numeral n) ≤ 20 → Puts (numeral n) a b → Puts ending b c → Puts (numeral n ++ ending) a c
+entry-puts n room short p q = puts-both (numeral n) ending (omega arith) p q
 
 -- the first i entries are put, each in 21 bytes at the most
-pub record Listed (list : List ℕ) (old new : List ℕ) (at i : ℕ) : Type 0 where
-  pub all : length list ≤ 1024
-  pub wide : length old ≡ 21504
-  pub long : length new ≡ 21504
-  pub text : Put old (list_text (take i list)) new at
-  pub few : at ≤ i * 21
+pub record Listed (list : List ℕ) (start now : Draft) (i : ℕ) : Type 0 where
+  pub room : start.length + length list * 21 ≤ length start.bytes.now
+  pub text : Puts (list_text (take i list)) start now
+  pub few : length (list_text (take i list)) ≤ i * 21
 
-pub listed-none : (list old : List ℕ) → length list ≤ 1024 → length old ≡ 21504 → Listed list old old 0 0
+pub listed-none : (list : List ℕ) (start : Draft) → start.length + length list * 21 ≤ length start.bytes.now → Listed list start start 0
 unfolding list_text
-listed-none list old all wide = record { all = all; wide = wide; long = wide; text = put-nothing old; few = omega arith }
+listed-none list start room = record { room = room; text = puts-none start (omega arith); few = omega arith }
 
-module _ {list : List ℕ} {old new : List ℕ} {at i : ℕ} (c : Listed list old new at i) where
-  pub listed-room : i < length list → at + 21 ≤ length new
-  listed-room h = omega (arith, c.few, c.long, c.all)
+module _ {list : List ℕ} {start now : Draft} {i : ℕ} (c : Listed list start now i) where
+  pub listed-room : i < length list → now.length + 21 ≤ length now.bytes.now
+  listed-room h = omega (arith, c.few, c.room, puts-near c.text, puts-wide c.text)
 
-  pub listed_more : {end : List ℕ} {next : ℕ} → i < length list → length (numeral (get_or list i 0)) ≤ 20
-      → end ≡ put_at new at (numeral (get_or list i 0) ++ ending) → next ≡ place_after new at (numeral (get_or list i 0) ++ ending) → Listed list old end next (i + 1)
-  listed_more {end} {next} inside short e f =
+  pub listed_more : {next : Draft} → i < length list → length (numeral (get_or list i 0)) ≤ 20 → Puts (numeral (get_or list i 0) ++ ending) now next → Listed list start next (i + 1)
+  listed_more {next} inside short p =
       let j = get_or list i 0 in
       let before = list_text (take i list) in
       let size : length (numeral j ++ ending) ≡ length (numeral j) + 1 = length-append (numeral j) ending in
       let grown : list_text (take (i + 1) list) ≡ before ++ (numeral j ++ ending) = rw (add-one i, take-suc list i 0 (omega arith)) (list-more (take i list) j) in
-      let on = put-more c.text (numeral j ++ ending) (omega (arith, c.few, c.wide, c.text.place, c.all)) e f in
       record {
-        all = c.all;
-        wide = c.wide;
-        long = ap length e ∙ put-length new at (numeral j ++ ending) ∙ c.long;
-        text = rw grown on;
-        few = omega (arith, c.few, c.text.place, on.place, length-append before (numeral j ++ ending));
+        room = c.room;
+        text = rw grown (puts-both before (numeral j ++ ending) (omega (arith, c.few, c.room)) c.text p);
+        few = rw grown (omega (arith, c.few, length-append before (numeral j ++ ending)));
       }
 
-  pub listed-all : length list ≤ i → Line (list_text list) old new at
-  listed-all h = let whole : take i list ≡ list = take_all i list h in subst (λ (v : List ℕ). Line (list_text v) old new at) whole (line_of c.text)
+  module _ (h : length list ≤ i) (e : i ≤ length list) where
+    all : take i list ≡ list
+    all = take_all i list h
+
+    pub listed-all : Puts (list_text list) start now
+    listed-all = subst (λ (v : List ℕ). Puts (list_text v) start now) all c.text
+
+    pub listed-short : length (list_text list) ≤ length list * 21
+    listed-short = let long : i ≡ length list = omega arith in subst (λ (v : List ℕ). length (list_text v) ≤ length list * 21) all (rw (← long) c.few)
+
+-- a list from the front of a buffer on
+pub list-put : (list old : List ℕ) {a b : Draft} {new : List ℕ} {k : ℕ} → length old ≡ 21504 → length list ≤ 1024 → length (list_text list) ≤ length list * 21 → a.bytes.now ≡ old → a.length ≡ 0
+    → Puts (list_text list) a b → new ≡ b.bytes.now → k ≡ b.length → Line (list_text list) old new k
+list-put list old wide few short e f p x y = line_of (one-put e f (list_text list) p (omega arith)) x y

@@ -5,7 +5,7 @@ use mathlib.Core.Path.{◌≡◌, refl, sym, ap, subst, ◌∙◌}
 use mathlib.Core.Bool.{true, false}
 use mathlib.Core.List.{List, ◌++◌}
 use lib.IntN.{ℤ, pos, nat_abs}
-use lib.ListN.{length, length-append}
+use lib.ListN.{length}
 use lib.Signed.{mag, lt_z}
 use mir.Syntax.{w64}
 use mir.Val.{SFits}
@@ -13,8 +13,10 @@ use mir.ValLaws.{to_z-of_z}
 use Rattle.refusal.specs.declared.Refusal.{Refusal}
 use Rattle.refusal.specs.Number.{number}
 use Rattle.decimals.specs.Decimals.{numeral}
-use Rattle.decimals.specs.Texts.{ascii, put_at, place_after}
-use Rattle.decimals.proofs.TextLaws.{put_both, place-both, put-length, place-near}
+use Rattle.decimals.specs.Texts.{ascii}
+use Rattle.decimals.specs.declared.text.Draft.{Draft}
+use Rattle.decimals.specs.Drafts.{Puts}
+use Rattle.decimals.proofs.DraftLaws.{puts-as, puts-both, puts-near, puts-wide}
 use Rattle.decimals.proofs.WholeLaws.{read, when-negative, when-other}
 use Rattle.std.specs.Prelude.{Result, Ok, Err}
 use Rattle.depth.specs.declared.reporting.Depths.{Depths}
@@ -48,51 +50,24 @@ module _ (z : ℤ) (f : SFits w64 z) {n : ℕ} (e : n ≡ nat_abs (read z)) (sho
   pub plain-short : lt_z (read z) (pos 0) ≡ false → length (whole_text z) ≤ 21
   plain-short h = rw (← plain-is h) (omega arith)
 
--- any text that stands for one
-module _ (out : List ℕ) (at : ℕ) (name text : List ℕ) (room : at + (length name + 21) ≤ length out) (short : length text ≤ 21) {mid : List ℕ} {place : ℕ} (e : mid ≡ put_at out at name) (f : place ≡ place_after out at name) where
-  whole-put : {new : List ℕ} → new ≡ put_at mid place text → new ≡ put_at out at (name ++ text)
-  whole-put g = put_both out at name text (omega arith) e f g
-
-  whole-place : {new : ℕ} → new ≡ place_after mid place text → new ≡ place_after out at (name ++ text)
-  whole-place g = place-both out at name text (omega arith) e f g
-
-  whole-near : {new : ℕ} → new ≡ place_after mid place text → new ≤ at + (length name + 21)
-  whole-near {new} g = omega (arith, whole-place g, place-near out at (name ++ text), length-append name text)
-
 -- there is room behind the name
-pub name-room : (out : List ℕ) (at : ℕ) (name : List ℕ) → at + (length name + 21) ≤ length out → {mid : List ℕ} {place : ℕ} → mid ≡ put_at out at name → place ≡ place_after out at name → place + 21 ≤ length mid
-name-room out at name room e f = omega (arith, f, place-near out at name, ap length e ∙ put-length out at name)
+pub name-room : (name : List ℕ) {a b : Draft} → a.length + (length name + 21) ≤ length a.bytes.now → Puts name a b → b.length + 21 ≤ length b.bytes.now
+name-room name room p = omega (arith, puts-near p, puts-wide p)
 
-module _ (z : ℤ) (f : SFits w64 z) {n : ℕ} (e : n ≡ nat_abs (read z)) (short : length (numeral n) ≤ 20) (out : List ℕ) (at : ℕ) (name : List ℕ) (room : at + (length name + 21) ≤ length out) {mid : List ℕ} {place : ℕ} (g : mid ≡ put_at out at name) (l : place ≡ place_after out at name) where
-  module _ (h : lt_z (read z) (pos 0) ≡ true) where
-    pub minus-put : {new : List ℕ} → new ≡ put_at mid place (ascii "-" ++ numeral n) → new ≡ put_at out at (name ++ whole_text z)
-    minus-put x = whole-put out at name (whole_text z) room (minus-short z f e short h) g l (x ∙ ap (put_at mid place) (minus_is z f e short h))
+module _ (z : ℤ) (f : SFits w64 z) {n : ℕ} (e : n ≡ nat_abs (read z)) (short : length (numeral n) ≤ 20) (name : List ℕ) {a b c : Draft} (room : a.length + (length name + 21) ≤ length a.bytes.now) (p : Puts name a b) where
+  pub minus-puts : lt_z (read z) (pos 0) ≡ true → Puts (ascii "-" ++ numeral n) b c → Puts (name ++ whole_text z) a c
+  minus-puts h q = let few = minus-short z f e short h in puts-both name (whole_text z) (omega arith) p (puts-as (minus_is z f e short h) q)
 
-    pub minus-place : {new : ℕ} → new ≡ place_after mid place (ascii "-" ++ numeral n) → new ≡ place_after out at (name ++ whole_text z)
-    minus-place x = whole-place out at name (whole_text z) room (minus-short z f e short h) g l (x ∙ ap (place_after mid place) (minus_is z f e short h))
-
-    pub minus-near : {new : ℕ} → new ≡ place_after mid place (ascii "-" ++ numeral n) → new ≤ at + (length name + 21)
-    minus-near x = whole-near out at name (whole_text z) room (minus-short z f e short h) g l (x ∙ ap (place_after mid place) (minus_is z f e short h))
-
-  module _ (h : lt_z (read z) (pos 0) ≡ false) where
-    pub plain-put : {new : List ℕ} → new ≡ put_at mid place (numeral n) → new ≡ put_at out at (name ++ whole_text z)
-    plain-put x = whole-put out at name (whole_text z) room (plain-short z f e short h) g l (x ∙ ap (put_at mid place) (plain-is z f e short h))
-
-    pub plain-place : {new : ℕ} → new ≡ place_after mid place (numeral n) → new ≡ place_after out at (name ++ whole_text z)
-    plain-place x = whole-place out at name (whole_text z) room (plain-short z f e short h) g l (x ∙ ap (place_after mid place) (plain-is z f e short h))
-
-    pub plain-near : {new : ℕ} → new ≡ place_after mid place (numeral n) → new ≤ at + (length name + 21)
-    plain-near x = whole-near out at name (whole_text z) room (plain-short z f e short h) g l (x ∙ ap (place_after mid place) (plain-is z f e short h))
+  pub plain-puts : lt_z (read z) (pos 0) ≡ false → Puts (numeral n) b c → Puts (name ++ whole_text z) a c
+  plain-puts h q = let few = plain-short z f e short h in puts-both name (whole_text z) (omega arith) p (puts-as (plain-is z f e short h) q)
 
 -- `end E lowest L`
-pub depths-put : (old : List ℕ) (end lowest : ℤ) (f : SFits w64 end) (g : SFits w64 lowest) {a b c : List ℕ} {i j l : ℕ} → length old ≡ 128 → length (whole_text (read end)) ≤ 21 → length (whole_text (read lowest)) ≤ 21
-    → a ≡ put_at old 0 (ascii "end " ++ whole_text (read end)) → i ≡ place_after old 0 (ascii "end " ++ whole_text (read end))
-    → b ≡ put_at a i (ascii " lowest " ++ whole_text (read lowest)) → j ≡ place_after a i (ascii " lowest " ++ whole_text (read lowest))
-    → c ≡ put_at b j ending → l ≡ place_after b j ending → Line (depths_text end lowest) old c l
-depths-put old end lowest f g {a} {b} {c} {i} {j} {l} wide short small e h x y u v =
-    subst (λ (z : ℤ). Line (depths_text z lowest) old c l) (to_z-of_z w64 end f)
-    (subst (λ (z : ℤ). Line (depths_text (read end) z) old c l) (to_z-of_z w64 lowest g)
-    (line_of (three-put old (ascii "end " ++ whole_text (read end)) e h (ascii " lowest " ++ whole_text (read lowest)) x y ending u v (omega arith))))
+pub depths-put : (old : List ℕ) (end lowest : ℤ) (f : SFits w64 end) (g : SFits w64 lowest) {a b c d : Draft} {new : List ℕ} {l : ℕ} → length old ≡ 128 → length (whole_text (read end)) ≤ 21 → length (whole_text (read lowest)) ≤ 21 → a.bytes.now ≡ old → a.length ≡ 0
+    → Puts (ascii "end " ++ whole_text (read end)) a b → Puts (ascii " lowest " ++ whole_text (read lowest)) b c → Puts ending c d → new ≡ d.bytes.now → l ≡ d.length → Line (depths_text end lowest) old new l
+depths-put old end lowest f g {new = new} {l = l} wide short small e h p q x y z =
+    subst (λ (k : ℤ). Line (depths_text k lowest) old new l) (to_z-of_z w64 end f)
+    (subst (λ (k : ℤ). Line (depths_text (read end) k) old new l) (to_z-of_z w64 lowest g)
+    (line_of (three-put e h (ascii "end " ++ whole_text (read end)) p (ascii " lowest " ++ whole_text (read lowest)) q ending x (omega arith)) y z))
 
 -- By the answer's case.
 pub depth-lines : (k : Depths) → mag k.end < 2 ^ 63 → mag k.lowest < 2 ^ 63 → {old new : List ℕ} {n : ℕ} {d : Result Depths Refusal} → d ≡ Ok k → Line (depths_text (read k.end) (read k.lowest)) old new n → Line (depth_line (depth_told d)) old new n

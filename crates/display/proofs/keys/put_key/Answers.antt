@@ -1,12 +1,13 @@
 -- `keys::put_key`: by the key.
-use Rattle.display.proofs.ShownLaws.{slash-put, slash-place, shown-code, shown-code-place, shown-plain, shown-plain-place}
+use borrow.Author.Rules.{rules}
+use Rattle.display.proofs.ShownLaws.{slash-puts, coded-puts, plain-puts}
 use Rattle.display.proofs.keys.put_key.Goals as goal
 
 pub returns-then-key-eq92 : goal.returns-then-key-eq92
-returns-then-key-eq92 c = record { buffer = search (slash-put); place = search (slash-place) }
+returns-then-key-eq92 c = search (slash-puts, rules)
 
 pub returns-then-key : goal.returns-then-key
-returns-then-key c = record { buffer = search (shown-code); place = search (shown-code-place) }
+returns-then-key c = search (coded-puts, rules)
 
 pub returns : goal.returns
-returns c = record { buffer = search (shown-plain); place = search (shown-plain-place) }
+returns c = search (plain-puts, rules)

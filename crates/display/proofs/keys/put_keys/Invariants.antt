@@ -3,4 +3,4 @@ use Rattle.display.proofs.ShownLaws.{Showing}
 use Rattle.display.proofs.keys.put_keys.Given as goal
 
 abbrev pub invariant-loop-key : goal.invariant-loop-key
-invariant-loop-key l = Showing l.initial.out l.at l.keys l.out l.place l.key-index
+invariant-loop-key l = Showing l.keys l.initial.line l.line l.key-index

@@ -3,4 +3,4 @@ use Rattle.output.proofs.LineLaws.{Listed}
 use Rattle.output.proofs.list.put_entries.Given as goal
 
 abbrev pub invariant-loop-n : goal.invariant-loop-n
-invariant-loop-n l = Listed l.list l.initial.out l.out l.at l.n-index
+invariant-loop-n l = Listed l.list l.initial.lines l.lines l.n-index

@@ -1,7 +1,7 @@
 -- `list::put_entry`: a number and LF put one behind the other are one text.
 use borrow.Author.Rules.{rules}
-use Rattle.output.proofs.LineLaws.{entry-put, entry_place}
+use Rattle.output.proofs.LineLaws.{entry-puts}
 use Rattle.output.proofs.list.put_entry.Goals as goal
 
 pub returns : goal.returns
-returns c = record { buffer = search (entry-put); place = search (entry_place); short = search rules }
+returns c = record { text = search (entry-puts, rules); short = search rules }

@@ -1,8 +1,0 @@
--- `text::put_number`: the digits that `io::decimal` writes are the numeral.
-use native.Mathlib.Omega.{arith}
-use Rattle.decimals.proofs.NumeralLaws.{numeral-short}
-use Rattle.decimals.proofs.TextLaws.{put-digits, place-digits}
-use Rattle.decimals.proofs.text.put_number.Goals as goal
-
-pub returns : goal.returns
-returns c = record { buffer = search (put-digits); place = search (place-digits); short = numeral-short 20 c.args.n (omega arith) (omega arith) }
