@@ -1,5 +1,5 @@
 -- What the branches of a pattern come to, by the definitions on its tree.
-use Rattle.std.specs.Prelude.{ℕ, ◌+◌, ◌-◌, ◌≤◌, ◌≡◌, Bool, not, ◌&&◌, ◌||◌, cond, List, [], ◌∷◌, length, drop, Some, None}
+use Rattle.std.specs.Prelude.{ℕ, ◌+◌, ◌-◌, ◌≤◌, ◌≡◌, Bool, not, ◌&&◌, ◌||◌, cond, List, [], ◌∷◌, length, Some, None}
 use Rattle.std.specs.Prelude as prelude
 use Rattle.std.proofs.Math.Option.{Option}
 use Rattle.std.specs.Int.Bits.{bit_or}
@@ -9,6 +9,7 @@ use Rattle.pattern.specs.declared.summary.Summary.{Summary}
 use Rattle.brackets.specs.Sets.{set_of}
 use Rattle.brackets.specs.Brackets.{Parsed, parsed, fault}
 use Rattle.pattern.specs.Reader.{read_branches}
+use Rattle.pattern.specs.Cycle.{left}
 use Rattle.pattern.specs.Branches.{shape_in, keys_in, enter_in}
 use Rattle.pattern.specs.Form.{Expr, Branch, Pattern, atoms_in, atom_count}
 
@@ -61,5 +62,5 @@ PatternDone c a keys enter r keys' enter' (parsed t rest) =
     × (enter' ≡ through enter_in c.atoms t enter)
 PatternDone c a keys enter r keys' enter' fault = r ≡ None
 
-abbrev pub ReadsBranches : List ℕ → Cursor → Summary → List ℕ → List ℕ → PatternRead → List ℕ → List ℕ → Type 0
-ReadsBranches s c a keys enter r keys' enter' = (f : ℕ) → length s - c.at ≤ f → PatternDone c a keys enter r keys' enter' (read_branches f (drop c.at s))
+abbrev pub ReadsBranches : Cursor → Summary → List ℕ → List ℕ → PatternRead → List ℕ → List ℕ → Type 0
+ReadsBranches c a keys enter r keys' enter' = (f : ℕ) → length c.bytes.now - c.at ≤ f → PatternDone c a keys enter r keys' enter' (read_branches f (left c))
