@@ -19,6 +19,7 @@ use Rattle.pattern.specs.declared.automaton.Accepting.{Accepting}
 use Rattle.pattern.specs.declared.cursor.Cursor.{Cursor}
 use Rattle.std.specs.Prelude.{Some, None}
 use Rattle.std.proofs.lemmas.Option.{some_pair_parts}
+use Rattle.pattern.specs.declared.shape.Moves.{Moves}
 use Rattle.pattern.specs.declared.summary.Summary.{Summary}
 use Rattle.brackets.specs.Brackets.{Parsed, parsed, fault}
 use Rattle.pattern.specs.Reader.{Read, accepted, read_branches, counted}
@@ -207,15 +208,19 @@ module _ (t : Pattern) where
 abbrev pub made : List ℕ → List ℕ → Accepting → Result Tables Refusal
 made keys enter a = Ok (record { keys = keys; enter = enter; accepting = a })
 
+-- the tables before anything was read
+abbrev no_moves : Moves
+no_moves = record { keys = replicate 256 0; enter = replicate 32 0 }
+
 -- a whole pattern that has no byte 0 or 10, read from its start
-module _ (s k e : List ℕ) (x : PatternRead) (case : Case) (c : Cursor) (start : Starts s case c) (h : ReadsBranches c blank (replicate 256 0) (replicate 32 0) x k e) where
+module _ (s : List ℕ) (moves : Moves) (x : PatternRead) (case : Case) (c : Cursor) (start : Starts s case c) (h : ReadsBranches c blank no_moves x moves) where
   -- what it is
   abbrev result : Read
   result = counted (read_branches (length s) s)
 
   -- what the reader answers for it
   abbrev Done : Parsed Pattern → Type 0
-  Done (parsed t rest) = (x ≡ Some (0 + atom_count t, summary_of 0 t blank)) × (k ≡ through (keys_in (set_of case)) 0 t (replicate 256 0)) × (e ≡ through enter_in 0 t (replicate 32 0))
+  Done (parsed t rest) = (x ≡ Some (0 + atom_count t, summary_of 0 t blank)) × (moves.keys ≡ through (keys_in (set_of case)) 0 t (replicate 256 0)) × (moves.enter ≡ through enter_in 0 t (replicate 32 0))
   Done fault = x ≡ None
 
   read : Done (read_branches (length s) s)
@@ -224,7 +229,7 @@ module _ (s k e : List ℕ) (x : PatternRead) (case : Case) (c : Cursor) (start 
       whole : left c ≡ s
       whole = rw (start.start, start.bytes) refl
 
-      go : (p : Parsed Pattern) → PatternDone c blank (replicate 256 0) (replicate 32 0) x k e p → Done p
+      go : (p : Parsed Pattern) → PatternDone c blank no_moves x moves p → Done p
       go (parsed t rest) (i, j, l) = (rw start.none at i, rw (start.none, start.held) at j, rw start.none at l)
       go fault i = i
 
@@ -235,8 +240,8 @@ module _ (s k e : List ℕ) (x : PatternRead) (case : Case) (c : Cursor) (start 
       pub reading : result ≡ accepted tree
       pub count : n ≡ atom_count tree
       pub sum : a ≡ summary_of 0 tree blank
-      pub keyed : k ≡ through (keys_in (set_of case)) 0 tree (replicate 256 0)
-      pub entered : e ≡ through enter_in 0 tree (replicate 32 0)
+      pub keyed : moves.keys ≡ through (keys_in (set_of case)) 0 tree (replicate 256 0)
+      pub entered : moves.enter ≡ through enter_in 0 tree (replicate 32 0)
 
     module _ (few : n ≤ 29) where
       fine : Fine
@@ -248,13 +253,13 @@ module _ (s k e : List ℕ) (x : PatternRead) (case : Case) (c : Cursor) (start 
               record { tree = t; reading = rw (q, le-leb (atom_count t) 29 (omega arith)) refl; count = count ∙ zero-add (atom_count t); sum = sum; keyed = j; entered = l }
           go fault q i = clash (cc)
 
-      pub fine-tables : {p q : ℕ} {v : Accepting} → p ≡ 0 → q ≡ 1 → v ≡ accepting_of a n → made k (set (set e p a.first) q a.free) v ≡ tables_of case result
+      pub fine-tables : {p q : ℕ} {v : Accepting} → p ≡ 0 → q ≡ 1 → v ≡ accepting_of a n → made moves.keys (set (set moves.enter p a.first) q a.free) v ≡ tables_of case result
       fine-tables {p} {q} {v} i j g = rw fine.reading (together (fine.keyed ∙ keys-all (query case fine.tree)) entering words)
         where
-          table : {b : Summary} {l : List ℕ} → a ≡ b → e ≡ l → set (set e 0 a.first) 1 a.free ≡ set (set l 0 b.first) 1 b.free
+          table : {b : Summary} {l : List ℕ} → a ≡ b → moves.enter ≡ l → set (set moves.enter 0 a.first) 1 a.free ≡ set (set l 0 b.first) 1 b.free
           table g h = rw (g, h) refl
 
-          entering : set (set e p a.first) q a.free ≡ enter_table fine.tree
+          entering : set (set moves.enter p a.first) q a.free ≡ enter_table fine.tree
           entering = rw (i, j) (table fine.sum fine.entered ∙ enter-all fine.tree)
 
           words : v ≡ accepts fine.tree

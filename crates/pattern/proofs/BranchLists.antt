@@ -14,6 +14,7 @@ use Rattle.brackets.specs.Sets.{set_of}
 use Rattle.std.specs.Prelude.{Some, None}
 use Rattle.pattern.specs.declared.branch.BranchShape.{BranchShape}
 use Rattle.pattern.specs.declared.cursor.Cursor.{Cursor}
+use Rattle.pattern.specs.declared.shape.Moves.{Moves}
 use Rattle.pattern.specs.declared.summary.Summary.{Summary}
 use Rattle.brackets.specs.Brackets.{Parsed, parsed, fault, at, next, done}
 use Rattle.pattern.specs.Reader.{read_branch, read_branches}
@@ -51,26 +52,26 @@ same_answer : {n k : ℕ} {a b : Summary} → n ≡ k → a ≡ b → ◌≡◌ 
 same_answer e f = rw (e, f)
 
 -- an answer of the branch's reader says what was read, and where reading goes on
-pub record BranchView (c : Cursor) (keys enter : List ℕ) (r : Cursor × BranchShape) (keys' enter' : List ℕ) : Type 0 where
+pub record BranchView (c : Cursor) (moves : Moves) (r : Cursor × BranchShape) (moves' : Moves) : Type 0 where
   pub tree : Branch
   pub rest : List ℕ
   pub reading : read_branch (left c) ≡ parsed tree rest
-  pub made : BranchMade c tree rest keys enter r keys' enter'
+  pub made : BranchMade c tree rest moves r moves'
   pub here : rest ≡ left r.0
   pub on : c.at < r.0.at
 
-module _ (c : Cursor) (keys enter keys' enter' : List ℕ) where
-  pub branch-unread : ReadsBranch c keys enter None keys' enter' → read_branch (left c) ≡ fault
+module _ (c : Cursor) (moves moves' : Moves) where
+  pub branch-unread : ReadsBranch c moves None moves' → read_branch (left c) ≡ fault
   branch-unread h = go (read_branch (left c)) refl h
     where
-      go : (y : Parsed Branch) → read_branch (left c) ≡ y → BranchDone c keys enter None keys' enter' y → read_branch (left c) ≡ fault
+      go : (y : Parsed Branch) → read_branch (left c) ≡ y → BranchDone c moves None moves' y → read_branch (left c) ≡ fault
       go (parsed t rest) q i = absurd i
       go fault q i = q
 
-  pub branch-view : (r : Cursor × BranchShape) → ReadsBranch c keys enter (Some r) keys' enter' → BranchView c keys enter r keys' enter'
+  pub branch-view : (r : Cursor × BranchShape) → ReadsBranch c moves (Some r) moves' → BranchView c moves r moves'
   branch-view r h = go (read_branch (left c)) refl h
     where
-      go : (y : Parsed Branch) → read_branch (left c) ≡ y → BranchDone c keys enter (Some r) keys' enter' y → BranchView c keys enter r keys' enter'
+      go : (y : Parsed Branch) → read_branch (left c) ≡ y → BranchDone c moves (Some r) moves' y → BranchView c moves r moves'
       go (parsed t rest) q made =
           let (split, formed-t) = branch-from (left c) rest t (line-drop c.at c.bytes.now c.clean) q in
           let one : 1 ≤ length (write_branch t) = (branch-long t formed-t).1 in
@@ -78,13 +79,13 @@ module _ (c : Cursor) (keys enter keys' enter' : List ℕ) where
       go fault q i = absurd i
 
   module _ (a : Summary) where
-    pub branches-fault : ReadsBranch c keys enter None keys' enter' → ReadsBranches c a keys enter None keys' enter'
+    pub branches-fault : ReadsBranch c moves None moves' → ReadsBranches c a moves None moves'
     unfolding read_branches
     branches-fault h zero g = refl
     branches-fault h (suc f) g = rw (branch-unread h) refl
 
-    module _ (d : Cursor) (shape : BranchShape) (h : ReadsBranch c keys enter (Some (d, shape)) keys' enter') where
-      v : BranchView c keys enter (d, shape) keys' enter'
+    module _ (d : Cursor) (shape : BranchShape) (h : ReadsBranch c moves (Some (d, shape)) moves') where
+      v : BranchView c moves (d, shape) moves'
       v = branch-view (d, shape) h
 
       many : d.atoms ≡ c.atoms + atoms_in v.tree.pieces
@@ -102,12 +103,12 @@ module _ (c : Cursor) (keys enter keys' enter' : List ℕ) where
         whole : sum ≡ with_branch c.atoms v.tree a
         whole = es ∙ ap (λ (z : BranchShape). branch_summary a z.start z.pieces z.end) v.made.shape
 
-        pub branches-end : b ≡ 0 → ReadsBranches c a keys enter (Some (d.atoms, sum)) keys' enter'
+        pub branches-end : b ≡ 0 → ReadsBranches c a moves (Some (d.atoms, sum)) moves'
         unfolding summary_of through atom_count
         branches-end n zero g = absurd (some_left g)
         branches-end n (suc f) g = rw (step f, eq-eqb _ _ n) (same_answer (many ∙ rw add-zero) whole, v.made.keyed, v.made.entered)
 
-        pub branches-other : (b ≡ 0 → ⊥) → (b ≡ 124 → ⊥) → ReadsBranches c a keys enter None keys' enter'
+        pub branches-other : (b ≡ 0 → ⊥) → (b ≡ 124 → ⊥) → ReadsBranches c a moves None moves'
         branches-other m n zero g = absurd (some_left g)
         branches-other m n (suc f) g = rw (step f, ne_eqb _ _ m, ne_eqb _ _ n) refl
 
@@ -119,10 +120,10 @@ module _ (c : Cursor) (keys enter keys' enter' : List ℕ) where
           pub branches-falls : (t : ℕ) → length c.bytes.now - c.at ≡ t → length m.bytes.now - m.at < t
           branches-falls t h = omega (arith, fewer)
 
-          pub branches-more : (y : PatternRead) (keys'' enter'' : List ℕ) → ReadsBranches m sum keys' enter' y keys'' enter'' → ReadsBranches c a keys enter y keys'' enter''
+          pub branches-more : (y : PatternRead) (moves'' : Moves) → ReadsBranches m sum moves' y moves'' → ReadsBranches c a moves y moves''
           unfolding summary_of through atom_count
-          branches-more y keys'' enter'' g zero k = absurd (some_left k)
-          branches-more y keys'' enter'' g (suc f) k =
+          branches-more y moves'' g zero k = absurd (some_left k)
+          branches-more y moves'' g (suc f) k =
               rw (step f, ne_eqb _ _ (nonzero b 124 (omega arith) n), eq-eqb _ _ n, ap (drop 1) v.here ∙ sym (past-left em))
               (go (read_branches f (left m)) (g f (omega (arith, fewer))))
             where
@@ -132,10 +133,10 @@ module _ (c : Cursor) (keys enter keys' enter' : List ℕ) where
               later : {A B : Type 0} {a b : A} (f : ℕ → A → B) → a ≡ b → f m.atoms a ≡ f (c.atoms + atoms_in v.tree.pieces) b
               later {a = a} f e = ap (λ (n : ℕ). f n a) atoms ∙ ap (f (c.atoms + atoms_in v.tree.pieces)) e
 
-              go : (z : Parsed Pattern) → PatternDone m sum keys' enter' y keys'' enter'' z → PatternDone c a keys enter y keys'' enter'' (next z (λ ts. done (v.tree ∷ ts)))
+              go : (z : Parsed Pattern) → PatternDone m sum moves' y moves'' z → PatternDone c a moves y moves'' (next z (λ ts. done (v.tree ∷ ts)))
               go (parsed ts rest) (i, j, k) = (
                 i ∙ same_answer (ap (λ (n : ℕ). n + atom_count ts) atoms ∙ add_assoc c.atoms (atoms_in v.tree.pieces) (atom_count ts)) (later (λ n a. summary_of n ts a) whole),
-                j ∙ ap (λ (f : Case). through (keys_in (set_of f)) m.atoms ts keys') (em.held ∙ v.made.moved.held) ∙ later (λ n l. through (keys_in (set_of c.case)) n ts l) v.made.keyed,
+                j ∙ ap (λ (f : Case). through (keys_in (set_of f)) m.atoms ts moves'.keys) (em.held ∙ v.made.moved.held) ∙ later (λ n l. through (keys_in (set_of c.case)) n ts l) v.made.keyed,
                 k ∙ later (λ n l. through enter_in n ts l) v.made.entered,
               )
               go fault i = i

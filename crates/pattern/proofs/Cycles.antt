@@ -12,6 +12,7 @@ use borrow.Author.Tests.{ne_eqb, eqb-true}
 use Rattle.stateset.proofs.Sets.{word_lt}
 use Rattle.brackets.specs.Sets.{set_of}
 use Rattle.pattern.specs.declared.cursor.Cursor.{Cursor}
+use Rattle.pattern.specs.declared.shape.Moves.{Moves}
 use Rattle.pattern.specs.declared.shape.Shape.{Shape}
 use Rattle.brackets.specs.Form.{Atom, write_atom}
 use Rattle.brackets.specs.Brackets.{Parsed, parsed, fault, next, done, at, read_atom}
@@ -73,16 +74,16 @@ bytes_of f Mode.group l rest e h q =
     group-bytes x e l rest same (expr-from f Mode.group l rest e h q).0
 
 -- an answer of a reader says what was read, and where reading goes on: behind it
-pub record View (m : Mode) (c : Cursor) (keys enter : List ℕ) (r : Cursor × Shape) (keys' enter' : List ℕ) (f : ℕ) : Type 0 where
+pub record View (m : Mode) (c : Cursor) (moves : Moves) (r : Cursor × Shape) (moves' : Moves) (f : ℕ) : Type 0 where
   pub expr : Expr
   pub rest : List ℕ
   pub reading : read_expr f m (left c) ≡ parsed expr rest
-  pub made : Made c expr rest keys enter r keys' enter'
+  pub made : Made c expr rest moves r moves'
   pub here : rest ≡ left r.0
   pub on : c.at < r.0.at
 
 -- the byte at a cursor
-pub peeked : (c : Cursor) → at 0 (left c) ≡ byte_at c
+peeked : (c : Cursor) → at 0 (left c) ≡ byte_at c
 peeked c = get_or-drop c.at c.bytes.now 0 0 ∙ ap (λ (j : ℕ). get_or c.bytes.now j 0) (add-zero c.at)
 
 -- and that at the cursor behind what was read
@@ -106,40 +107,46 @@ behind c d w rest f m =
 pub past-left : {c d : Cursor} → Past c d → left d ≡ drop 1 (left c)
 past-left {c} {d} m = rw (m.same, m.place) (sym (drop-drop 1 c.at c.bytes.now))
 
--- one cursor behind another
-pub then-past : {c d n : Cursor} {i k : ℕ} → Moved c i k d → Past d n → Moved c (d.at + 1) k n
+-- one cursor behind another: past a byte, or at the same place
+then-past : {c d n : Cursor} {i k : ℕ} → Moved c i k d → Past d n → Moved c (d.at + 1) k n
 then-past a b = record { same = b.same ∙ a.same; place = b.place; many = b.many ∙ a.many; held = b.held ∙ a.held }
 
 pub then-still : {c d n : Cursor} {i k : ℕ} → Moved c i k d → Moved d d.at d.atoms n → Moved c i k n
 then-still a b = record { same = b.same ∙ a.same; place = b.place ∙ a.place; many = b.many ∙ a.many; held = b.held ∙ a.held }
 
--- and behind a byte more
+-- and one byte further
 pub then-skip : {c d n : Cursor} {k : ℕ} (rest : List ℕ) → rest ≡ left d → Moved c (length c.bytes.now - length rest) k d → Past d n → Moved c (length c.bytes.now - length (drop 1 rest)) k n
 then-skip {c} {d} {n} rest h a b =
     let at-end : d.at + 1 ≡ length c.bytes.now - length (drop 1 rest) = rw (h, length-drop, length-drop) (omega (arith, long a, long b, b.place, n.inside)) in
     record { same = b.same ∙ a.same; place = b.place ∙ at-end; many = b.many ∙ a.many; held = b.held ∙ a.held }
 
-module _ (m : Mode) (c : Cursor) (keys enter keys' enter' : List ℕ) where
-  pub view : (r : Cursor × Shape) → Reads m c keys enter (Some r) keys' enter' → (f : ℕ) → room m (length c.bytes.now - c.at) ≤ f → View m c keys enter r keys' enter' f
+-- a place that counts from the end is the same from the cursor behind a byte
+pub from-behind : {c n d : Cursor} (k j : ℕ) → Past c n → Moved n (length n.bytes.now - k) (n.atoms + j) d → Moved c (length c.bytes.now - k) (c.atoms + j) d
+from-behind k j en m =
+    let same = long en in
+    record { same = m.same ∙ en.same; place = m.place ∙ rw same refl; many = m.many ∙ rw en.many refl; held = m.held ∙ en.held }
+
+module _ (m : Mode) (c : Cursor) (moves moves' : Moves) where
+  pub view : (r : Cursor × Shape) → Reads m c moves (Some r) moves' → (f : ℕ) → room m (length c.bytes.now - c.at) ≤ f → View m c moves r moves' f
   view r h f g = go (read_expr f m (left c)) refl (h f g)
     where
-      go : (y : Parsed Expr) → read_expr f m (left c) ≡ y → Done c keys enter (Some r) keys' enter' y → View m c keys enter r keys' enter' f
+      go : (y : Parsed Expr) → read_expr f m (left c) ≡ y → Done c moves (Some r) moves' y → View m c moves r moves' f
       go (parsed t rest) q made =
           let (w, split, enough) = bytes_of f m (left c) rest t (line-drop c.at c.bytes.now c.clean) q in
           let some : 1 ≤ atoms t = atoms-some t in
           record { expr = t; rest = rest; reading = q; made = made; here = behind c r.0 w rest split made.moved; on = omega (arith, made.moved.place, reached c w rest split) }
       go fault q i = absurd i
 
-  pub unread : Reads m c keys enter None keys' enter' → (f : ℕ) → room m (length c.bytes.now - c.at) ≤ f → read_expr f m (left c) ≡ fault
+  pub unread : Reads m c moves None moves' → (f : ℕ) → room m (length c.bytes.now - c.at) ≤ f → read_expr f m (left c) ≡ fault
   unread h f g = go (read_expr f m (left c)) refl (h f g)
     where
-      go : (y : Parsed Expr) → read_expr f m (left c) ≡ y → Done c keys enter None keys' enter' y → read_expr f m (left c) ≡ fault
+      go : (y : Parsed Expr) → read_expr f m (left c) ≡ y → Done c moves None moves' y → read_expr f m (left c) ≡ fault
       go (parsed t rest) q i = absurd i
       go fault q i = q
 
   -- What the calls in the cycle ask of a part that was read: each reads on with less room.
-  module _ (d : Cursor) (p : Shape) (h : Reads m c keys enter (Some (d, p)) keys' enter') where
-    seen : View m c keys enter (d, p) keys' enter' (room m (length c.bytes.now - c.at))
+  module _ (d : Cursor) (p : Shape) (h : Reads m c moves (Some (d, p)) moves') where
+    seen : View m c moves (d, p) moves' (room m (length c.bytes.now - c.at))
     seen = view (d, p) h (room m (length c.bytes.now - c.at)) (le_refl (room m (length c.bytes.now - c.at)))
 
     pub read_small : p.last < 2 ^ 32
@@ -161,15 +168,15 @@ room-some Mode.piece k = omega arith
 room-some Mode.group k = omega arith
 
 -- so it is enough to know what they answer where they may call each other at least one deep
-abbrev Deeper : Mode → Cursor → List ℕ → List ℕ → Part → List ℕ → List ℕ → Type 0
-Deeper m c keys enter x keys' enter' = (k : ℕ) → room m (length c.bytes.now - c.at) ≤ suc k → ReadsIn (suc k) m c keys enter x keys' enter'
+abbrev Deeper : Mode → Cursor → Moves → Part → Moves → Type 0
+Deeper m c moves x moves' = (k : ℕ) → room m (length c.bytes.now - c.at) ≤ suc k → ReadsIn (suc k) m c moves x moves'
 
-deeper : (m : Mode) (c : Cursor) (keys enter : List ℕ) (x : Part) (keys' enter' : List ℕ) → Deeper m c keys enter x keys' enter' → Reads m c keys enter x keys' enter'
-deeper m c keys enter x keys' enter' h zero g = absurd (never (room-some m (length c.bytes.now - c.at)) g)
+deeper : (m : Mode) (c : Cursor) (moves : Moves) (x : Part) (moves' : Moves) → Deeper m c moves x moves' → Reads m c moves x moves'
+deeper m c moves x moves' h zero g = absurd (never (room-some m (length c.bytes.now - c.at)) g)
   where
     never : {n : ℕ} → 1 ≤ n → n ≤ 0 → ⊥
     never a b = omega arith
-deeper m c keys enter x keys' enter' h (suc k) g = h k g
+deeper m c moves x moves' h (suc k) g = h k g
 
 -- the shapes of two expressions together
 shape-alt : (b : ℕ) (p q : Expr) → alt_shape (shape_of b p) (shape_of (b + atoms p) q) ≡ shape_of b (alt p q)
@@ -181,50 +188,50 @@ unfolding nothing
 shape-seq b p q = rw (first-seq b p q, last-seq b p q)
 
 -- two expressions were read, the second from the cursor n on: the answer for both
-module _ {c n d2 : Cursor} {e1 e2 : Expr} {rest : List ℕ} {i : ℕ} (to : Moved c i (c.atoms + atoms e1) n) {d : Cursor} {p1 p2 : Shape} {left keys keys' keys'' enter enter' enter'' : List ℕ} (one : Made c e1 left keys enter (d, p1) keys' enter') (two : Made n e2 rest keys' enter' (d2, p2) keys'' enter'') where
+module _ {c n d2 : Cursor} {e1 e2 : Expr} {rest : List ℕ} {i : ℕ} (to : Moved c i (c.atoms + atoms e1) n) {d : Cursor} {p1 p2 : Shape} {mid : List ℕ} {moves moves' moves'' : Moves} (one : Made c e1 mid moves (d, p1) moves') (two : Made n e2 rest moves' (d2, p2) moves'') where
   place-two : Moved c (length c.bytes.now - length rest) (c.atoms + (atoms e1 + atoms e2)) d2
   place-two = record { same = two.moved.same ∙ to.same; place = two.moved.place ∙ rw (long to) refl; many = two.moved.many ∙ rw (to.many, add_assoc); held = two.moved.held ∙ to.held }
 
-  done-alt : (q : Shape) → q ≡ alt_shape p1 p2 → Made c (alt e1 e2) rest keys enter (d2, q) keys'' enter''
+  done-alt : (q : Shape) → q ≡ alt_shape p1 p2 → Made c (alt e1 e2) rest moves (d2, q) moves''
   unfolding atoms
   done-alt q e =
       record {
         moved = place-two;
         shape = e ∙ rw (one.shape, two.shape, to.many) (shape-alt c.atoms e1 e2);
-        keyed = two.keyed ∙ rw (to.many, to.held, one.keyed) (keys-alt c.atoms e1 e2 (set_of c.case) keys);
-        entered = two.entered ∙ rw (to.many, one.entered) (enter-alt c.atoms e1 e2 enter);
+        keyed = two.keyed ∙ rw (to.many, to.held, one.keyed) (keys-alt c.atoms e1 e2 (set_of c.case) moves.keys);
+        entered = two.entered ∙ rw (to.many, one.entered) (enter-alt c.atoms e1 e2 moves.enter);
       }
 
-  done-seq : (q : Shape) (after : List ℕ) → q ≡ seq_shape p1 p2 → after ≡ linked p1.last p2.first enter'' → Made c (seq e1 e2) rest keys enter (d2, q) keys'' after
+  done-seq : (q : Shape) (after : Moves) → q ≡ seq_shape p1 p2 → after.keys ≡ moves''.keys → after.enter ≡ linked p1.last p2.first moves''.enter → Made c (seq e1 e2) rest moves (d2, q) after
   unfolding atoms
-  done-seq q after e f =
+  done-seq q after e k f =
       record {
         moved = place-two;
         shape = e ∙ rw (one.shape, two.shape, to.many) (shape-seq c.atoms e1 e2);
-        keyed = two.keyed ∙ rw (to.many, to.held, one.keyed) (keys-seq c.atoms e1 e2 (set_of c.case) keys);
-        entered = f ∙ rw (one.shape, two.shape, two.entered, to.many, one.entered) (enter-seq c.atoms e1 e2 enter);
+        keyed = k ∙ two.keyed ∙ rw (to.many, to.held, one.keyed) (keys-seq c.atoms e1 e2 (set_of c.case) moves.keys);
+        entered = f ∙ rw (one.shape, two.shape, two.entered, to.many, one.entered) (enter-seq c.atoms e1 e2 moves.enter);
       }
 
-module _ (c : Cursor) (keys enter : List ℕ) where
+module _ (c : Cursor) (moves : Moves) where
   -- an alternative list
-  module _ (keys' enter' : List ℕ) where
-    pub alts-fault : Reads Mode.branch c keys enter None keys' enter' → Reads Mode.alts c keys enter None keys' enter'
+  module _ (moves' : Moves) where
+    pub alts-fault : Reads Mode.branch c moves None moves' → Reads Mode.alts c moves None moves'
     unfolding read_expr
-    alts-fault h = deeper Mode.alts c keys enter None keys' enter' (λ k g. rw (unread Mode.branch c keys enter keys' enter' h k (omega arith)) (record {}))
+    alts-fault h = deeper Mode.alts c moves None moves' (λ k g. rw (unread Mode.branch c moves moves' h k (omega arith)) (record {}))
 
-    module _ (d : Cursor) (p : Shape) (h : Reads Mode.branch c keys enter (Some (d, p)) keys' enter') (b : ℕ) (eb : b ≡ byte_at d) where
+    module _ (d : Cursor) (p : Shape) (h : Reads Mode.branch c moves (Some (d, p)) moves') (b : ℕ) (eb : b ≡ byte_at d) where
       -- what the answer says of the first branch
       abbrev FirstBranch : ℕ → Type 0
-      FirstBranch k = View Mode.branch c keys enter (d, p) keys' enter' k
+      FirstBranch k = View Mode.branch c moves (d, p) moves' k
 
-      pub alts-one : (b ≡ 124 → ⊥) → Reads Mode.alts c keys enter (Some (d, p)) keys' enter'
+      pub alts-one : (b ≡ 124 → ⊥) → Reads Mode.alts c moves (Some (d, p)) moves'
       unfolding read_expr
-      alts-one n = deeper Mode.alts c keys enter (Some (d, p)) keys' enter' (λ k g. go k (view Mode.branch c keys enter keys' enter' (d, p) h k (omega arith)))
+      alts-one n = deeper Mode.alts c moves (Some (d, p)) moves' (λ k g. go k (view Mode.branch c moves moves' (d, p) h k (omega arith)))
         where
-          go : (k : ℕ) (v : FirstBranch k) → ReadsIn (suc k) Mode.alts c keys enter (Some (d, p)) keys' enter'
+          go : (k : ℕ) (v : FirstBranch k) → ReadsIn (suc k) Mode.alts c moves (Some (d, p)) moves'
           go k v = rw (v.reading, byte-behind d v.here eb, ne_eqb _ _ n) v.made
 
-      module _ (n : Cursor) (keys'' enter'' : List ℕ) (en : Past d n) (bar : b ≡ 124) where
+      module _ (n : Cursor) (moves'' : Moves) (en : Past d n) (bar : b ≡ 124) where
         -- less room is enough behind the bar
         less : {k : ℕ} → room Mode.alts (length c.bytes.now - c.at) ≤ suc k → FirstBranch k → room Mode.alts (length n.bytes.now - n.at) ≤ k
         less g v = omega (arith, v.on, n.inside, en.place, long en, long v.made.moved)
@@ -233,82 +240,82 @@ module _ (c : Cursor) (keys enter : List ℕ) where
         over : {k : ℕ} (v : FirstBranch k) → drop 1 v.rest ≡ left n
         over v = ap (drop 1) v.here ∙ sym (past-left en)
 
-        pub alts-more-fault : Reads Mode.alts n keys' enter' None keys'' enter'' → Reads Mode.alts c keys enter None keys'' enter''
+        pub alts-more-fault : Reads Mode.alts n moves' None moves'' → Reads Mode.alts c moves None moves''
         unfolding read_expr
-        alts-more-fault hn = deeper Mode.alts c keys enter None keys'' enter'' (λ k g. go k g (view Mode.branch c keys enter keys' enter' (d, p) h k (omega arith)))
+        alts-more-fault hn = deeper Mode.alts c moves None moves'' (λ k g. go k g (view Mode.branch c moves moves' (d, p) h k (omega arith)))
           where
-            go : (k : ℕ) → room Mode.alts (length c.bytes.now - c.at) ≤ suc k → (v : FirstBranch k) → ReadsIn (suc k) Mode.alts c keys enter None keys'' enter''
-            go k g v = rw (v.reading, byte-behind d v.here eb, bar, over v, unread Mode.alts n keys' enter' keys'' enter'' hn k (less g v)) (record {})
+            go : (k : ℕ) → room Mode.alts (length c.bytes.now - c.at) ≤ suc k → (v : FirstBranch k) → ReadsIn (suc k) Mode.alts c moves None moves''
+            go k g v = rw (v.reading, byte-behind d v.here eb, bar, over v, unread Mode.alts n moves' moves'' hn k (less g v)) (record {})
 
-        pub alts-more : (d2 : Cursor) (p2 q : Shape) → Reads Mode.alts n keys' enter' (Some (d2, p2)) keys'' enter'' → q ≡ alt_shape p p2 → Reads Mode.alts c keys enter (Some (d2, q)) keys'' enter''
+        pub alts-more : (d2 : Cursor) (p2 q : Shape) → Reads Mode.alts n moves' (Some (d2, p2)) moves'' → q ≡ alt_shape p p2 → Reads Mode.alts c moves (Some (d2, q)) moves''
         unfolding read_expr
-        alts-more d2 p2 q hn e = deeper Mode.alts c keys enter (Some (d2, q)) keys'' enter'' (λ k g. go k g (view Mode.branch c keys enter keys' enter' (d, p) h k (omega arith)))
+        alts-more d2 p2 q hn e = deeper Mode.alts c moves (Some (d2, q)) moves'' (λ k g. go k g (view Mode.branch c moves moves' (d, p) h k (omega arith)))
           where
-            both : (k : ℕ) (v : FirstBranch k) → View Mode.alts n keys' enter' (d2, p2) keys'' enter'' k → ReadsIn (suc k) Mode.alts c keys enter (Some (d2, q)) keys'' enter''
+            both : (k : ℕ) (v : FirstBranch k) → View Mode.alts n moves' (d2, p2) moves'' k → ReadsIn (suc k) Mode.alts c moves (Some (d2, q)) moves''
             both k v w = rw (v.reading, byte-behind d v.here eb, bar, over v, w.reading) (done-alt (then-past v.made.moved en) v.made w.made q e)
 
-            go : (k : ℕ) → room Mode.alts (length c.bytes.now - c.at) ≤ suc k → (v : FirstBranch k) → ReadsIn (suc k) Mode.alts c keys enter (Some (d2, q)) keys'' enter''
-            go k g v = both k v (view Mode.alts n keys' enter' keys'' enter'' (d2, p2) hn k (less g v))
+            go : (k : ℕ) → room Mode.alts (length c.bytes.now - c.at) ≤ suc k → (v : FirstBranch k) → ReadsIn (suc k) Mode.alts c moves (Some (d2, q)) moves''
+            go k g v = both k v (view Mode.alts n moves' moves'' (d2, p2) hn k (less g v))
 
   -- a branch
-  module _ (keys' enter' : List ℕ) where
-    pub branch-fault : Reads Mode.piece c keys enter None keys' enter' → Reads Mode.branch c keys enter None keys' enter'
+  module _ (moves' : Moves) where
+    pub branch-fault : Reads Mode.piece c moves None moves' → Reads Mode.branch c moves None moves'
     unfolding read_expr
-    branch-fault h = deeper Mode.branch c keys enter None keys' enter' (λ k g. rw (unread Mode.piece c keys enter keys' enter' h k (omega arith)) (record {}))
+    branch-fault h = deeper Mode.branch c moves None moves' (λ k g. rw (unread Mode.piece c moves moves' h k (omega arith)) (record {}))
 
-    module _ (d : Cursor) (p : Shape) (h : Reads Mode.piece c keys enter (Some (d, p)) keys' enter') (b : ℕ) (eb : b ≡ byte_at d) (t : Bool) (et : t ≡ ends_pieces b) where
+    module _ (d : Cursor) (p : Shape) (h : Reads Mode.piece c moves (Some (d, p)) moves') (b : ℕ) (eb : b ≡ byte_at d) (t : Bool) (et : t ≡ ends_pieces b) where
       -- what the answer says of the first piece
       abbrev FirstPiece : ℕ → Type 0
-      FirstPiece k = View Mode.piece c keys enter (d, p) keys' enter' k
+      FirstPiece k = View Mode.piece c moves (d, p) moves' k
 
-      pub branch-last : t ≡ true → Reads Mode.branch c keys enter (Some (d, p)) keys' enter'
+      pub branch-last : t ≡ true → Reads Mode.branch c moves (Some (d, p)) moves'
       unfolding read_expr
-      branch-last n = deeper Mode.branch c keys enter (Some (d, p)) keys' enter' (λ k g. go k (view Mode.piece c keys enter keys' enter' (d, p) h k (omega arith)))
+      branch-last n = deeper Mode.branch c moves (Some (d, p)) moves' (λ k g. go k (view Mode.piece c moves moves' (d, p) h k (omega arith)))
         where
-          go : (k : ℕ) (v : FirstPiece k) → ReadsIn (suc k) Mode.branch c keys enter (Some (d, p)) keys' enter'
+          go : (k : ℕ) (v : FirstPiece k) → ReadsIn (suc k) Mode.branch c moves (Some (d, p)) moves'
           go k v = rw (v.reading, byte-behind d v.here eb, ← et, n) v.made
 
-      module _ (keys'' enter'' : List ℕ) (more : t ≡ false) where
+      module _ (moves'' : Moves) (more : t ≡ false) where
         -- less room is enough for the other pieces
         fewer : {k : ℕ} → room Mode.branch (length c.bytes.now - c.at) ≤ suc k → FirstPiece k → room Mode.branch (length d.bytes.now - d.at) ≤ k
         fewer g v = omega (arith, v.on, d.inside, long v.made.moved)
 
-        pub branch-more-fault : Reads Mode.branch d keys' enter' None keys'' enter'' → Reads Mode.branch c keys enter None keys'' enter''
+        pub branch-more-fault : Reads Mode.branch d moves' None moves'' → Reads Mode.branch c moves None moves''
         unfolding read_expr
-        branch-more-fault h2 = deeper Mode.branch c keys enter None keys'' enter'' (λ k g. go k g (view Mode.piece c keys enter keys' enter' (d, p) h k (omega arith)))
+        branch-more-fault h2 = deeper Mode.branch c moves None moves'' (λ k g. go k g (view Mode.piece c moves moves' (d, p) h k (omega arith)))
           where
-            go : (k : ℕ) → room Mode.branch (length c.bytes.now - c.at) ≤ suc k → (v : FirstPiece k) → ReadsIn (suc k) Mode.branch c keys enter None keys'' enter''
-            go k g v = rw (v.reading, byte-behind d v.here eb, ← et, more, v.here, unread Mode.branch d keys' enter' keys'' enter'' h2 k (fewer g v)) (record {})
+            go : (k : ℕ) → room Mode.branch (length c.bytes.now - c.at) ≤ suc k → (v : FirstPiece k) → ReadsIn (suc k) Mode.branch c moves None moves''
+            go k g v = rw (v.reading, byte-behind d v.here eb, ← et, more, v.here, unread Mode.branch d moves' moves'' h2 k (fewer g v)) (record {})
 
-        pub branch-more : (d2 : Cursor) (p2 q : Shape) (after : List ℕ) → Reads Mode.branch d keys' enter' (Some (d2, p2)) keys'' enter'' → after ≡ linked p.last p2.first enter'' → q ≡ seq_shape p p2 → Reads Mode.branch c keys enter (Some (d2, q)) keys'' after
+        pub branch-more : (d2 : Cursor) (p2 q : Shape) (after : Moves) → Reads Mode.branch d moves' (Some (d2, p2)) moves'' → after.keys ≡ moves''.keys → after.enter ≡ linked p.last p2.first moves''.enter → q ≡ seq_shape p p2 → Reads Mode.branch c moves (Some (d2, q)) after
         unfolding read_expr
-        branch-more d2 p2 q after h2 l e = deeper Mode.branch c keys enter (Some (d2, q)) keys'' after (λ k g. go k g (view Mode.piece c keys enter keys' enter' (d, p) h k (omega arith)))
+        branch-more d2 p2 q after h2 u l e = deeper Mode.branch c moves (Some (d2, q)) after (λ k g. go k g (view Mode.piece c moves moves' (d, p) h k (omega arith)))
           where
-            both : (k : ℕ) (v : FirstPiece k) → View Mode.branch d keys' enter' (d2, p2) keys'' enter'' k → ReadsIn (suc k) Mode.branch c keys enter (Some (d2, q)) keys'' after
-            both k v w = rw (v.reading, byte-behind d v.here eb, ← et, more, v.here, w.reading) (done-seq v.made.moved v.made w.made q after e l)
+            both : (k : ℕ) (v : FirstPiece k) → View Mode.branch d moves' (d2, p2) moves'' k → ReadsIn (suc k) Mode.branch c moves (Some (d2, q)) after
+            both k v w = rw (v.reading, byte-behind d v.here eb, ← et, more, v.here, w.reading) (done-seq v.made.moved v.made w.made q after e u l)
 
-            go : (k : ℕ) → room Mode.branch (length c.bytes.now - c.at) ≤ suc k → (v : FirstPiece k) → ReadsIn (suc k) Mode.branch c keys enter (Some (d2, q)) keys'' after
-            go k g v = both k v (view Mode.branch d keys' enter' keys'' enter'' (d2, p2) h2 k (fewer g v))
+            go : (k : ℕ) → room Mode.branch (length c.bytes.now - c.at) ≤ suc k → (v : FirstPiece k) → ReadsIn (suc k) Mode.branch c moves (Some (d2, q)) after
+            go k g v = both k v (view Mode.branch d moves' moves'' (d2, p2) h2 k (fewer g v))
 
   -- a group behind its parenthesis
-  module _ (keys' enter' : List ℕ) where
-    pub group-fault : Reads Mode.alts c keys enter None keys' enter' → Reads Mode.group c keys enter None keys' enter'
+  module _ (moves' : Moves) where
+    pub group-fault : Reads Mode.alts c moves None moves' → Reads Mode.group c moves None moves'
     unfolding read_expr
-    group-fault h = deeper Mode.group c keys enter None keys' enter' (λ k g. rw (unread Mode.alts c keys enter keys' enter' h k (omega arith)) (record {}))
+    group-fault h = deeper Mode.group c moves None moves' (λ k g. rw (unread Mode.alts c moves moves' h k (omega arith)) (record {}))
 
-    module _ (d : Cursor) (p : Shape) (h : Reads Mode.alts c keys enter (Some (d, p)) keys' enter') (b : ℕ) (eb : b ≡ byte_at d) where
-      pub group-open : (b ≡ 41 → ⊥) → Reads Mode.group c keys enter None keys' enter'
+    module _ (d : Cursor) (p : Shape) (h : Reads Mode.alts c moves (Some (d, p)) moves') (b : ℕ) (eb : b ≡ byte_at d) where
+      pub group-open : (b ≡ 41 → ⊥) → Reads Mode.group c moves None moves'
       unfolding read_expr
-      group-open n = deeper Mode.group c keys enter None keys' enter' (λ k g. go k (view Mode.alts c keys enter keys' enter' (d, p) h k (omega arith)))
+      group-open n = deeper Mode.group c moves None moves' (λ k g. go k (view Mode.alts c moves moves' (d, p) h k (omega arith)))
         where
-          go : (k : ℕ) (v : View Mode.alts c keys enter (d, p) keys' enter' k) → ReadsIn (suc k) Mode.group c keys enter None keys' enter'
+          go : (k : ℕ) (v : View Mode.alts c moves (d, p) moves' k) → ReadsIn (suc k) Mode.group c moves None moves'
           go k v = rw (v.reading, byte-behind d v.here eb, ne_eqb _ _ n) (record {})
 
-      pub group-closed : (n : Cursor) → Past d n → b ≡ 41 → Reads Mode.group c keys enter (Some (n, p)) keys' enter'
+      pub group-closed : (n : Cursor) → Past d n → b ≡ 41 → Reads Mode.group c moves (Some (n, p)) moves'
       unfolding read_expr atoms nothing first last follow holds
-      group-closed n en e = deeper Mode.group c keys enter (Some (n, p)) keys' enter' (λ k g. go k (view Mode.alts c keys enter keys' enter' (d, p) h k (omega arith)))
+      group-closed n en e = deeper Mode.group c moves (Some (n, p)) moves' (λ k g. go k (view Mode.alts c moves moves' (d, p) h k (omega arith)))
         where
-          go : (k : ℕ) (v : View Mode.alts c keys enter (d, p) keys' enter' k) → ReadsIn (suc k) Mode.group c keys enter (Some (n, p)) keys' enter'
+          go : (k : ℕ) (v : View Mode.alts c moves (d, p) moves' k) → ReadsIn (suc k) Mode.group c moves (Some (n, p)) moves'
           go k v = rw (v.reading, byte-behind d v.here eb, e) (record { moved = then-skip v.rest v.here v.made.moved en; shape = v.made.shape; keyed = v.made.keyed; entered = v.made.entered })
 
 -- what a mark behind a part makes of its place, of it and of the table of states, by the tests for `*`, `+` and `?`
@@ -319,10 +326,10 @@ abbrev enter_by : Bool → Bool → Shape → List ℕ → List ℕ
 enter_by t u p enter = cond (t || u) (linked p.last p.first enter) enter
 
 -- an atom or a group was read, and a mark of repetition or none stands behind it
-module _ {rest keys enter keys' enter' : List ℕ} {c d : Cursor} {e : Expr} {p : Shape} (here : rest ≡ left d) (made : Made c e rest keys enter (d, p) keys' enter') where
-  done-repeat : (r : Cursor × Shape) (after : List ℕ) → Repeats d p r → after ≡ repeat_enter (byte_at d) p enter' → Done c keys enter (Some r) keys' after (read_repeat e rest)
+module _ {rest : List ℕ} {moves moves' : Moves} {c d : Cursor} {e : Expr} {p : Shape} (here : rest ≡ left d) (made : Made c e rest moves (d, p) moves') where
+  done-repeat : (r : Cursor × Shape) (after : Moves) → Repeats d p r → after.keys ≡ moves'.keys → after.enter ≡ repeat_enter (byte_at d) p moves'.enter → Done c moves (Some r) after (read_repeat e rest)
   unfolding read_repeat atoms nothing first last follow holds
-  done-repeat r after er ea = rw (ea, byte-behind d here refl) (go (eqb (byte_at d) 42) (eqb (byte_at d) 43) (eqb (byte_at d) 63) refl refl er)
+  done-repeat r after er ek ea = rw (byte-behind d here refl) (go (eqb (byte_at d) 42) (eqb (byte_at d) 43) (eqb (byte_at d) 63) refl refl er ea)
     where
       two : {m : ℕ} → m ≡ 43 → m ≡ 63 → ⊥
       two f g = omega arith
@@ -330,73 +337,71 @@ module _ {rest keys enter keys' enter' : List ℕ} {c d : Cursor} {e : Expr} {p 
       on : Past d r.0 → Moved c (length c.bytes.now - length (drop 1 rest)) (c.atoms + atoms e) r.0
       on v = then-skip rest here made.moved v
 
-      go : (t u w : Bool) → eqb (byte_at d) 43 ≡ u → eqb (byte_at d) 63 ≡ w → MarkedBy t u w d p r → Done c keys enter (Some r) keys' (enter_by t u p enter') (marked_by t u w e rest)
-      go true u w j k (m, q) = record { moved = on m; shape = q ∙ rw made.shape refl; keyed = made.keyed; entered = rw (made.shape, made.entered) (enter-again c.atoms e enter) }
-      go false true true j k (m, q) = absurd (two (eqb-true _ 43 j) (eqb-true _ 63 k))
-      go false true false j k (m, q) = record { moved = on m; shape = q ∙ rw made.shape refl; keyed = made.keyed; entered = rw (made.shape, made.entered) (enter-again c.atoms e enter) }
-      go false false true j k (m, q) = record { moved = on m; shape = q ∙ rw made.shape refl; keyed = made.keyed; entered = made.entered }
-      go false false false j k (m, q) = record { moved = then-still made.moved m; shape = q ∙ made.shape; keyed = made.keyed; entered = made.entered }
+      go : (t u w : Bool) → eqb (byte_at d) 43 ≡ u → eqb (byte_at d) 63 ≡ w → MarkedBy t u w d p r → after.enter ≡ enter_by t u p moves'.enter → Done c moves (Some r) after (marked_by t u w e rest)
+      go true u w j k (m, q) g = record { moved = on m; shape = q ∙ rw made.shape refl; keyed = ek ∙ made.keyed; entered = g ∙ rw (made.shape, made.entered) (enter-again c.atoms e moves.enter) }
+      go false true true j k (m, q) g = absurd (two (eqb-true _ 43 j) (eqb-true _ 63 k))
+      go false true false j k (m, q) g = record { moved = on m; shape = q ∙ rw made.shape refl; keyed = ek ∙ made.keyed; entered = g ∙ rw (made.shape, made.entered) (enter-again c.atoms e moves.enter) }
+      go false false true j k (m, q) g = record { moved = on m; shape = q ∙ rw made.shape refl; keyed = ek ∙ made.keyed; entered = g ∙ made.entered }
+      go false false false j k (m, q) g = record { moved = then-still made.moved m; shape = q ∙ made.shape; keyed = ek ∙ made.keyed; entered = g ∙ made.entered }
 
 -- a part that was read from the cursor behind a byte is read from the byte's own
-from-past : {c n : Cursor} {e : Expr} {rest keys enter keys' enter' : List ℕ} {r : Cursor × Shape} → Past c n → Made n e rest keys enter r keys' enter' → Made c e rest keys enter r keys' enter'
-from-past {c} {n} {e} {rest} {keys} {enter} {keys'} {enter'} {r} en v =
-    let same : length n.bytes.now ≡ length c.bytes.now = long en in
+from-past : {c n : Cursor} {e : Expr} {rest : List ℕ} {moves moves' : Moves} {r : Cursor × Shape} → Past c n → Made n e rest moves r moves' → Made c e rest moves r moves'
+from-past en v =
     record {
-      moved = record { same = v.moved.same ∙ en.same; place = v.moved.place ∙ rw same refl; many = v.moved.many ∙ rw en.many refl; held = v.moved.held ∙ en.held };
+      moved = from-behind _ _ en v.moved;
       shape = v.shape ∙ rw en.many refl;
       keyed = v.keyed ∙ rw (en.many, en.held) refl;
       entered = v.entered ∙ rw en.many refl;
     }
 
 -- an atom was read
-module _ {c : Cursor} {keys keys' : List ℕ} {r : Cursor × Shape} {a : Atom} {rest : List ℕ} (q : read_atom (left c) ≡ parsed a rest) (v : AtomMade c a rest keys r keys') where
-  atom-made : (enter : List ℕ) → Made c (atom a) rest keys enter r keys' enter
+module _ {c : Cursor} {keys' : List ℕ} {r : Cursor × Shape} {a : Atom} {rest : List ℕ} where
+  atom-made : (moves : Moves) → AtomMade c a rest moves.keys r keys' → Made c (atom a) rest moves r (record { keys = keys'; enter = moves.enter })
   unfolding atoms
-  atom-made enter = record { moved = v.moved; shape = v.shape; keyed = v.keyed; entered = enter-atom c.atoms a enter }
+  atom-made moves v = record { moved = v.moved; shape = v.shape; keyed = v.keyed; entered = enter-atom c.atoms a moves.enter }
 
-  atom-behind : rest ≡ left r.0
-  atom-behind = behind c r.0 (write_atom a) rest (atom-from (left c) rest a (line-drop c.at c.bytes.now c.clean) q).0 v.moved
+  atom-behind : {keys : List ℕ} → read_atom (left c) ≡ parsed a rest → AtomMade c a rest keys r keys' → rest ≡ left r.0
+  atom-behind q v = behind c r.0 (write_atom a) rest (atom-from (left c) rest a (line-drop c.at c.bytes.now c.clean) q).0 v.moved
 
-module _ (c : Cursor) (keys enter : List ℕ) (b : ℕ) (eb : b ≡ byte_at c) where
+module _ (c : Cursor) (moves : Moves) (b : ℕ) (eb : b ≡ byte_at c) where
   opened : at 0 (left c) ≡ b
   opened = byte-behind c refl eb
 
   -- a piece that is a group
-  module _ (paren : b ≡ 40) (n : Cursor) (en : Past c n) (keys' enter' : List ℕ) where
+  module _ (paren : b ≡ 40) (n : Cursor) (en : Past c n) (moves' : Moves) where
     -- less room is enough behind the parenthesis
     inner : {k : ℕ} → room Mode.piece (length c.bytes.now - c.at) ≤ suc k → room Mode.group (length n.bytes.now - n.at) ≤ k
     inner g = omega (arith, n.inside, en.place, long en)
 
-    pub piece-fault : Reads Mode.group n keys enter None keys' enter' → Reads Mode.piece c keys enter None keys' enter'
+    pub piece-fault : Reads Mode.group n moves None moves' → Reads Mode.piece c moves None moves'
     unfolding read_expr
-    piece-fault hn = deeper Mode.piece c keys enter None keys' enter' (λ k g. rw (opened, paren, ← past-left en, unread Mode.group n keys enter keys' enter' hn k (inner g)) (record {}))
+    piece-fault hn = deeper Mode.piece c moves None moves' (λ k g. rw (opened, paren, ← past-left en, unread Mode.group n moves moves' hn k (inner g)) (record {}))
 
-    module _ (d : Cursor) (p : Shape) (hn : Reads Mode.group n keys enter (Some (d, p)) keys' enter') where
-      pub piece-group : (r : Cursor × Shape) (after : List ℕ) → Repeats d p r → after ≡ repeat_enter (byte_at d) p enter' → Reads Mode.piece c keys enter (Some r) keys' after
+    module _ (d : Cursor) (p : Shape) (hn : Reads Mode.group n moves (Some (d, p)) moves') where
+      pub piece-group : (r : Cursor × Shape) (after : Moves) → Repeats d p r → after.keys ≡ moves'.keys → after.enter ≡ repeat_enter (byte_at d) p moves'.enter → Reads Mode.piece c moves (Some r) after
       unfolding read_expr
-      piece-group r after er ea = deeper Mode.piece c keys enter (Some r) keys' after (λ k g. go k (view Mode.group n keys enter keys' enter' (d, p) hn k (inner g)))
+      piece-group r after er ek ea = deeper Mode.piece c moves (Some r) after (λ k g. go k (view Mode.group n moves moves' (d, p) hn k (inner g)))
         where
-          go : (k : ℕ) (v : View Mode.group n keys enter (d, p) keys' enter' k) → ReadsIn (suc k) Mode.piece c keys enter (Some r) keys' after
-          go k v = rw (opened, paren, ← past-left en, v.reading) (done-repeat v.here (from-past en v.made) r after er ea)
+          go : (k : ℕ) (v : View Mode.group n moves (d, p) moves' k) → ReadsIn (suc k) Mode.piece c moves (Some r) after
+          go k v = rw (opened, paren, ← past-left en, v.reading) (done-repeat v.here (from-past en v.made) r after er ek ea)
 
   -- a piece that is an atom
-  module _ (plain-one : b ≡ 40 → ⊥) (keys' : List ℕ) where
-    pub piece-atom-fault : ReadsAtom c keys None keys' → Reads Mode.piece c keys enter None keys' enter
+  module _ (plain-one : b ≡ 40 → ⊥) where
+    pub piece-atom-fault : (moves' : Moves) → ReadsAtom c moves.keys None moves'.keys → Reads Mode.piece c moves None moves'
     unfolding read_expr
-    piece-atom-fault h = deeper Mode.piece c keys enter None keys' enter (λ k g. rw (opened, ne_eqb _ _ plain-one) (go (read_atom (left c)) h))
+    piece-atom-fault moves' h = deeper Mode.piece c moves None moves' (λ k g. rw (opened, ne_eqb _ _ plain-one) (go (read_atom (left c)) h))
       where
-        go : (y : Parsed Atom) → AtomDone c keys None keys' y → Done c keys enter None keys' enter (next (next y (λ a. done (atom a))) read_repeat)
+        go : (y : Parsed Atom) → AtomDone c moves.keys None moves'.keys y → Done c moves None moves' (next (next y (λ a. done (atom a))) read_repeat)
         go (parsed a rest) i = absurd i
         go fault i = record {}
 
-    module _ (d : Cursor) (p : Shape) (h : ReadsAtom c keys (Some (d, p)) keys') where
-      pub piece-atom : (r : Cursor × Shape) (after : List ℕ) → Repeats d p r → after ≡ repeat_enter (byte_at d) p enter → Reads Mode.piece c keys enter (Some r) keys' after
-      unfolding read_expr
-      piece-atom r after er ea = deeper Mode.piece c keys enter (Some r) keys' after (λ k g. rw (opened, ne_eqb _ _ plain-one) (go (read_atom (left c)) refl h))
-        where
-          go : (z : Parsed Atom) → read_atom (left c) ≡ z → AtomDone c keys (Some (d, p)) keys' z → Done c keys enter (Some r) keys' after (next (next z (λ a. done (atom a))) read_repeat)
-          go (parsed a rest) q v = done-repeat (atom-behind q v) (atom-made q v enter) r after er ea
-          go fault q i = absurd i
+    pub piece-atom : (d : Cursor) (p : Shape) (keys' : List ℕ) (r : Cursor × Shape) (after : Moves) → ReadsAtom c moves.keys (Some (d, p)) keys' → Repeats d p r → after.keys ≡ keys' → after.enter ≡ repeat_enter (byte_at d) p moves.enter → Reads Mode.piece c moves (Some r) after
+    unfolding read_expr
+    piece-atom d p keys' r after h er ek ea = deeper Mode.piece c moves (Some r) after (λ k g. rw (opened, ne_eqb _ _ plain-one) (go (read_atom (left c)) refl h))
+      where
+        go : (z : Parsed Atom) → read_atom (left c) ≡ z → AtomDone c moves.keys (Some (d, p)) keys' z → Done c moves (Some r) after (next (next z (λ a. done (atom a))) read_repeat)
+        go (parsed a rest) q v = done-repeat (atom-behind q v) (atom-made moves v) r after er ek ea
+        go fault q i = absurd i
 
 -- a group is read with less room than the piece that it is
 pub paren-falls : (c n : Cursor) → Past c n → (t : ℕ) → room Mode.piece (length c.bytes.now - c.at) ≡ t → room Mode.group (length n.bytes.now - n.at) < t

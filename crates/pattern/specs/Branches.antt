@@ -4,6 +4,7 @@ use Rattle.std.specs.Prelude as prelude
 use Rattle.std.proofs.Math.Option.{Option, none, some}
 use Rattle.pattern.specs.declared.branch.BranchShape.{BranchShape}
 use Rattle.pattern.specs.declared.cursor.Cursor.{Cursor}
+use Rattle.pattern.specs.declared.shape.Moves.{Moves}
 use Rattle.pattern.specs.declared.shape.Shape.{Shape}
 use Rattle.brackets.specs.Sets.{Sets, set_of}
 use Rattle.brackets.specs.Brackets.{Parsed, parsed, fault}
@@ -42,22 +43,22 @@ abbrev pub BranchRead : Type 0
 BranchRead = prelude.Option (Cursor × BranchShape)
 
 -- a branch was read at cursor c, up to the bytes `rest`: its shape, and what it makes of the tables
-pub record BranchMade (c : Cursor) (b : Branch) (rest : List ℕ) (keys enter : List ℕ) (r : Cursor × BranchShape) (keys' enter' : List ℕ) : Type 0 where
+pub record BranchMade (c : Cursor) (b : Branch) (rest : List ℕ) (t : Moves) (r : Cursor × BranchShape) (t' : Moves) : Type 0 where
   pub moved : Moved c (length c.bytes.now - length rest) (c.atoms + atoms_in b.pieces) r.0
   pub shape : r.1 ≡ record { start = b.start; pieces = shape_in c.atoms b.pieces; end = b.end }
-  pub keyed : keys' ≡ keys_in (set_of c.case) c.atoms b.pieces keys
-  pub entered : enter' ≡ enter_in c.atoms b.pieces enter
+  pub keyed : t'.keys ≡ keys_in (set_of c.case) c.atoms b.pieces t.keys
+  pub entered : t'.enter ≡ enter_in c.atoms b.pieces t.enter
 
 -- what a reader of a branch at cursor c answers, and what it makes of the tables
-abbrev pub BranchDone : Cursor → List ℕ → List ℕ → BranchRead → List ℕ → List ℕ → Parsed Branch → Type 0
-BranchDone c keys enter (Some r) keys' enter' (parsed b rest) = BranchMade c b rest keys enter r keys' enter'
-BranchDone c keys enter (Some r) keys' enter' fault = ⊥
-BranchDone c keys enter None keys' enter' (parsed b rest) = ⊥
-BranchDone c keys enter None keys' enter' fault = ⊤
+abbrev pub BranchDone : Cursor → Moves → BranchRead → Moves → Parsed Branch → Type 0
+BranchDone c t (Some r) t' (parsed b rest) = BranchMade c b rest t r t'
+BranchDone c t (Some r) t' fault = ⊥
+BranchDone c t None t' (parsed b rest) = ⊥
+BranchDone c t None t' fault = ⊤
 
 -- the answer at cursor c for a branch, and for what is left of one behind its `^` or without one
-abbrev pub ReadsBranch : Cursor → List ℕ → List ℕ → BranchRead → List ℕ → List ℕ → Type 0
-ReadsBranch c keys enter r keys' enter' = BranchDone c keys enter r keys' enter' (read_branch (left c))
+abbrev pub ReadsBranch : Cursor → Moves → BranchRead → Moves → Type 0
+ReadsBranch c t r t' = BranchDone c t r t' (read_branch (left c))
 
-abbrev pub ReadsRest : Bool → Cursor → List ℕ → List ℕ → BranchRead → List ℕ → List ℕ → Type 0
-ReadsRest start c keys enter r keys' enter' = BranchDone c keys enter r keys' enter' (read_rest start (left c))
+abbrev pub ReadsRest : Bool → Cursor → Moves → BranchRead → Moves → Type 0
+ReadsRest start c t r t' = BranchDone c t r t' (read_rest start (left c))

@@ -2,6 +2,7 @@
 use Rattle.std.specs.Prelude.{ℕ, ◌+◌, ◌-◌, ◌*◌, ◌≤◌, ◌≡◌, ⊤, true, ◌||◌, cond, List, eqb, length, drop, get_or, Option, Some, None}
 use Rattle.letters.specs.declared.Case.{Case}
 use Rattle.pattern.specs.declared.cursor.Cursor.{Cursor}
+use Rattle.pattern.specs.declared.shape.Moves.{Moves}
 use Rattle.pattern.specs.declared.shape.Shape.{Shape}
 use Rattle.brackets.specs.Form.{Atom}
 use Rattle.brackets.specs.Sets.{set_of}
@@ -41,18 +42,18 @@ abbrev pub Part : Type 0
 Part = Option (Cursor × Shape)
 
 -- the expression e was read at cursor c, up to the bytes `rest`: its shape, and what it makes of the tables
-pub record Made (c : Cursor) (e : Expr) (rest : List ℕ) (keys enter : List ℕ) (r : Cursor × Shape) (keys' enter' : List ℕ) : Type 0 where
+pub record Made (c : Cursor) (e : Expr) (rest : List ℕ) (t : Moves) (r : Cursor × Shape) (t' : Moves) : Type 0 where
   pub moved : Moved c (length c.bytes.now - length rest) (c.atoms + atoms e) r.0
   pub shape : r.1 ≡ shape_of c.atoms e
-  pub keyed : keys' ≡ keys_after (set_of c.case) c.atoms e keys
-  pub entered : enter' ≡ enter_after c.atoms e enter
+  pub keyed : t'.keys ≡ keys_after (set_of c.case) c.atoms e t.keys
+  pub entered : t'.enter ≡ enter_after c.atoms e t.enter
 
 -- what a reader at cursor c answers, and what it makes of the tables
-abbrev pub Done : Cursor → List ℕ → List ℕ → Part → List ℕ → List ℕ → Parsed Expr → Type 0
-Done c keys enter (Some r) keys' enter' (parsed e rest) = Made c e rest keys enter r keys' enter'
-Done c keys enter (Some r) keys' enter' fault = ⊥
-Done c keys enter None keys' enter' (parsed e rest) = ⊥
-Done c keys enter None keys' enter' fault = ⊤
+abbrev pub Done : Cursor → Moves → Part → Moves → Parsed Expr → Type 0
+Done c t (Some r) t' (parsed e rest) = Made c e rest t r t'
+Done c t (Some r) t' fault = ⊥
+Done c t None t' (parsed e rest) = ⊥
+Done c t None t' fault = ⊤
 
 -- a bound on how deep the readers call each other, where k bytes are left
 abbrev pub room : Mode → ℕ → ℕ
@@ -62,12 +63,12 @@ room Mode.piece k = 4 * k + 1
 room Mode.group k = 4 * k + 4
 
 -- the answer at cursor c, where the readers may call each other f deep
-abbrev pub ReadsIn : ℕ → Mode → Cursor → List ℕ → List ℕ → Part → List ℕ → List ℕ → Type 0
-ReadsIn f m c keys enter r keys' enter' = Done c keys enter r keys' enter' (read_expr f m (left c))
+abbrev pub ReadsIn : ℕ → Mode → Cursor → Moves → Part → Moves → Type 0
+ReadsIn f m c t r t' = Done c t r t' (read_expr f m (left c))
 
 -- and within every bound that is large enough
-abbrev pub Reads : Mode → Cursor → List ℕ → List ℕ → Part → List ℕ → List ℕ → Type 0
-Reads m c keys enter r keys' enter' = (f : ℕ) → room m (length c.bytes.now - c.at) ≤ f → ReadsIn f m c keys enter r keys' enter'
+abbrev pub Reads : Mode → Cursor → Moves → Part → Moves → Type 0
+Reads m c t r t' = (f : ℕ) → room m (length c.bytes.now - c.at) ≤ f → ReadsIn f m c t r t'
 
 -- an atom: no state may enter anything more
 pub record AtomMade (c : Cursor) (a : Atom) (rest : List ℕ) (keys : List ℕ) (r : Cursor × Shape) (keys' : List ℕ) : Type 0 where

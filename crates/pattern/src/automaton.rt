@@ -6,6 +6,7 @@ ghost use Rattle.pattern.specs.Automata.{accepting_of, read_figures, tables_of, 
 
 use crate::clean::clean;
 use crate::cursor::Cursor;
+use crate::shape::Moves;
 use crate::state::State;
 use crate::summary::Summary;
 use letters::Case;
@@ -59,8 +60,10 @@ fn read_clean(s: &[u8], case: Case) -> Result<Tables, Refusal>
     requires { (length s.now ≤ 128) × (is_line s.now ≡ true) }
     ensures { result ≡ tables_of case (counted (read_branches (length s.now) s.now)) }
 {
-    let mut keys = [0; 256];
-    let mut enter = [0; 32];
+    let mut moves = Moves {
+        keys: [0; 256],
+        enter: [0; 32],
+    };
     let none = Summary {
         first: 0,
         free: 0,
@@ -69,19 +72,19 @@ fn read_clean(s: &[u8], case: Case) -> Result<Tables, Refusal>
         empty: false,
         jump: false,
     };
-    let read = Cursor::start(s, case).branches(none, &mut keys, &mut enter);
+    let read = Cursor::start(s, case).branches(none, &mut moves);
     let Some((atoms, sum)) = read else {
         return Err(Refusal::PatternSyntax);
     };
     if atoms > 29 {
         return Err(Refusal::TooManyAtoms);
     }
-    enter[State::LINE_START.place()] = sum.first;
-    enter[State::MID_LINE.place()] = sum.free;
+    moves.enter[State::LINE_START.place()] = sum.first;
+    moves.enter[State::MID_LINE.place()] = sum.free;
     let accepting = summed(sum, atoms);
     Ok(Tables {
-        keys,
-        enter,
+        keys: moves.keys,
+        enter: moves.enter,
         accepting,
     })
 }

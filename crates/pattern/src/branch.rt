@@ -2,7 +2,7 @@
 ghost use Rattle.pattern.specs.Branches.{EndDone, ReadsBranch, ReadsRest};
 
 use crate::cursor::{Cursor, ends_pieces};
-use crate::shape::Shape;
+use crate::shape::{Moves, Shape};
 
 // Whether a branch has `^`, its pieces' shape, and whether it has `$`.
 #[derive(Clone, Copy)]
@@ -23,13 +23,8 @@ impl<'a> Cursor<'a> {
     }
 
     // A branch whose optional `^` is passed.
-    fn branch_rest(
-        self,
-        start: bool,
-        keys: &mut [u64; 256],
-        enter: &mut [u64; 32],
-    ) -> Option<(Cursor<'a>, BranchShape)>
-        ensures { ReadsRest start self.entry keys.old enter.old result keys.new enter.new }
+    fn branch_rest(self, start: bool, moves: &mut Moves) -> Option<(Cursor<'a>, BranchShape)>
+        ensures { ReadsRest start self.entry moves.old result moves.new }
     {
         let next = self.byte();
         if ends_pieces(next) {
@@ -38,21 +33,17 @@ impl<'a> Cursor<'a> {
             }
             return None;
         }
-        let (here, pieces) = self.branch(keys, enter)?;
+        let (here, pieces) = self.branch(moves)?;
         Some(here.branch_end(start, pieces))
     }
 
     // The branch of the whole pattern at the cursor, and the cursor behind it.
-    pub(crate) fn pattern_branch(
-        self,
-        keys: &mut [u64; 256],
-        enter: &mut [u64; 32],
-    ) -> Option<(Cursor<'a>, BranchShape)>
-        ensures { ReadsBranch self.entry keys.old enter.old result keys.new enter.new }
+    pub(crate) fn pattern_branch(self, moves: &mut Moves) -> Option<(Cursor<'a>, BranchShape)>
+        ensures { ReadsBranch self.entry moves.old result moves.new }
     {
         if self.byte() == b'^' {
-            return self.past().branch_rest(true, keys, enter);
+            return self.past().branch_rest(true, moves);
         }
-        self.branch_rest(false, keys, enter)
+        self.branch_rest(false, moves)
     }
 }

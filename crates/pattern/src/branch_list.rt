@@ -2,23 +2,19 @@
 ghost use Rattle.pattern.specs.Summaries.{ReadsBranches};
 
 use crate::cursor::Cursor;
+use crate::shape::Moves;
 use crate::summary::Summary;
 
 impl<'a> Cursor<'a> {
     // The branches from the cursor to the end: how many atoms there are, and what they come to. `a` is what those before it come to.
-    pub(crate) fn branches(
-        self,
-        a: Summary,
-        keys: &mut [u64; 256],
-        enter: &mut [u64; 32],
-    ) -> Option<(usize, Summary)>
-        ensures { ReadsBranches self.entry a keys.old enter.old result keys.new enter.new }
+    pub(crate) fn branches(self, a: Summary, moves: &mut Moves) -> Option<(usize, Summary)>
+        ensures { ReadsBranches self.entry a moves.old result moves.new }
     {
-        let (here, branch) = self.pattern_branch(keys, enter)?;
+        let (here, branch) = self.pattern_branch(moves)?;
         let sum = a.with_branch(branch);
         match here.byte() {
             0 => Some((here.atoms, sum)),
-            b'|' => here.past().branches(sum, keys, enter),
+            b'|' => here.past().branches(sum, moves),
             _ => None,
         }
     }

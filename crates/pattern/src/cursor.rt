@@ -4,7 +4,7 @@ ghost use Rattle.std.specs.Prelude.{◌≡◌, ◌+◌, ◌^◌, ◌≤◌, ◌<
 ghost use Rattle.runs.specs.Keys.{is_line};
 ghost use Rattle.pattern.specs.Reader.{ends_pieces};
 
-use crate::shape::{Shape, link};
+use crate::shape::{Moves, Shape, link};
 use brackets::peek;
 use letters::Case;
 
@@ -91,58 +91,50 @@ impl<'a> Cursor<'a> {
 
     // An alternative list: branches parted by `|`.
     #[cycle(alternatives_branch_group_piece)]
-    fn alternatives(
-        self,
-        keys: &mut [u64; 256],
-        enter: &mut [u64; 32],
-    ) -> Option<(Cursor<'a>, Shape)>
-        ensures { Reads Mode.alts self.entry keys.old enter.old result keys.new enter.new }
+    fn alternatives(self, moves: &mut Moves) -> Option<(Cursor<'a>, Shape)>
+        ensures { Reads Mode.alts self.entry moves.old result moves.new }
     {
-        let (here, left) = self.branch(keys, enter)?;
+        let (here, left) = self.branch(moves)?;
         if here.byte() != b'|' {
             return Some((here, left));
         }
-        let (end, right) = here.past().alternatives(keys, enter)?;
+        let (end, right) = here.past().alternatives(moves)?;
         Some((end, left.or(right)))
     }
 
     // A branch without its anchors: pieces up to the end, a `|`, a `)` or a `$`.
     #[cycle(alternatives_branch_group_piece)]
-    pub(crate) fn branch(
-        self,
-        keys: &mut [u64; 256],
-        enter: &mut [u64; 32],
-    ) -> Option<(Cursor<'a>, Shape)>
-        ensures { Reads Mode.branch self.entry keys.old enter.old result keys.new enter.new }
+    pub(crate) fn branch(self, moves: &mut Moves) -> Option<(Cursor<'a>, Shape)>
+        ensures { Reads Mode.branch self.entry moves.old result moves.new }
     {
-        let (here, left) = self.piece(keys, enter)?;
+        let (here, left) = self.piece(moves)?;
         if ends_pieces(here.byte()) {
             return Some((here, left));
         }
-        let (end, right) = here.branch(keys, enter)?;
-        link(enter, left.last, right.first);
+        let (end, right) = here.branch(moves)?;
+        link(&mut moves.enter, left.last, right.first);
         Some((end, left.then(right)))
     }
 
     // A piece: an atom or a group, then at most one mark of repetition.
     #[cycle(alternatives_branch_group_piece)]
-    fn piece(self, keys: &mut [u64; 256], enter: &mut [u64; 32]) -> Option<(Cursor<'a>, Shape)>
-        ensures { Reads Mode.piece self.entry keys.old enter.old result keys.new enter.new }
+    fn piece(self, moves: &mut Moves) -> Option<(Cursor<'a>, Shape)>
+        ensures { Reads Mode.piece self.entry moves.old result moves.new }
     {
         if self.byte() == b'(' {
-            let (here, shape) = self.past().group(keys, enter)?;
-            return Some(here.repetition(shape, enter));
+            let (here, shape) = self.past().group(moves)?;
+            return Some(here.repetition(shape, &mut moves.enter));
         }
-        let (here, shape) = self.atom(keys)?;
-        Some(here.repetition(shape, enter))
+        let (here, shape) = self.atom(&mut moves.keys)?;
+        Some(here.repetition(shape, &mut moves.enter))
     }
 
     // A group, whose `(` is passed.
     #[cycle(alternatives_branch_group_piece)]
-    fn group(self, keys: &mut [u64; 256], enter: &mut [u64; 32]) -> Option<(Cursor<'a>, Shape)>
-        ensures { Reads Mode.group self.entry keys.old enter.old result keys.new enter.new }
+    fn group(self, moves: &mut Moves) -> Option<(Cursor<'a>, Shape)>
+        ensures { Reads Mode.group self.entry moves.old result moves.new }
     {
-        let (here, shape) = self.alternatives(keys, enter)?;
+        let (here, shape) = self.alternatives(moves)?;
         if here.byte() != b')' {
             return None;
         }
