@@ -2,25 +2,26 @@
 use Prim.Native.Nat.{ℕ, ◌+◌, ◌-◌, ◌%◌, ◌^◌, ◌<◌, ◌≤◌}
 use native.Mathlib.Omega.{arith}
 use native.Mathlib.Nat.{mod-eq_of_lt}
-use native.Mathlib.Decide.{dec_le}
-use mathlib.Core.Path.{◌≡◌, refl, sym, ◌∙◌}
+use mathlib.Core.Path.{◌≡◌, refl, sym, ap, ◌∙◌}
 use mathlib.Core.Bool.{Bool, true, false, ◌&&◌, and-false}
-use mathlib.Core.List.{List}
+use mathlib.Core.List.{List, ◌++◌}
 use lib.Dec.{leb, eqb}
-use lib.ListN.{length, drop, get_or, get_or-eq_default}
+use lib.ListN.{length, length-append, length-drop}
 use lib.Pow.{pow-lt}
 use borrow.Author.Tests.{eq-eqb, ne_eqb, eqb-true, eqb-false, leb-true, leb-false}
 use Rattle.stateset.proofs.Sets.{word-one, word-ext, word_none}
 use Rattle.brackets.specs.declared.cursor.AtomCursor.{AtomCursor}
-use Rattle.std.specs.Prelude.{Option, Some, None}
-use Rattle.brackets.specs.Form.{Atom}
+use Rattle.std.specs.Prelude.{Some}
+use Rattle.brackets.specs.Form.{Atom, write_atom}
 use Rattle.brackets.specs.Brackets.{Parsed, parsed, fault, read_atom}
-use Rattle.brackets.specs.Answers.{cursor_at, place_behind, keys_behind}
+use Rattle.brackets.specs.Answers.{place_behind, keys_behind}
+use Rattle.brackets.proofs.AtomsFrom.{atom-from}
+use Rattle.brackets.proofs.AtomsBack.{atom-long}
 use Rattle.pattern.specs.declared.cursor.Cursor.{Cursor}
-use Rattle.pattern.specs.declared.shape.Shape.{Shape}
-use Rattle.pattern.specs.Cycle.{AtomDone, ReadsAtom}
+use Rattle.pattern.specs.Cycle.{Moved, left, AtomDone, ReadsAtom}
 use Rattle.pattern.specs.States.{nothing, first, last, atom_state, atom_word}
 use Rattle.pattern.proofs.AtomTables.{keys-atom}
+use Rattle.runs.proofs.KeyLaws.{line-drop}
 use Rattle.runs.proofs.Tests.{clash}
 
 -- the state of atom k as a set: one that is stored
@@ -56,38 +57,31 @@ atom-high k h = word_none 32 ∙ word-ext 32 (λ p. false) (λ p. atom_state (eq
     far : (p : ℕ) → p < 32 → k ≡ p - 3 → ⊥
     far p g e = omega arith
 
--- a byte that is no 0 stands inside
-pub inside : (s : List ℕ) (i : ℕ) → (get_or s i 0 ≡ 0 → ⊥) → i < length s
-inside s i h = elim (dec_le (length s) i) [ yes p ↦ absurd (h (get_or-eq_default s 0 p)) | no q ↦ omega arith ]
+-- the bytes from a cursor on, as what was read of them and the rest
+pub reached : (c : Cursor) (w rest : List ℕ) → left c ≡ w ++ rest → length c.bytes.now - length rest ≡ c.at + length w
+reached c w rest split =
+    let sum : length c.bytes.now - c.at ≡ length w + length rest = sym (length-drop c.at c.bytes.now) ∙ ap length split ∙ length-append w rest in
+    omega (arith, c.inside)
 
--- the state of the atom that is read at a cursor, as a word
-abbrev state_at : Cursor → ℕ
-state_at c = atom_word (eqb c.atoms)
+-- the place behind an atom is inside, and further
+pub atom-place : (c : Cursor) (next : AtomCursor) → Some next ≡ place_behind (length c.bytes.now) (read_atom (left c)) → (next.at ≤ length c.bytes.now) × (c.atoms + 1 ≤ next.at)
+atom-place c next e = go (read_atom (left c)) refl e
+  where
+    go : (p : Parsed Atom) → read_atom (left c) ≡ p → Some next ≡ place_behind (length c.bytes.now) p → (next.at ≤ length c.bytes.now) × (c.atoms + 1 ≤ next.at)
+    go (parsed a rest) q h =
+        let there : next.at ≡ length c.bytes.now - length rest = cc in
+        let on : length c.bytes.now - length rest ≡ c.at + length (write_atom a) = reached c (write_atom a) rest (atom-from (left c) rest a (line-drop c.at c.bytes.now c.clean) q).0 in
+        (omega (arith, there), omega (arith, there, on, atom-long a, c.few))
+    go fault q h = clash (cc)
 
--- what the reader of brackets answers for the atom at a cursor: the place behind it, and the table of keys
-abbrev place_at : List ℕ → Cursor → Option AtomCursor
-place_at s c = place_behind (length s) (read_atom (drop c.at s))
-
-abbrev keys_at : List ℕ → Cursor → ℕ → List ℕ → List ℕ
-keys_at s c set keys = keys_behind c.case (read_atom (drop c.at s)) set keys
-
--- the shape of an atom whose state is `set`
-abbrev one_shape : ℕ → Shape
-one_shape set = record { nothing = false; first = set; last = set }
-
--- what the reader of an atom answers at a cursor, where `set` is the atom's state
-module _ (s keys after : List ℕ) (c : Cursor) {set : ℕ} (eset : set ≡ state_at c) (table : after ≡ keys_at s c set keys) where
-  pub atom-read : (next : AtomCursor) (d : Cursor) → Some next ≡ place_at s c → d ≡ record { at = next.at; atoms = c.atoms + 1; case = c.case } → ReadsAtom s c keys (Some (d, one_shape set)) after
+-- what the reader of an atom answers at a cursor, where `set` is the atom's state and `place` what the reader of brackets answers
+module _ (c : Cursor) (keys after : List ℕ) {set : ℕ} (eset : set ≡ atom_word (eqb c.atoms)) (table : after ≡ keys_behind c.case (read_atom (left c)) set keys) where
+  pub atom-read : (next : AtomCursor) (d : Cursor) → Some next ≡ place_behind (length c.bytes.now) (read_atom (left c)) → Moved c next.at (c.atoms + 1) d → ReadsAtom c keys (Some (d, record { nothing = false; first = set; last = set })) after
   unfolding nothing first last
-  atom-read next d e g = go (read_atom (drop c.at s)) e table
+  atom-read next d e m = go (read_atom (left c)) e table
     where
-      go : (p : Parsed Atom) → Some next ≡ place_behind (length s) p → after ≡ keys_behind c.case p set keys → AtomDone (length s) c keys (Some (d, one_shape set)) after p
-      go (parsed a rest) h k = let there : next ≡ cursor_at (length s - length rest) = cc in (rw (g, there, eset) refl, k ∙ rw eset (keys-atom c.case c.atoms a keys))
+      go : (p : Parsed Atom) → Some next ≡ place_behind (length c.bytes.now) p → after ≡ keys_behind c.case p set keys → AtomDone c keys (Some (d, record { nothing = false; first = set; last = set })) after p
+      go (parsed a rest) h k =
+          let there : next.at ≡ length c.bytes.now - length rest = cc in
+          record { moved = record { same = m.same; place = m.place ∙ there; many = m.many; held = m.held }; shape = rw eset refl; keyed = k ∙ rw eset (keys-atom c.case c.atoms a keys) }
       go fault h k = clash (cc)
-
-  pub atom-faulty : None ≡ place_at s c → ReadsAtom s c keys None after
-  atom-faulty e = go (read_atom (drop c.at s)) e
-    where
-      go : (p : Parsed Atom) → None ≡ place_behind (length s) p → AtomDone (length s) c keys None after p
-      go (parsed a rest) h = clash (cc)
-      go fault h = refl

@@ -1,5 +1,5 @@
 -- The tables that a whole pattern was read into are those of its tree.
-use Prim.Native.Nat.{ℕ, zero, suc, ◌+◌, ◌-◌, ◌%◌, ◌^◌, ◌<◌, ◌≤◌}
+use Prim.Native.Nat.{ℕ, zero, suc, ◌+◌, ◌-◌, ◌<◌, ◌≤◌}
 use native.Mathlib.Omega.{arith}
 use native.Mathlib.Nat.{zero-add}
 use mathlib.Core.Path.{◌≡◌, refl, sym, ap, ◌∙◌}
@@ -10,9 +10,8 @@ use lib.Bits.{bit_or, or_zero_r, or_zero_l}
 use lib.Dec.{leb, ltb}
 use lib.ListN.{length, set, replicate, length-replicate, get_or-replicate}
 use lib.Seq.{ext_get_or}
-use borrow.Author.Tests.{le-leb, lt-ltb, lt-leb}
+use borrow.Author.Tests.{le-leb, lt-ltb}
 use Rattle.refusal.specs.declared.Refusal.{Refusal}
-use Rattle.refusal.specs.declared.Refusal.TheVariants.{PatternSyntax, TooManyAtoms}
 use Rattle.letters.specs.declared.Case.{Case}
 use Rattle.brackets.specs.Sets.{set_of}
 use Rattle.pattern.specs.Meaning.{Query, query}
@@ -20,18 +19,19 @@ use Rattle.pattern.specs.declared.automaton.Accepting.{Accepting}
 use Rattle.pattern.specs.declared.cursor.Cursor.{Cursor}
 use Rattle.std.specs.Prelude.{Some, None}
 use Rattle.std.proofs.lemmas.Option.{some_pair_parts}
+use Rattle.pattern.specs.declared.shape.Moves.{Moves}
 use Rattle.pattern.specs.declared.summary.Summary.{Summary}
 use Rattle.brackets.specs.Brackets.{Parsed, parsed, fault}
-use Rattle.pattern.specs.Reader.{Read, accepted, refused, read_branches, counted}
+use Rattle.pattern.specs.Reader.{Read, accepted, read_branches, counted}
 use Rattle.pattern.specs.States.{nothing_in, in_pieces, first, last, follow, holds, some_branch, first_in_branch, first_in_free, ends_free, ends_anchored, holds_key, empty_branch, empty_free, atom_word}
 use Rattle.pattern.specs.Tables.{is_atom}
 use Rattle.pattern.specs.Branches.{shape_in, keys_in, enter_in}
 use Rattle.pattern.specs.Summaries.{with_branch, summary_of, through, PatternDone, ReadsBranches, PatternRead}
 use Rattle.pattern.specs.Moves.{enters}
-use Rattle.pattern.specs.Cycle.{Ready}
-use Rattle.pattern.specs.Automata.{always_of, accepts_of, key_table, enter_table, accepts, accepting_of, tables_of}
+use Rattle.pattern.specs.Cycle.{Starts, left}
+use Rattle.pattern.specs.Automata.{key_table, enter_table, accepts, accepting_of, tables_of}
 use Rattle.pattern.specs.declared.automaton.Tables.{Tables}
-use Rattle.std.specs.Prelude.{Result, Err, Ok}
+use Rattle.std.specs.Prelude.{Result, Ok}
 use Rattle.brackets.proofs.Entries.{with-same, with-with, with_none, with-length, with-get_or}
 use Rattle.pattern.proofs.Moving.{always-word, accepting-word}
 use Rattle.pattern.proofs.AtomTables.{atoms-none, atoms-same, with_atoms, both-added, added-if}
@@ -204,72 +204,44 @@ module _ (t : Pattern) where
       all-free' : (summary_of 0 t blank).free ≡ atom_word (enters t 1)
       all-free' = all-free t
 
--- the words that a summary comes to, step by step
-module _ (a : Summary) {start found : ℕ} (at-start : start ≡ 2 ^ 0 % 2 ^ 64) (at-found : found ≡ 2 ^ 2 % 2 ^ 64) where
-  pub always-made : {x always : ℕ} → x ≡ cond a.jump start 0 → always ≡ bit_or found x → always ≡ always_of a
-  always-made x w = rw (w, x, at-found, at-start) refl
-
-  pub accepts-made : {y fixed accepting : ℕ} → y ≡ cond a.empty start 0 → fixed ≡ bit_or found y → accepting ≡ bit_or fixed a.anchored → accepting ≡ accepts_of a
-  accepts-made y z v = rw (v, z, y, at-found, at-start) refl
-
-pub summed-words : (a : Summary) (n : ℕ) {w v c : ℕ} → w ≡ always_of a → v ≡ accepts_of a → c ≡ 3 + n → record { always = w; ends = a.ends; accepting = v; states = c } ≡ accepting_of a n
-summed-words a n i j k = rw (k, j, i) refl
-
 -- the answer with these tables
 abbrev pub made : List ℕ → List ℕ → Accepting → Result Tables Refusal
 made keys enter a = Ok (record { keys = keys; enter = enter; accepting = a })
 
--- the cursor at the start
-abbrev start_of : Case → Cursor
-start_of c = record { at = 0; atoms = 0; case = c }
-
--- it is ready where the pattern is
-pub start-ready : (s : List ℕ) (case : Case) (c : Cursor) → c ≡ start_of case → Ready s (start_of case) → Ready s c
-start-ready s case c e r = rw e r
+-- the tables before anything was read
+abbrev no_moves : Moves
+no_moves = record { keys = replicate 256 0; enter = replicate 32 0 }
 
 -- a whole pattern that has no byte 0 or 10, read from its start
-module _ (s k e : List ℕ) (x : PatternRead) (case : Case) (c : Cursor) (start : c ≡ start_of case) (h : ReadsBranches s c blank (replicate 256 0) (replicate 32 0) x k e) where
+module _ (s : List ℕ) (moves : Moves) (x : PatternRead) (case : Case) (c : Cursor) (start : Starts s case c) (h : ReadsBranches c blank no_moves x moves) where
   -- what it is
   abbrev result : Read
   result = counted (read_branches (length s) s)
 
+  -- what the reader answers for it
   abbrev Done : Parsed Pattern → Type 0
-  Done p = PatternDone (start_of case) blank (replicate 256 0) (replicate 32 0) x k e p
+  Done (parsed t rest) = (x ≡ Some (0 + atom_count t, summary_of 0 t blank)) × (moves.keys ≡ through (keys_in (set_of case)) 0 t (replicate 256 0)) × (moves.enter ≡ through enter_in 0 t (replicate 32 0))
+  Done fault = x ≡ None
 
   read : Done (read_branches (length s) s)
-  read = rw start at h (length s) (omega arith)
+  read = go (read_branches (length s) s) (rw whole at h (length s) (rw start.bytes (omega arith)))
+    where
+      whole : left c ≡ s
+      whole = rw (start.start, start.bytes) refl
 
-  module _ (f : x ≡ None) where
-    faulty : result ≡ refused PatternSyntax
-    faulty = go (read_branches (length s) s) read
-      where
-        go : (p : Parsed Pattern) → Done p → counted p ≡ refused PatternSyntax
-        go (parsed t rest) (i, j, l) = clash (cc)
-        go fault i = refl
-
-    pub fault-tables : Err PatternSyntax ≡ tables_of case result
-    fault-tables = rw faulty refl
+      go : (p : Parsed Pattern) → PatternDone c blank no_moves x moves p → Done p
+      go (parsed t rest) (i, j, l) = (rw start.none at i, rw (start.none, start.held) at j, rw start.none at l)
+      go fault i = i
 
   module _ (n : ℕ) (a : Summary) (f : x ≡ Some (n, a)) where
-    module _ (over : 29 < n) where
-      many : result ≡ refused TooManyAtoms
-      many = go (read_branches (length s) s) read
-        where
-          go : (p : Parsed Pattern) → Done p → counted p ≡ refused TooManyAtoms
-          go (parsed t rest) (i, j, l) = let count = (some_pair_parts n (0 + atom_count t) a _ (sym f ∙ i)).0 in rw (lt-leb (atom_count t) 29 (omega arith)) refl
-          go fault i = clash (cc)
-
-      pub many-tables : Err TooManyAtoms ≡ tables_of case result
-      many-tables = rw many refl
-
     -- an accepted one: its tree, and what was read
     record Fine : Type 0 where
       pub tree : Pattern
       pub reading : result ≡ accepted tree
       pub count : n ≡ atom_count tree
       pub sum : a ≡ summary_of 0 tree blank
-      pub keyed : k ≡ through (keys_in (set_of case)) 0 tree (replicate 256 0)
-      pub entered : e ≡ through enter_in 0 tree (replicate 32 0)
+      pub keyed : moves.keys ≡ through (keys_in (set_of case)) 0 tree (replicate 256 0)
+      pub entered : moves.enter ≡ through enter_in 0 tree (replicate 32 0)
 
     module _ (few : n ≤ 29) where
       fine : Fine
@@ -281,13 +253,13 @@ module _ (s k e : List ℕ) (x : PatternRead) (case : Case) (c : Cursor) (start 
               record { tree = t; reading = rw (q, le-leb (atom_count t) 29 (omega arith)) refl; count = count ∙ zero-add (atom_count t); sum = sum; keyed = j; entered = l }
           go fault q i = clash (cc)
 
-      pub fine-tables : {p q : ℕ} {v : Accepting} → p ≡ 0 → q ≡ 1 → v ≡ accepting_of a n → made k (set (set e p a.first) q a.free) v ≡ tables_of case result
+      pub fine-tables : {p q : ℕ} {v : Accepting} → p ≡ 0 → q ≡ 1 → v ≡ accepting_of a n → made moves.keys (set (set moves.enter p a.first) q a.free) v ≡ tables_of case result
       fine-tables {p} {q} {v} i j g = rw fine.reading (together (fine.keyed ∙ keys-all (query case fine.tree)) entering words)
         where
-          table : {b : Summary} {l : List ℕ} → a ≡ b → e ≡ l → set (set e 0 a.first) 1 a.free ≡ set (set l 0 b.first) 1 b.free
+          table : {b : Summary} {l : List ℕ} → a ≡ b → moves.enter ≡ l → set (set moves.enter 0 a.first) 1 a.free ≡ set (set l 0 b.first) 1 b.free
           table g h = rw (g, h) refl
 
-          entering : set (set e p a.first) q a.free ≡ enter_table fine.tree
+          entering : set (set moves.enter p a.first) q a.free ≡ enter_table fine.tree
           entering = rw (i, j) (table fine.sum fine.entered ∙ enter-all fine.tree)
 
           words : v ≡ accepts fine.tree

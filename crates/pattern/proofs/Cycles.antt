@@ -10,27 +10,25 @@ use lib.ListN.{length, drop, get_or, length-append, length-drop}
 use lib.Seq.{drop-drop, get_or-drop, drop_at}
 use borrow.Author.Tests.{ne_eqb, eqb-true}
 use Rattle.stateset.proofs.Sets.{word_lt}
-use Rattle.letters.specs.declared.Case.{Case}
-use Rattle.brackets.specs.Sets.{Sets, set_of}
+use Rattle.brackets.specs.Sets.{set_of}
 use Rattle.pattern.specs.declared.cursor.Cursor.{Cursor}
+use Rattle.pattern.specs.declared.shape.Moves.{Moves}
 use Rattle.pattern.specs.declared.shape.Shape.{Shape}
 use Rattle.brackets.specs.Form.{Atom, write_atom}
 use Rattle.brackets.specs.Brackets.{Parsed, parsed, fault, next, done, at, read_atom}
 use Rattle.pattern.specs.Reader.{Mode, ends_pieces, read_repeat, read_expr}
 use Rattle.pattern.specs.States.{nothing, first, last, follow, holds, atom_state}
-use Rattle.pattern.specs.Tables.{keys_after, enter_after, linked, shape_of, seq_shape, alt_shape}
+use Rattle.pattern.specs.Tables.{linked, shape_of, seq_shape, alt_shape}
 use Rattle.std.specs.Prelude.{Some, None}
-use Rattle.std.proofs.lemmas.Option.{some_pair_parts}
-use Rattle.pattern.specs.Cycle.{Part, past_byte, Ready, Done, room, ReadsIn, Reads, AtomDone, ReadsAtom, repeat_enter, repeat_part}
+use Rattle.pattern.specs.Cycle.{Moved, Past, left, byte_at, Part, Made, Done, room, ReadsIn, Reads, AtomMade, AtomDone, ReadsAtom, repeat_enter, Repeats}
 use Rattle.pattern.proofs.TreesFrom.{expr-from, group-group, marked_by}
-use Rattle.pattern.proofs.Atoms.{inside}
+use Rattle.pattern.proofs.Atoms.{reached}
 use Rattle.pattern.proofs.AtomTables.{keys-seq, keys-alt, enter-seq, enter-alt, enter-again, enter-atom, first-seq, last-seq, first-alt, last-alt}
 use Rattle.pattern.specs.Form.{Expr, atom, group, star, plus, opt, seq, alt, atoms, write}
-use Rattle.runs.proofs.Tests.{clash}
 use Rattle.runs.proofs.KeyLaws.{line-drop}
 use Rattle.brackets.proofs.AtomsFrom.{atom-from}
-use Rattle.runs.specs.Keys.{is_line}
 use Rattle.brackets.proofs.AtomsBack.{atom-long}
+use Rattle.runs.specs.Keys.{is_line}
 
 -- an expression has an atom, and each atom has a byte
 pub atoms-some : (e : Expr) → 1 ≤ atoms e
@@ -75,109 +73,92 @@ bytes_of f Mode.group l rest e h q =
     let (x, same) = group-group f l rest e q in
     group-bytes x e l rest same (expr-from f Mode.group l rest e h q).0
 
--- what was read, and where reading goes on: behind it, inside, with no more atoms than bytes
-pub record Behind (s : List ℕ) (c d : Cursor) (e : Expr) (rest : List ℕ) : Type 0 where
-  pub next : d ≡ record { at = length s - length rest; atoms = c.atoms + atoms e; case = c.case }
-  pub here : rest ≡ drop d.at s
-  pub on : c.at < d.at
-  pub ready : Ready s d
-
--- what an expression comes to, whose atoms have the sets S and the numbers from b on: its shape, and what it makes of the tables
-pub record Made (S : Sets) (b : ℕ) (e : Expr) (p : Shape) (keys enter keys' enter' : List ℕ) : Type 0 where
-  pub shape : p ≡ shape_of b e
-  pub keyed : keys' ≡ keys_after S b e keys
-  pub entered : enter' ≡ enter_after b e enter
-
--- an answer of a reader says what was read
-pub record View (s : List ℕ) (c : Cursor) (m : Mode) (keys enter : List ℕ) (d : Cursor) (p : Shape) (keys' enter' : List ℕ) (f : ℕ) : Type 0 where
+-- an answer of a reader says what was read, and where reading goes on: behind it
+pub record View (m : Mode) (c : Cursor) (moves : Moves) (r : Cursor × Shape) (moves' : Moves) (f : ℕ) : Type 0 where
   pub expr : Expr
   pub rest : List ℕ
-  pub reading : read_expr f m (drop c.at s) ≡ parsed expr rest
-  pub behind-it : Behind s c d expr rest
-  pub made : Made (set_of c.case) c.atoms expr p keys enter keys' enter'
+  pub reading : read_expr f m (left c) ≡ parsed expr rest
+  pub made : Made c expr rest moves r moves'
+  pub here : rest ≡ left r.0
+  pub on : c.at < r.0.at
 
--- an answer by its parts
-same-part : {d e : Cursor} {p q : Shape} → d ≡ e → p ≡ q → ◌≡◌ {A = Part} (Some (d, p)) (Some (e, q))
-same-part f g = rw (f, g)
+-- the byte at a cursor
+peeked : (c : Cursor) → at 0 (left c) ≡ byte_at c
+peeked c = get_or-drop c.at c.bytes.now 0 0 ∙ ap (λ (j : ℕ). get_or c.bytes.now j 0) (add-zero c.at)
 
--- the byte at the cursor behind what was read
-pub peeked : (s : List ℕ) (i : ℕ) → at 0 (drop i s) ≡ get_or s i 0
-peeked s i = get_or-drop i s 0 0 ∙ ap (λ (j : ℕ). get_or s j 0) (add-zero i)
+-- and that at the cursor behind what was read
+pub byte-behind : (d : Cursor) {rest : List ℕ} {b : ℕ} → rest ≡ left d → b ≡ byte_at d → at 0 rest ≡ b
+byte-behind d h e = ap (at 0) h ∙ peeked d ∙ sym e
 
 pub nonzero : (b n : ℕ) → 1 ≤ n → b ≡ n → b ≡ 0 → ⊥
 nonzero b n h e z = omega arith
 
--- a cursor one byte on, where a byte stands
-pub past : (s : List ℕ) (d : Cursor) → Ready s d → (b : ℕ) → b ≡ get_or s d.at 0 → (b ≡ 0 → ⊥) → Ready s (past_byte d)
-past s d r b e n =
-    let i : d.at < length s = inside s d.at (λ z. n (e ∙ z)) in
-    record { inside = omega arith; short = r.short; few = omega (arith, r.few); clean = r.clean }
+-- a cursor in the same pattern has as many bytes
+pub long : {c d : Cursor} {i n : ℕ} → Moved c i n d → length d.bytes.now ≡ length c.bytes.now
+long m = ap (λ (l : List ℕ). length l) m.same
 
-module _ (s : List ℕ) (c : Cursor) (r : Ready s c) where
-  -- bytes that an expression takes at least as many of as it has atoms
-  behind : (d : Cursor) (e : Expr) (w rest : List ℕ) → drop c.at s ≡ w ++ rest → atoms e ≤ length w → d ≡ record { at = length s - length rest; atoms = c.atoms + atoms e; case = c.case } → Behind s c d e rest
-  behind d e w rest f h g =
-      let some : 1 ≤ atoms e = atoms-some e in
-      let sum : length s - c.at ≡ length w + length rest = sym (length-drop c.at s) ∙ ap length f ∙ length-append w rest in
-      let place : length s - length rest ≡ c.at + length w = omega (arith, r.inside) in
-      let ate : d.at ≡ length s - length rest = ap (λ (x : Cursor). x.at) g in
-      let many : d.atoms ≡ c.atoms + atoms e = ap (λ (x : Cursor). x.atoms) g in
-      record {
-        next = g;
-        here = sym (drop_at w rest (length w) refl) ∙ ap (drop (length w)) (sym f) ∙ drop-drop (length w) c.at s ∙ ap (λ (i : ℕ). drop i s) (sym (ate ∙ place));
-        on = omega arith;
-        ready = record { inside = omega (arith, r.inside); short = r.short; few = omega (arith, r.few); clean = r.clean };
-      }
+-- where the bytes w are left out, the others are left at the place behind them
+pub behind : (c d : Cursor) (w rest : List ℕ) {n : ℕ} → left c ≡ w ++ rest → Moved c (length c.bytes.now - length rest) n d → rest ≡ left d
+behind c d w rest f m =
+    sym (drop_at w rest (length w) refl) ∙ ap (drop (length w)) (sym f) ∙ drop-drop (length w) c.at c.bytes.now
+    ∙ rw (m.same, m.place, reached c w rest f) refl
 
-  module _ (m : Mode) (keys enter keys' enter' : List ℕ) where
-    pub view : (d : Cursor) (p : Shape) → Reads m s c keys enter (Some (d, p)) keys' enter' → (f : ℕ) → room m (length s - c.at) ≤ f → View s c m keys enter d p keys' enter' f
-    view d p h f g = go (read_expr f m (drop c.at s)) refl (h f g)
-      where
-        go : (y : Parsed Expr) → read_expr f m (drop c.at s) ≡ y → Done (length s) c keys enter (Some (d, p)) keys' enter' y → View s c m keys enter d p keys' enter' f
-        go (parsed t rest) q (i, j, k) =
-            let (w, split, enough) = bytes_of f m (drop c.at s) rest t (line-drop c.at s r.clean) q in
-            let (next, shape) = some_pair_parts d _ p _ i in
-            record { expr = t; rest = rest; reading = q; behind-it = behind d t w rest split enough next; made = record { shape = shape; keyed = j; entered = k } }
-        go fault q i = clash (cc)
+-- the bytes behind the byte at a cursor
+pub past-left : {c d : Cursor} → Past c d → left d ≡ drop 1 (left c)
+past-left {c} {d} m = rw (m.same, m.place) (sym (drop-drop 1 c.at c.bytes.now))
 
-    pub unread : Reads m s c keys enter None keys' enter' → (f : ℕ) → room m (length s - c.at) ≤ f → read_expr f m (drop c.at s) ≡ fault
-    unread h f g = go (read_expr f m (drop c.at s)) refl (h f g)
-      where
-        go : (y : Parsed Expr) → read_expr f m (drop c.at s) ≡ y → Done (length s) c keys enter None keys' enter' y → read_expr f m (drop c.at s) ≡ fault
-        go (parsed t rest) q (i, j, k) = clash (cc)
-        go fault q i = q
+-- one cursor behind another: past a byte, or at the same place
+then-past : {c d n : Cursor} {i k : ℕ} → Moved c i k d → Past d n → Moved c (d.at + 1) k n
+then-past a b = record { same = b.same ∙ a.same; place = b.place; many = b.many ∙ a.many; held = b.held ∙ a.held }
 
-    -- What the calls in the cycle ask of a part that was read: each reads on with less room, and where it is ready.
-    module _ (d : Cursor) (p : Shape) (h : Reads m s c keys enter (Some (d, p)) keys' enter') where
-      seen : View s c m keys enter d p keys' enter' (room m (length s - c.at))
-      seen = view d p h (room m (length s - c.at)) (le_refl (room m (length s - c.at)))
+pub then-still : {c d n : Cursor} {i k : ℕ} → Moved c i k d → Moved d d.at d.atoms n → Moved c i k n
+then-still a b = record { same = b.same ∙ a.same; place = b.place ∙ a.place; many = b.many ∙ a.many; held = b.held ∙ a.held }
 
-      pub read-ready : Ready s d
-      read-ready = seen.behind-it.ready
+-- and one byte further
+pub then-skip : {c d n : Cursor} {k : ℕ} (rest : List ℕ) → rest ≡ left d → Moved c (length c.bytes.now - length rest) k d → Past d n → Moved c (length c.bytes.now - length (drop 1 rest)) k n
+then-skip {c} {d} {n} rest h a b =
+    let at-end : d.at + 1 ≡ length c.bytes.now - length (drop 1 rest) = rw (h, length-drop, length-drop) (omega (arith, long a, long b, b.place, n.inside)) in
+    record { same = b.same ∙ a.same; place = b.place ∙ at-end; many = b.many ∙ a.many; held = b.held ∙ a.held }
 
-      pub read-later : c.at < d.at
-      read-later = seen.behind-it.on
+-- a place that counts from the end is the same from the cursor behind a byte
+pub from-behind : {c n d : Cursor} (k j : ℕ) → Past c n → Moved n (length n.bytes.now - k) (n.atoms + j) d → Moved c (length c.bytes.now - k) (c.atoms + j) d
+from-behind k j en m =
+    let same = long en in
+    record { same = m.same ∙ en.same; place = m.place ∙ rw same refl; many = m.many ∙ rw en.many refl; held = m.held ∙ en.held }
 
-      pub read_small : p.last < 2 ^ 32
-      read_small = rw seen.made.shape (word_lt 32 (λ q. atom_state (last c.atoms seen.expr) q))
+module _ (m : Mode) (c : Cursor) (moves moves' : Moves) where
+  pub view : (r : Cursor × Shape) → Reads m c moves (Some r) moves' → (f : ℕ) → room m (length c.bytes.now - c.at) ≤ f → View m c moves r moves' f
+  view r h f g = go (read_expr f m (left c)) refl (h f g)
+    where
+      go : (y : Parsed Expr) → read_expr f m (left c) ≡ y → Done c moves (Some r) moves' y → View m c moves r moves' f
+      go (parsed t rest) q made =
+          let (w, split, enough) = bytes_of f m (left c) rest t (line-drop c.at c.bytes.now c.clean) q in
+          let some : 1 ≤ atoms t = atoms-some t in
+          record { expr = t; rest = rest; reading = q; made = made; here = behind c r.0 w rest split made.moved; on = omega (arith, made.moved.place, reached c w rest split) }
+      go fault q i = absurd i
 
-      pub read_at : d.at ≤ 128
-      read_at = omega (arith, read-ready.inside, read-ready.short)
+  pub unread : Reads m c moves None moves' → (f : ℕ) → room m (length c.bytes.now - c.at) ≤ f → read_expr f m (left c) ≡ fault
+  unread h f g = go (read_expr f m (left c)) refl (h f g)
+    where
+      go : (y : Parsed Expr) → read_expr f m (left c) ≡ y → Done c moves None moves' y → read_expr f m (left c) ≡ fault
+      go (parsed t rest) q i = absurd i
+      go fault q i = q
 
-      pub read-atoms : d.atoms ≤ 128
-      read-atoms = omega (arith, read-ready.few, read_at)
+  -- What the calls in the cycle ask of a part that was read: each reads on with less room.
+  module _ (d : Cursor) (p : Shape) (h : Reads m c moves (Some (d, p)) moves') where
+    seen : View m c moves (d, p) moves' (room m (length c.bytes.now - c.at))
+    seen = view (d, p) h (room m (length c.bytes.now - c.at)) (le_refl (room m (length c.bytes.now - c.at)))
 
-      -- on with the pieces of a branch
-      pub on-falls : (t : ℕ) → room Mode.branch (length s - c.at) ≡ t → room Mode.branch (length s - d.at) < t
-      on-falls t h = omega (arith, read-later, read-ready.inside)
+    pub read_small : p.last < 2 ^ 32
+    read_small = rw seen.made.shape (word_lt 32 (λ q. atom_state (last c.atoms seen.expr) q))
 
-      -- behind a bar
-      module _ (b : ℕ) (eb : b ≡ get_or s d.at 0) (bar : b ≡ 124) (n : Cursor) (en : n ≡ past_byte d) where
-        pub bar-ready : Ready s n
-        bar-ready = rw en (past s d read-ready b eb (nonzero b 124 (omega arith) bar))
+    -- on with the pieces of a branch
+    pub on-falls : (t : ℕ) → room Mode.branch (length c.bytes.now - c.at) ≡ t → room Mode.branch (length d.bytes.now - d.at) < t
+    on-falls t h = omega (arith, seen.on, d.inside, long seen.made.moved)
 
-        pub bar-falls : (t : ℕ) → room Mode.alts (length s - c.at) ≡ t → room Mode.alts (length s - n.at) < t
-        bar-falls t h = omega (arith, read-later, bar-ready.inside, ap (λ (z : Cursor). z.at) en)
+    -- behind a bar
+    pub bar-falls : (n : Cursor) → Past d n → (t : ℕ) → room Mode.alts (length c.bytes.now - c.at) ≡ t → room Mode.alts (length n.bytes.now - n.at) < t
+    bar-falls n m t h = omega (arith, seen.on, n.inside, m.place, long m, long seen.made.moved)
 
 -- every bound is some depth
 room-some : (m : Mode) (k : ℕ) → 1 ≤ room m k
@@ -187,19 +168,15 @@ room-some Mode.piece k = omega arith
 room-some Mode.group k = omega arith
 
 -- so it is enough to know what they answer where they may call each other at least one deep
-abbrev Deeper : Mode → List ℕ → Cursor → List ℕ → List ℕ → Part → List ℕ → List ℕ → Type 0
-Deeper m s c keys enter x keys' enter' = (k : ℕ) → room m (length s - c.at) ≤ suc k → ReadsIn (suc k) m s c keys enter x keys' enter'
+abbrev Deeper : Mode → Cursor → Moves → Part → Moves → Type 0
+Deeper m c moves x moves' = (k : ℕ) → room m (length c.bytes.now - c.at) ≤ suc k → ReadsIn (suc k) m c moves x moves'
 
-deeper : (m : Mode) (s : List ℕ) (c : Cursor) (keys enter : List ℕ) (x : Part) (keys' enter' : List ℕ) → Deeper m s c keys enter x keys' enter' → Reads m s c keys enter x keys' enter'
-deeper m s c keys enter x keys' enter' h zero g = absurd (never (room-some m (length s - c.at)) g)
+deeper : (m : Mode) (c : Cursor) (moves : Moves) (x : Part) (moves' : Moves) → Deeper m c moves x moves' → Reads m c moves x moves'
+deeper m c moves x moves' h zero g = absurd (never (room-some m (length c.bytes.now - c.at)) g)
   where
     never : {n : ℕ} → 1 ≤ n → n ≤ 0 → ⊥
     never a b = omega arith
-deeper m s c keys enter x keys' enter' h (suc k) g = h k g
-
--- the bytes behind the byte behind what was read
-skipped : (s : List ℕ) (c d : Cursor) (e : Expr) (rest : List ℕ) → Behind s c d e rest → drop 1 rest ≡ drop (d.at + 1) s
-skipped s c d e rest v = ap (drop 1) v.here ∙ drop-drop 1 d.at s
+deeper m c moves x moves' h (suc k) g = h k g
 
 -- the shapes of two expressions together
 shape-alt : (b : ℕ) (p q : Expr) → alt_shape (shape_of b p) (shape_of (b + atoms p) q) ≡ shape_of b (alt p q)
@@ -210,269 +187,230 @@ shape-seq : (b : ℕ) (p q : Expr) → seq_shape (shape_of b p) (shape_of (b + a
 unfolding nothing
 shape-seq b p q = rw (first-seq b p q, last-seq b p q)
 
--- two expressions were read, the second from base b2 on: the answer for both
-module _ (n : ℕ) (c d : Cursor) (e1 e2 : Expr) (rest : List ℕ) (b2 : ℕ) (base : b2 ≡ c.atoms + atoms e1) (f2 : Case) (same : f2 ≡ c.case) (next : d ≡ record { at = n - length rest; atoms = b2 + atoms e2; case = f2 }) where
-  place-two : d ≡ record { at = n - length rest; atoms = c.atoms + (atoms e1 + atoms e2); case = c.case }
-  place-two = next ∙ rw (base, same, add_assoc)
+-- two expressions were read, the second from the cursor n on: the answer for both
+module _ {c n d2 : Cursor} {e1 e2 : Expr} {rest : List ℕ} {i : ℕ} (to : Moved c i (c.atoms + atoms e1) n) {d : Cursor} {p1 p2 : Shape} {mid : List ℕ} {moves moves' moves'' : Moves} (one : Made c e1 mid moves (d, p1) moves') (two : Made n e2 rest moves' (d2, p2) moves'') where
+  place-two : Moved c (length c.bytes.now - length rest) (c.atoms + (atoms e1 + atoms e2)) d2
+  place-two = record { same = two.moved.same ∙ to.same; place = two.moved.place ∙ rw (long to) refl; many = two.moved.many ∙ rw (to.many, add_assoc); held = two.moved.held ∙ to.held }
 
-  module _ {p1 p2 : Shape} {keys keys' keys'' enter enter' enter'' : List ℕ} (one : Made (set_of c.case) c.atoms e1 p1 keys enter keys' enter') (two : Made (set_of f2) b2 e2 p2 keys' enter' keys'' enter'') where
-    done-alt : (q : Shape) → q ≡ alt_shape p1 p2 → Done n c keys enter (Some (d, q)) keys'' enter'' (parsed (alt e1 e2) rest)
-    unfolding atoms
-    done-alt q e =
-        let whole : q ≡ shape_of c.atoms (alt e1 e2) = e ∙ rw (one.shape, two.shape, base) (shape-alt c.atoms e1 e2) in
-        (same-part place-two whole, two.keyed ∙ rw (base, same, one.keyed) (keys-alt c.atoms e1 e2 (set_of c.case) keys), two.entered ∙ rw (base, one.entered) (enter-alt c.atoms e1 e2 enter))
+  done-alt : (q : Shape) → q ≡ alt_shape p1 p2 → Made c (alt e1 e2) rest moves (d2, q) moves''
+  unfolding atoms
+  done-alt q e =
+      record {
+        moved = place-two;
+        shape = e ∙ rw (one.shape, two.shape, to.many) (shape-alt c.atoms e1 e2);
+        keyed = two.keyed ∙ rw (to.many, to.held, one.keyed) (keys-alt c.atoms e1 e2 (set_of c.case) moves.keys);
+        entered = two.entered ∙ rw (to.many, one.entered) (enter-alt c.atoms e1 e2 moves.enter);
+      }
 
-    done-seq : (q : Shape) (after : List ℕ) → q ≡ seq_shape p1 p2 → after ≡ linked p1.last p2.first enter'' → Done n c keys enter (Some (d, q)) keys'' after (parsed (seq e1 e2) rest)
-    unfolding atoms
-    done-seq q after e f =
-        let whole : q ≡ shape_of c.atoms (seq e1 e2) = e ∙ rw (one.shape, two.shape, base) (shape-seq c.atoms e1 e2) in
-        (same-part place-two whole, two.keyed ∙ rw (base, same, one.keyed) (keys-seq c.atoms e1 e2 (set_of c.case) keys), f ∙ rw (one.shape, two.shape, two.entered, base, one.entered) (enter-seq c.atoms e1 e2 enter))
+  done-seq : (q : Shape) (after : Moves) → q ≡ seq_shape p1 p2 → after.keys ≡ moves''.keys → after.enter ≡ linked p1.last p2.first moves''.enter → Made c (seq e1 e2) rest moves (d2, q) after
+  unfolding atoms
+  done-seq q after e k f =
+      record {
+        moved = place-two;
+        shape = e ∙ rw (one.shape, two.shape, to.many) (shape-seq c.atoms e1 e2);
+        keyed = k ∙ two.keyed ∙ rw (to.many, to.held, one.keyed) (keys-seq c.atoms e1 e2 (set_of c.case) moves.keys);
+        entered = f ∙ rw (one.shape, two.shape, two.entered, to.many, one.entered) (enter-seq c.atoms e1 e2 moves.enter);
+      }
 
-module _ (s : List ℕ) (c : Cursor) (r : Ready s c) (keys enter : List ℕ) where
-  module _ {m : Mode} {d : Cursor} {p : Shape} {keys' enter' : List ℕ} {k : ℕ} (v : View s c m keys enter d p keys' enter' k) where
-    -- an answer is that of what was read
-    answer : Done (length s) c keys enter (Some (d, p)) keys' enter' (parsed v.expr v.rest)
-    answer = (same-part v.behind-it.next v.made.shape, v.made.keyed, v.made.entered)
-
-    -- the byte behind it
-    byte : (b : ℕ) → b ≡ get_or s d.at 0 → at 0 v.rest ≡ b
-    byte b e = ap (at 0) v.behind-it.here ∙ peeked s d.at ∙ sym e
-
+module _ (c : Cursor) (moves : Moves) where
   -- an alternative list
-  module _ (keys' enter' : List ℕ) where
-    pub alts-fault : Reads Mode.branch s c keys enter None keys' enter' → Reads Mode.alts s c keys enter None keys' enter'
+  module _ (moves' : Moves) where
+    pub alts-fault : Reads Mode.branch c moves None moves' → Reads Mode.alts c moves None moves'
     unfolding read_expr
-    alts-fault h = deeper Mode.alts s c keys enter None keys' enter' (λ k g. rw (unread s c r Mode.branch keys enter keys' enter' h k (omega arith)) refl)
+    alts-fault h = deeper Mode.alts c moves None moves' (λ k g. rw (unread Mode.branch c moves moves' h k (omega arith)) (record {}))
 
-    module _ (d : Cursor) (p : Shape) (h : Reads Mode.branch s c keys enter (Some (d, p)) keys' enter') (b : ℕ) (eb : b ≡ get_or s d.at 0) where
+    module _ (d : Cursor) (p : Shape) (h : Reads Mode.branch c moves (Some (d, p)) moves') (b : ℕ) (eb : b ≡ byte_at d) where
       -- what the answer says of the first branch
       abbrev FirstBranch : ℕ → Type 0
-      FirstBranch k = View s c Mode.branch keys enter d p keys' enter' k
+      FirstBranch k = View Mode.branch c moves (d, p) moves' k
 
-      pub alts-one : (b ≡ 124 → ⊥) → Reads Mode.alts s c keys enter (Some (d, p)) keys' enter'
+      pub alts-one : (b ≡ 124 → ⊥) → Reads Mode.alts c moves (Some (d, p)) moves'
       unfolding read_expr
-      alts-one n = deeper Mode.alts s c keys enter (Some (d, p)) keys' enter' (λ k g. go k (view s c r Mode.branch keys enter keys' enter' d p h k (omega arith)))
+      alts-one n = deeper Mode.alts c moves (Some (d, p)) moves' (λ k g. go k (view Mode.branch c moves moves' (d, p) h k (omega arith)))
         where
-          go : (k : ℕ) (v : FirstBranch k) → ReadsIn (suc k) Mode.alts s c keys enter (Some (d, p)) keys' enter'
-          go k v = rw (v.reading, byte v b eb, ne_eqb _ _ n) (answer v)
+          go : (k : ℕ) (v : FirstBranch k) → ReadsIn (suc k) Mode.alts c moves (Some (d, p)) moves'
+          go k v = rw (v.reading, byte-behind d v.here eb, ne_eqb _ _ n) v.made
 
-      module _ (n : Cursor) (keys'' enter'' : List ℕ) (en : n ≡ past_byte d) (bar : b ≡ 124) where
-        pub alts-more-fault : Reads Mode.alts s n keys' enter' None keys'' enter'' → Reads Mode.alts s c keys enter None keys'' enter''
+      module _ (n : Cursor) (moves'' : Moves) (en : Past d n) (bar : b ≡ 124) where
+        -- less room is enough behind the bar
+        less : {k : ℕ} → room Mode.alts (length c.bytes.now - c.at) ≤ suc k → FirstBranch k → room Mode.alts (length n.bytes.now - n.at) ≤ k
+        less g v = omega (arith, v.on, n.inside, en.place, long en, long v.made.moved)
+
+        -- the bytes behind it
+        over : {k : ℕ} (v : FirstBranch k) → drop 1 v.rest ≡ left n
+        over v = ap (drop 1) v.here ∙ sym (past-left en)
+
+        pub alts-more-fault : Reads Mode.alts n moves' None moves'' → Reads Mode.alts c moves None moves''
         unfolding read_expr
-        alts-more-fault hn = deeper Mode.alts s c keys enter None keys'' enter'' (λ k g. go k g (view s c r Mode.branch keys enter keys' enter' d p h k (omega arith)))
+        alts-more-fault hn = deeper Mode.alts c moves None moves'' (λ k g. go k g (view Mode.branch c moves moves' (d, p) h k (omega arith)))
           where
-            go : (k : ℕ) → room Mode.alts (length s - c.at) ≤ suc k → (v : FirstBranch k) → ReadsIn (suc k) Mode.alts s c keys enter None keys'' enter''
-            go k g v =
-                let r2 = past s d v.behind-it.ready b eb (nonzero b 124 (omega arith) bar) in
-                rw (v.reading, byte v b eb, bar, skipped s c d v.expr v.rest v.behind-it, unread s (past_byte d) r2 Mode.alts keys' enter' keys'' enter'' (rw en at hn) k (omega (arith, v.behind-it.on, r2.inside))) refl
+            go : (k : ℕ) → room Mode.alts (length c.bytes.now - c.at) ≤ suc k → (v : FirstBranch k) → ReadsIn (suc k) Mode.alts c moves None moves''
+            go k g v = rw (v.reading, byte-behind d v.here eb, bar, over v, unread Mode.alts n moves' moves'' hn k (less g v)) (record {})
 
-        pub alts-more : (d2 : Cursor) (p2 q : Shape) → Reads Mode.alts s n keys' enter' (Some (d2, p2)) keys'' enter'' → q ≡ alt_shape p p2 → Reads Mode.alts s c keys enter (Some (d2, q)) keys'' enter''
+        pub alts-more : (d2 : Cursor) (p2 q : Shape) → Reads Mode.alts n moves' (Some (d2, p2)) moves'' → q ≡ alt_shape p p2 → Reads Mode.alts c moves (Some (d2, q)) moves''
         unfolding read_expr
-        alts-more d2 p2 q hn g = deeper Mode.alts s c keys enter (Some (d2, q)) keys'' enter'' (λ k i. go k i (view s c r Mode.branch keys enter keys' enter' d p h k (omega arith)))
+        alts-more d2 p2 q hn e = deeper Mode.alts c moves (Some (d2, q)) moves'' (λ k g. go k g (view Mode.branch c moves moves' (d, p) h k (omega arith)))
           where
-            c2 : Cursor
-            c2 = past_byte d
+            both : (k : ℕ) (v : FirstBranch k) → View Mode.alts n moves' (d2, p2) moves'' k → ReadsIn (suc k) Mode.alts c moves (Some (d2, q)) moves''
+            both k v w = rw (v.reading, byte-behind d v.here eb, bar, over v, w.reading) (done-alt (then-past v.made.moved en) v.made w.made q e)
 
-            both : (k : ℕ) (v : FirstBranch k) → View s c2 Mode.alts keys' enter' d2 p2 keys'' enter'' k → ReadsIn (suc k) Mode.alts s c keys enter (Some (d2, q)) keys'' enter''
-            both k v w =
-                rw (v.reading, byte v b eb, bar, skipped s c d v.expr v.rest v.behind-it, w.reading)
-                (done-alt (length s) c d2 v.expr w.expr w.rest d.atoms (ap (λ (z : Cursor). z.atoms) v.behind-it.next) d.case (ap (λ (z : Cursor). z.case) v.behind-it.next) w.behind-it.next v.made w.made q g)
-
-            go : (k : ℕ) → room Mode.alts (length s - c.at) ≤ suc k → (v : FirstBranch k) → ReadsIn (suc k) Mode.alts s c keys enter (Some (d2, q)) keys'' enter''
-            go k i v =
-                let r2 = past s d v.behind-it.ready b eb (nonzero b 124 (omega arith) bar) in
-                both k v (view s c2 r2 Mode.alts keys' enter' keys'' enter'' d2 p2 (rw en at hn) k (omega (arith, v.behind-it.on, r2.inside)))
+            go : (k : ℕ) → room Mode.alts (length c.bytes.now - c.at) ≤ suc k → (v : FirstBranch k) → ReadsIn (suc k) Mode.alts c moves (Some (d2, q)) moves''
+            go k g v = both k v (view Mode.alts n moves' moves'' (d2, p2) hn k (less g v))
 
   -- a branch
-  module _ (keys' enter' : List ℕ) where
-    pub branch-fault : Reads Mode.piece s c keys enter None keys' enter' → Reads Mode.branch s c keys enter None keys' enter'
+  module _ (moves' : Moves) where
+    pub branch-fault : Reads Mode.piece c moves None moves' → Reads Mode.branch c moves None moves'
     unfolding read_expr
-    branch-fault h = deeper Mode.branch s c keys enter None keys' enter' (λ k g. rw (unread s c r Mode.piece keys enter keys' enter' h k (omega arith)) refl)
+    branch-fault h = deeper Mode.branch c moves None moves' (λ k g. rw (unread Mode.piece c moves moves' h k (omega arith)) (record {}))
 
-    module _ (d : Cursor) (p : Shape) (h : Reads Mode.piece s c keys enter (Some (d, p)) keys' enter') (b : ℕ) (eb : b ≡ get_or s d.at 0) (t : Bool) (et : t ≡ ends_pieces b) where
+    module _ (d : Cursor) (p : Shape) (h : Reads Mode.piece c moves (Some (d, p)) moves') (b : ℕ) (eb : b ≡ byte_at d) (t : Bool) (et : t ≡ ends_pieces b) where
       -- what the answer says of the first piece
       abbrev FirstPiece : ℕ → Type 0
-      FirstPiece k = View s c Mode.piece keys enter d p keys' enter' k
+      FirstPiece k = View Mode.piece c moves (d, p) moves' k
 
-      pub branch-last : t ≡ true → Reads Mode.branch s c keys enter (Some (d, p)) keys' enter'
+      pub branch-last : t ≡ true → Reads Mode.branch c moves (Some (d, p)) moves'
       unfolding read_expr
-      branch-last n = deeper Mode.branch s c keys enter (Some (d, p)) keys' enter' (λ k g. go k (view s c r Mode.piece keys enter keys' enter' d p h k (omega arith)))
+      branch-last n = deeper Mode.branch c moves (Some (d, p)) moves' (λ k g. go k (view Mode.piece c moves moves' (d, p) h k (omega arith)))
         where
-          go : (k : ℕ) (v : FirstPiece k) → ReadsIn (suc k) Mode.branch s c keys enter (Some (d, p)) keys' enter'
-          go k v = rw (v.reading, byte v b eb, ← et, n) (answer v)
+          go : (k : ℕ) (v : FirstPiece k) → ReadsIn (suc k) Mode.branch c moves (Some (d, p)) moves'
+          go k v = rw (v.reading, byte-behind d v.here eb, ← et, n) v.made
 
-      module _ (keys'' enter'' : List ℕ) (more : t ≡ false) where
-        pub branch-more-fault : Reads Mode.branch s d keys' enter' None keys'' enter'' → Reads Mode.branch s c keys enter None keys'' enter''
+      module _ (moves'' : Moves) (more : t ≡ false) where
+        -- less room is enough for the other pieces
+        fewer : {k : ℕ} → room Mode.branch (length c.bytes.now - c.at) ≤ suc k → FirstPiece k → room Mode.branch (length d.bytes.now - d.at) ≤ k
+        fewer g v = omega (arith, v.on, d.inside, long v.made.moved)
+
+        pub branch-more-fault : Reads Mode.branch d moves' None moves'' → Reads Mode.branch c moves None moves''
         unfolding read_expr
-        branch-more-fault h2 = deeper Mode.branch s c keys enter None keys'' enter'' (λ k g. go k g (view s c r Mode.piece keys enter keys' enter' d p h k (omega arith)))
+        branch-more-fault h2 = deeper Mode.branch c moves None moves'' (λ k g. go k g (view Mode.piece c moves moves' (d, p) h k (omega arith)))
           where
-            go : (k : ℕ) → room Mode.branch (length s - c.at) ≤ suc k → (v : FirstPiece k) → ReadsIn (suc k) Mode.branch s c keys enter None keys'' enter''
-            go k g v =
-                rw (v.reading, byte v b eb, ← et, more, v.behind-it.here, unread s d v.behind-it.ready Mode.branch keys' enter' keys'' enter'' h2 k (omega (arith, v.behind-it.on, v.behind-it.ready.inside))) refl
+            go : (k : ℕ) → room Mode.branch (length c.bytes.now - c.at) ≤ suc k → (v : FirstPiece k) → ReadsIn (suc k) Mode.branch c moves None moves''
+            go k g v = rw (v.reading, byte-behind d v.here eb, ← et, more, v.here, unread Mode.branch d moves' moves'' h2 k (fewer g v)) (record {})
 
-        module _ (d2 : Cursor) (p2 : Shape) (h2 : Reads Mode.branch s d keys' enter' (Some (d2, p2)) keys'' enter'') where
-          pub branch-more : (q : Shape) (after : List ℕ) → after ≡ linked p.last p2.first enter'' → q ≡ seq_shape p p2 → Reads Mode.branch s c keys enter (Some (d2, q)) keys'' after
-          unfolding read_expr
-          branch-more q after l g = deeper Mode.branch s c keys enter (Some (d2, q)) keys'' after (λ k i. go k i (view s c r Mode.piece keys enter keys' enter' d p h k (omega arith)))
-            where
-              both : (k : ℕ) (v : FirstPiece k) → View s d Mode.branch keys' enter' d2 p2 keys'' enter'' k → ReadsIn (suc k) Mode.branch s c keys enter (Some (d2, q)) keys'' after
-              both k v w =
-                  rw (v.reading, byte v b eb, ← et, more, v.behind-it.here, w.reading)
-                  (done-seq (length s) c d2 v.expr w.expr w.rest d.atoms (ap (λ (z : Cursor). z.atoms) v.behind-it.next) d.case (ap (λ (z : Cursor). z.case) v.behind-it.next) w.behind-it.next v.made w.made q after g l)
+        pub branch-more : (d2 : Cursor) (p2 q : Shape) (after : Moves) → Reads Mode.branch d moves' (Some (d2, p2)) moves'' → after.keys ≡ moves''.keys → after.enter ≡ linked p.last p2.first moves''.enter → q ≡ seq_shape p p2 → Reads Mode.branch c moves (Some (d2, q)) after
+        unfolding read_expr
+        branch-more d2 p2 q after h2 u l e = deeper Mode.branch c moves (Some (d2, q)) after (λ k g. go k g (view Mode.piece c moves moves' (d, p) h k (omega arith)))
+          where
+            both : (k : ℕ) (v : FirstPiece k) → View Mode.branch d moves' (d2, p2) moves'' k → ReadsIn (suc k) Mode.branch c moves (Some (d2, q)) after
+            both k v w = rw (v.reading, byte-behind d v.here eb, ← et, more, v.here, w.reading) (done-seq v.made.moved v.made w.made q after e u l)
 
-              go : (k : ℕ) → room Mode.branch (length s - c.at) ≤ suc k → (v : FirstPiece k) → ReadsIn (suc k) Mode.branch s c keys enter (Some (d2, q)) keys'' after
-              go k i v = both k v (view s d v.behind-it.ready Mode.branch keys' enter' keys'' enter'' d2 p2 h2 k (omega (arith, v.behind-it.on, v.behind-it.ready.inside)))
+            go : (k : ℕ) → room Mode.branch (length c.bytes.now - c.at) ≤ suc k → (v : FirstPiece k) → ReadsIn (suc k) Mode.branch c moves (Some (d2, q)) after
+            go k g v = both k v (view Mode.branch d moves' moves'' (d2, p2) h2 k (fewer g v))
 
   -- a group behind its parenthesis
-  module _ (keys' enter' : List ℕ) where
-    pub group-fault : Reads Mode.alts s c keys enter None keys' enter' → Reads Mode.group s c keys enter None keys' enter'
+  module _ (moves' : Moves) where
+    pub group-fault : Reads Mode.alts c moves None moves' → Reads Mode.group c moves None moves'
     unfolding read_expr
-    group-fault h = deeper Mode.group s c keys enter None keys' enter' (λ k g. rw (unread s c r Mode.alts keys enter keys' enter' h k (omega arith)) refl)
+    group-fault h = deeper Mode.group c moves None moves' (λ k g. rw (unread Mode.alts c moves moves' h k (omega arith)) (record {}))
 
-    module _ (d : Cursor) (p : Shape) (h : Reads Mode.alts s c keys enter (Some (d, p)) keys' enter') (b : ℕ) (eb : b ≡ get_or s d.at 0) where
-      pub group-open : (b ≡ 41 → ⊥) → Reads Mode.group s c keys enter None keys' enter'
+    module _ (d : Cursor) (p : Shape) (h : Reads Mode.alts c moves (Some (d, p)) moves') (b : ℕ) (eb : b ≡ byte_at d) where
+      pub group-open : (b ≡ 41 → ⊥) → Reads Mode.group c moves None moves'
       unfolding read_expr
-      group-open n = deeper Mode.group s c keys enter None keys' enter' (λ k g. go k (view s c r Mode.alts keys enter keys' enter' d p h k (omega arith)))
+      group-open n = deeper Mode.group c moves None moves' (λ k g. go k (view Mode.alts c moves moves' (d, p) h k (omega arith)))
         where
-          go : (k : ℕ) (v : View s c Mode.alts keys enter d p keys' enter' k) → ReadsIn (suc k) Mode.group s c keys enter None keys' enter'
-          go k v = rw (v.reading, byte v b eb, ne_eqb _ _ n) refl
+          go : (k : ℕ) (v : View Mode.alts c moves (d, p) moves' k) → ReadsIn (suc k) Mode.group c moves None moves'
+          go k v = rw (v.reading, byte-behind d v.here eb, ne_eqb _ _ n) (record {})
 
-      closed : b ≡ 41 → Reads Mode.group s c keys enter (Some (past_byte d, p)) keys' enter'
+      pub group-closed : (n : Cursor) → Past d n → b ≡ 41 → Reads Mode.group c moves (Some (n, p)) moves'
       unfolding read_expr atoms nothing first last follow holds
-      closed n = deeper Mode.group s c keys enter (Some (past_byte d, p)) keys' enter' (λ k g. go k (view s c r Mode.alts keys enter keys' enter' d p h k (omega arith)))
+      group-closed n en e = deeper Mode.group c moves (Some (n, p)) moves' (λ k g. go k (view Mode.alts c moves moves' (d, p) h k (omega arith)))
         where
-          go : (k : ℕ) (v : View s c Mode.alts keys enter d p keys' enter' k) → ReadsIn (suc k) Mode.group s c keys enter (Some (past_byte d, p)) keys' enter'
-          go k v =
-              let r2 = past s d v.behind-it.ready b eb (nonzero b 41 (omega arith) n) in
-              let place : d.at + 1 ≡ length s - length (drop 1 v.rest) = rw (skipped s c d v.expr v.rest v.behind-it, length-drop) (omega (arith, r2.inside)) in
-              let many : d.atoms ≡ c.atoms + atoms v.expr = ap (λ (z : Cursor). z.atoms) v.behind-it.next in
-              let held : d.case ≡ c.case = ap (λ (z : Cursor). z.case) v.behind-it.next in
-              rw (v.reading, byte v b eb, n) (rw (place, many, held, v.made.shape), v.made.keyed, v.made.entered)
+          go : (k : ℕ) (v : View Mode.alts c moves (d, p) moves' k) → ReadsIn (suc k) Mode.group c moves (Some (n, p)) moves'
+          go k v = rw (v.reading, byte-behind d v.here eb, e) (record { moved = then-skip v.rest v.here v.made.moved en; shape = v.made.shape; keyed = v.made.keyed; entered = v.made.entered })
 
-      pub group-closed : (n : Cursor) → n ≡ past_byte d → b ≡ 41 → Reads Mode.group s c keys enter (Some (n, p)) keys' enter'
-      group-closed n en h = rw en (closed h)
-
--- what a mark behind a part makes of it and of the table of states, by the tests for `*`, `+` and `?`
-abbrev part_by : Bool → Bool → Bool → Cursor → Shape → Cursor × Shape
-part_by t u w d p = (record { at = cond (t || (u || w)) (d.at + 1) d.at; atoms = d.atoms; case = d.case }, cond (t || w) (record { nothing = true; first = p.first; last = p.last }) p)
+-- what a mark behind a part makes of its place, of it and of the table of states, by the tests for `*`, `+` and `?`
+abbrev MarkedBy : Bool → Bool → Bool → Cursor → Shape → Cursor × Shape → Type 0
+MarkedBy t u w d p r = Moved d (cond (t || (u || w)) (d.at + 1) d.at) d.atoms r.0 × (r.1 ≡ cond (t || w) (record { nothing = true; first = p.first; last = p.last }) p)
 
 abbrev enter_by : Bool → Bool → Shape → List ℕ → List ℕ
 enter_by t u p enter = cond (t || u) (linked p.last p.first enter) enter
 
--- an atom or a group was read, and a mark of repetition m or none stands behind it
-module _ {s rest keys enter keys' enter' : List ℕ} {c d : Cursor} {e : Expr} {p : Shape} (v : Behind s c d e rest) (made : Made (set_of c.case) c.atoms e p keys enter keys' enter') where
-  done-repeat : (m : ℕ) → m ≡ get_or s d.at 0 → (y : Cursor × Shape) (after : List ℕ) → y ≡ repeat_part m d p → after ≡ repeat_enter m p enter' → Done (length s) c keys enter (Some y) keys' after (read_repeat e rest)
+-- an atom or a group was read, and a mark of repetition or none stands behind it
+module _ {rest : List ℕ} {moves moves' : Moves} {c d : Cursor} {e : Expr} {p : Shape} (here : rest ≡ left d) (made : Made c e rest moves (d, p) moves') where
+  done-repeat : (r : Cursor × Shape) (after : Moves) → Repeats d p r → after.keys ≡ moves'.keys → after.enter ≡ repeat_enter (byte_at d) p moves'.enter → Done c moves (Some r) after (read_repeat e rest)
   unfolding read_repeat atoms nothing first last follow holds
-  done-repeat m em y after ey ea = rw (ey, ea, front) (go (eqb m 42) (eqb m 43) (eqb m 63) refl refl refl)
+  done-repeat r after er ek ea = rw (byte-behind d here refl) (go (eqb (byte_at d) 42) (eqb (byte_at d) 43) (eqb (byte_at d) 63) refl refl er ea)
     where
-      front : at 0 rest ≡ m
-      front = ap (at 0) v.here ∙ peeked s d.at ∙ sym em
-
-      many : d.atoms ≡ c.atoms + atoms e
-      many = ap (λ (z : Cursor). z.atoms) v.next
-
-      held : d.case ≡ c.case
-      held = ap (λ (z : Cursor). z.case) v.next
-
-      on : (n : ℕ) → 1 ≤ n → eqb m n ≡ true → d.at + 1 ≡ length s - length (drop 1 rest)
-      on n l q =
-          let i : d.at < length s = inside s d.at (λ z. nonzero m n l (eqb-true m n q) (em ∙ z)) in
-          rw (v.here, length-drop, length-drop) (omega arith)
-
-      two : m ≡ 43 → m ≡ 63 → ⊥
+      two : {m : ℕ} → m ≡ 43 → m ≡ 63 → ⊥
       two f g = omega arith
 
-      go : (t u w : Bool) → eqb m 42 ≡ t → eqb m 43 ≡ u → eqb m 63 ≡ w → Done (length s) c keys enter (Some (part_by t u w d p)) keys' (enter_by t u p enter') (marked_by t u w e rest)
-      go true u w i j k = (rw (on 42 (omega arith) i, many, held, made.shape), made.keyed, rw (made.shape, made.entered) (enter-again c.atoms e enter))
-      go false true true i j k = absurd (two (eqb-true m 43 j) (eqb-true m 63 k))
-      go false true false i j k = (rw (on 43 (omega arith) j, many, held, made.shape), made.keyed, rw (made.shape, made.entered) (enter-again c.atoms e enter))
-      go false false true i j k = (rw (on 63 (omega arith) k, many, held, made.shape), made.keyed, made.entered)
-      go false false false i j k = (same-part v.next made.shape, made.keyed, made.entered)
+      on : Past d r.0 → Moved c (length c.bytes.now - length (drop 1 rest)) (c.atoms + atoms e) r.0
+      on v = then-skip rest here made.moved v
 
-module _ (s : List ℕ) (c : Cursor) (r : Ready s c) (keys enter : List ℕ) (b : ℕ) (eb : b ≡ get_or s c.at 0) where
-  opened : at 0 (drop c.at s) ≡ b
-  opened = peeked s c.at ∙ sym eb
+      go : (t u w : Bool) → eqb (byte_at d) 43 ≡ u → eqb (byte_at d) 63 ≡ w → MarkedBy t u w d p r → after.enter ≡ enter_by t u p moves'.enter → Done c moves (Some r) after (marked_by t u w e rest)
+      go true u w j k (m, q) g = record { moved = on m; shape = q ∙ rw made.shape refl; keyed = ek ∙ made.keyed; entered = g ∙ rw (made.shape, made.entered) (enter-again c.atoms e moves.enter) }
+      go false true true j k (m, q) g = absurd (two (eqb-true _ 43 j) (eqb-true _ 63 k))
+      go false true false j k (m, q) g = record { moved = on m; shape = q ∙ rw made.shape refl; keyed = ek ∙ made.keyed; entered = g ∙ rw (made.shape, made.entered) (enter-again c.atoms e moves.enter) }
+      go false false true j k (m, q) g = record { moved = on m; shape = q ∙ rw made.shape refl; keyed = ek ∙ made.keyed; entered = g ∙ made.entered }
+      go false false false j k (m, q) g = record { moved = then-still made.moved m; shape = q ∙ made.shape; keyed = ek ∙ made.keyed; entered = g ∙ made.entered }
+
+-- a part that was read from the cursor behind a byte is read from the byte's own
+from-past : {c n : Cursor} {e : Expr} {rest : List ℕ} {moves moves' : Moves} {r : Cursor × Shape} → Past c n → Made n e rest moves r moves' → Made c e rest moves r moves'
+from-past en v =
+    record {
+      moved = from-behind _ _ en v.moved;
+      shape = v.shape ∙ rw en.many refl;
+      keyed = v.keyed ∙ rw (en.many, en.held) refl;
+      entered = v.entered ∙ rw en.many refl;
+    }
+
+-- an atom was read
+module _ {c : Cursor} {keys' : List ℕ} {r : Cursor × Shape} {a : Atom} {rest : List ℕ} where
+  atom-made : (moves : Moves) → AtomMade c a rest moves.keys r keys' → Made c (atom a) rest moves r (record { keys = keys'; enter = moves.enter })
+  unfolding atoms
+  atom-made moves v = record { moved = v.moved; shape = v.shape; keyed = v.keyed; entered = enter-atom c.atoms a moves.enter }
+
+  atom-behind : {keys : List ℕ} → read_atom (left c) ≡ parsed a rest → AtomMade c a rest keys r keys' → rest ≡ left r.0
+  atom-behind q v = behind c r.0 (write_atom a) rest (atom-from (left c) rest a (line-drop c.at c.bytes.now c.clean) q).0 v.moved
+
+module _ (c : Cursor) (moves : Moves) (b : ℕ) (eb : b ≡ byte_at c) where
+  opened : at 0 (left c) ≡ b
+  opened = byte-behind c refl eb
 
   -- a piece that is a group
-  module _ (paren : b ≡ 40) (n : Cursor) (en : n ≡ past_byte c) (keys' enter' : List ℕ) where
-    r2 : Ready s (past_byte c)
-    r2 = past s c r b eb (nonzero b 40 (omega arith) paren)
+  module _ (paren : b ≡ 40) (n : Cursor) (en : Past c n) (moves' : Moves) where
+    -- less room is enough behind the parenthesis
+    inner : {k : ℕ} → room Mode.piece (length c.bytes.now - c.at) ≤ suc k → room Mode.group (length n.bytes.now - n.at) ≤ k
+    inner g = omega (arith, n.inside, en.place, long en)
 
-    pub piece-fault : Reads Mode.group s n keys enter None keys' enter' → Reads Mode.piece s c keys enter None keys' enter'
+    pub piece-fault : Reads Mode.group n moves None moves' → Reads Mode.piece c moves None moves'
     unfolding read_expr
-    piece-fault hn = deeper Mode.piece s c keys enter None keys' enter' (λ k g. rw (opened, paren, drop-drop 1 c.at s, unread s (past_byte c) r2 Mode.group keys enter keys' enter' (rw en at hn) k (omega (arith, r2.inside))) refl)
+    piece-fault hn = deeper Mode.piece c moves None moves' (λ k g. rw (opened, paren, ← past-left en, unread Mode.group n moves moves' hn k (inner g)) (record {}))
 
-    module _ (d : Cursor) (p : Shape) (hn : Reads Mode.group s n keys enter (Some (d, p)) keys' enter') (m : ℕ) (em : m ≡ get_or s d.at 0) where
-      pub piece-group : (y : Cursor × Shape) (after : List ℕ) → y ≡ repeat_part m d p → after ≡ repeat_enter m p enter' → Reads Mode.piece s c keys enter (Some y) keys' after
+    module _ (d : Cursor) (p : Shape) (hn : Reads Mode.group n moves (Some (d, p)) moves') where
+      pub piece-group : (r : Cursor × Shape) (after : Moves) → Repeats d p r → after.keys ≡ moves'.keys → after.enter ≡ repeat_enter (byte_at d) p moves'.enter → Reads Mode.piece c moves (Some r) after
       unfolding read_expr
-      piece-group y after ey ea = deeper Mode.piece s c keys enter (Some y) keys' after (λ k g. go k (view s (past_byte c) r2 Mode.group keys enter keys' enter' d p (rw en at hn) k (omega (arith, r2.inside))))
+      piece-group r after er ek ea = deeper Mode.piece c moves (Some r) after (λ k g. go k (view Mode.group n moves moves' (d, p) hn k (inner g)))
         where
-          go : (k : ℕ) (v : View s (past_byte c) Mode.group keys enter d p keys' enter' k) → ReadsIn (suc k) Mode.piece s c keys enter (Some y) keys' after
-          go k v =
-              rw (opened, paren, drop-drop 1 c.at s, v.reading)
-              (done-repeat {c = c} (record { next = v.behind-it.next; here = v.behind-it.here; on = omega (arith, v.behind-it.on); ready = v.behind-it.ready }) v.made m em y after ey ea)
+          go : (k : ℕ) (v : View Mode.group n moves (d, p) moves' k) → ReadsIn (suc k) Mode.piece c moves (Some r) after
+          go k v = rw (opened, paren, ← past-left en, v.reading) (done-repeat v.here (from-past en v.made) r after er ek ea)
 
   -- a piece that is an atom
-  module _ (plain-one : b ≡ 40 → ⊥) (keys' : List ℕ) where
-    pub piece-atom-fault : ReadsAtom s c keys None keys' → Reads Mode.piece s c keys enter None keys' enter
+  module _ (plain-one : b ≡ 40 → ⊥) where
+    pub piece-atom-fault : (moves' : Moves) → ReadsAtom c moves.keys None moves'.keys → Reads Mode.piece c moves None moves'
     unfolding read_expr
-    piece-atom-fault h = deeper Mode.piece s c keys enter None keys' enter (λ k g. rw (opened, ne_eqb _ _ plain-one) (go (read_atom (drop c.at s)) h))
+    piece-atom-fault moves' h = deeper Mode.piece c moves None moves' (λ k g. rw (opened, ne_eqb _ _ plain-one) (go (read_atom (left c)) h))
       where
-        go : (y : Parsed Atom) → AtomDone (length s) c keys None keys' y → Done (length s) c keys enter None keys' enter (next (next y (λ a. done (atom a))) read_repeat)
-        go (parsed a rest) (i, j) = clash (cc)
-        go fault i = refl
+        go : (y : Parsed Atom) → AtomDone c moves.keys None moves'.keys y → Done c moves None moves' (next (next y (λ a. done (atom a))) read_repeat)
+        go (parsed a rest) i = absurd i
+        go fault i = record {}
 
-    module _ (d : Cursor) (p : Shape) (h : ReadsAtom s c keys (Some (d, p)) keys') (m : ℕ) (em : m ≡ get_or s d.at 0) where
-      pub piece-atom : (y : Cursor × Shape) (after : List ℕ) → y ≡ repeat_part m d p → after ≡ repeat_enter m p enter → Reads Mode.piece s c keys enter (Some y) keys' after
-      unfolding read_expr atoms
-      piece-atom y after ey ea = deeper Mode.piece s c keys enter (Some y) keys' after (λ k g. rw (opened, ne_eqb _ _ plain-one) (go (read_atom (drop c.at s)) refl h))
-        where
-          go : (z : Parsed Atom) → read_atom (drop c.at s) ≡ z → AtomDone (length s) c keys (Some (d, p)) keys' z → Done (length s) c keys enter (Some y) keys' after (next (next z (λ a. done (atom a))) read_repeat)
-          go (parsed a rest) q (i, j) =
-              let (there, shape) = some_pair_parts d _ p _ i in
-              let v = behind s c r d (atom a) (write_atom a) rest (atom-from (drop c.at s) rest a (line-drop c.at s r.clean) q).0 (atom-long a) there in
-              let made : Made (set_of c.case) c.atoms (atom a) p keys enter keys' enter = record { shape = shape; keyed = j; entered = enter-atom c.atoms a enter } in
-              done-repeat v made m em y after ey ea
-          go fault q i = clash (cc)
+    pub piece-atom : (d : Cursor) (p : Shape) (keys' : List ℕ) (r : Cursor × Shape) (after : Moves) → ReadsAtom c moves.keys (Some (d, p)) keys' → Repeats d p r → after.keys ≡ keys' → after.enter ≡ repeat_enter (byte_at d) p moves.enter → Reads Mode.piece c moves (Some r) after
+    unfolding read_expr
+    piece-atom d p keys' r after h er ek ea = deeper Mode.piece c moves (Some r) after (λ k g. rw (opened, ne_eqb _ _ plain-one) (go (read_atom (left c)) refl h))
+      where
+        go : (z : Parsed Atom) → read_atom (left c) ≡ z → AtomDone c moves.keys (Some (d, p)) keys' z → Done c moves (Some r) after (next (next z (λ a. done (atom a))) read_repeat)
+        go (parsed a rest) q v = done-repeat (atom-behind q v) (atom-made moves v) r after er ek ea
+        go fault q i = absurd i
 
--- a cursor that is ready, and one behind a parenthesis
-module _ (s : List ℕ) (c : Cursor) (r : Ready s c) where
-  pub ready_at : c.at ≤ 128
-  ready_at = omega (arith, r.inside, r.short)
+-- a group is read with less room than the piece that it is
+pub paren-falls : (c n : Cursor) → Past c n → (t : ℕ) → room Mode.piece (length c.bytes.now - c.at) ≡ t → room Mode.group (length n.bytes.now - n.at) < t
+paren-falls c n en t h = omega (arith, n.inside, en.place, long en)
 
-  pub ready-atoms : c.atoms ≤ 128
-  ready-atoms = omega (arith, r.few, ready_at)
-
-  module _ (b : ℕ) (eb : b ≡ get_or s c.at 0) (paren : b ≡ 40) (n : Cursor) (en : n ≡ past_byte c) where
-    pub paren-ready : Ready s n
-    paren-ready = rw en (past s c r b eb (nonzero b 40 (omega arith) paren))
-
-    pub paren-falls : (t : ℕ) → room Mode.piece (length s - c.at) ≡ t → room Mode.group (length s - n.at) < t
-    paren-falls t h = omega (arith, paren-ready.inside, ap (λ (z : Cursor). z.at) en)
-
-    -- the group that was read
-    module _ (keys enter keys' enter' : List ℕ) (d : Cursor) (p : Shape) (h : Reads Mode.group s n keys enter (Some (d, p)) keys' enter') where
-      pub group-ready : Ready s d
-      group-ready = read-ready s n paren-ready Mode.group keys enter keys' enter' d p h
-
-      pub group-small : p.last < 2 ^ 32
-      group-small = read_small s n paren-ready Mode.group keys enter keys' enter' d p h
-
--- an atom leaves a cursor that is ready, and a small word
-module _ (s : List ℕ) (c : Cursor) (r : Ready s c) (keys keys' : List ℕ) (d : Cursor) (p : Shape) (h : ReadsAtom s c keys (Some (d, p)) keys') where
-  atom-seen : (Ready s d) × (p.last < 2 ^ 32)
-  unfolding atoms
-  atom-seen = go (read_atom (drop c.at s)) refl h
-    where
-      go : (z : Parsed Atom) → read_atom (drop c.at s) ≡ z → AtomDone (length s) c keys (Some (d, p)) keys' z → (Ready s d) × (p.last < 2 ^ 32)
-      go (parsed a rest) q (i, j) =
-          let (there, shape) = some_pair_parts d _ p _ i in
-          let v = behind s c r d (atom a) (write_atom a) rest (atom-from (drop c.at s) rest a (line-drop c.at s r.clean) q).0 (atom-long a) there in
-          (v.ready, rw shape (word_lt 32 (λ q. atom_state (last c.atoms (atom a)) q)))
-      go fault q i = clash (cc)
-
-  pub atom-ready : Ready s d
-  atom-ready = atom-seen.0
-
-  pub atom-small : p.last < 2 ^ 32
-  atom-small = atom-seen.1
+-- an atom leaves a small word
+pub atom-small : (c : Cursor) (keys keys' : List ℕ) (d : Cursor) (p : Shape) → ReadsAtom c keys (Some (d, p)) keys' → p.last < 2 ^ 32
+atom-small c keys keys' d p h = go (read_atom (left c)) h
+  where
+    go : (z : Parsed Atom) → AtomDone c keys (Some (d, p)) keys' z → p.last < 2 ^ 32
+    go (parsed a rest) v = rw v.shape (word_lt 32 (λ q. atom_state (last c.atoms (atom a)) q))
+    go fault i = absurd i

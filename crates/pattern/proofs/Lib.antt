@@ -18,7 +18,6 @@ pub mod TreesBack
 pub mod Branches
 pub mod Accepts
 pub mod Linking
-pub mod Repeats
 pub mod Atoms
 pub mod Cycles
 pub mod Anchors

@@ -11,7 +11,6 @@ use borrow.Author.Tests.{le-leb, lt-leb, eqb-true, eqb-false, ltb-true, ltb-fals
 use Rattle.refusal.specs.declared.Refusal.TheVariants.{PatternLength, PatternSyntax}
 use Rattle.letters.specs.declared.Case.{Case}
 use Rattle.pattern.specs.Reader.{refused, read_branches, counted, read_pattern}
-use Rattle.pattern.specs.Cycle.{Ready}
 use Rattle.std.specs.Prelude.{Result, Err}
 use Rattle.refusal.specs.declared.Refusal.{Refusal}
 use Rattle.pattern.specs.declared.automaton.Tables.{Tables}
@@ -70,9 +69,6 @@ module _ (s : List ℕ) where
 
     -- or as its branches say
     module _ (e : t ≡ true) where
-      pub pattern-ready : (c : Case) → Ready s (record { at = 0; atoms = 0; case = c })
-      pattern-ready c = record { inside = omega arith; short = short; few = omega arith; clean = sym d ∙ e }
-
       same : counted (read_branches (length s) s) ≡ read_pattern s
       unfolding read_pattern
       same = rw (le-leb 1 (length s) some, le-leb (length s) 128 short, sym d ∙ e) refl

@@ -1,14 +1,16 @@
 -- What the branches of a pattern come to, by the definitions on its tree.
-use Rattle.std.specs.Prelude.{ℕ, ◌+◌, ◌-◌, ◌≤◌, ◌≡◌, Bool, not, ◌&&◌, ◌||◌, cond, List, [], ◌∷◌, length, drop, Some, None}
+use Rattle.std.specs.Prelude.{ℕ, ◌+◌, ◌-◌, ◌≤◌, ◌≡◌, Bool, not, ◌&&◌, ◌||◌, cond, List, [], ◌∷◌, length, Some, None}
 use Rattle.std.specs.Prelude as prelude
 use Rattle.std.proofs.Math.Option.{Option}
 use Rattle.std.specs.Int.Bits.{bit_or}
 use Rattle.pattern.specs.declared.cursor.Cursor.{Cursor}
+use Rattle.pattern.specs.declared.shape.Moves.{Moves}
 use Rattle.pattern.specs.declared.shape.Shape.{Shape}
 use Rattle.pattern.specs.declared.summary.Summary.{Summary}
 use Rattle.brackets.specs.Sets.{set_of}
 use Rattle.brackets.specs.Brackets.{Parsed, parsed, fault}
 use Rattle.pattern.specs.Reader.{read_branches}
+use Rattle.pattern.specs.Cycle.{left}
 use Rattle.pattern.specs.Branches.{shape_in, keys_in, enter_in}
 use Rattle.pattern.specs.Form.{Expr, Branch, Pattern, atoms_in, atom_count}
 
@@ -54,12 +56,12 @@ abbrev pub PatternRead : Type 0
 PatternRead = prelude.Option (ℕ × Summary)
 
 -- what the reader of branches at cursor c answers, where those before come to a
-abbrev pub PatternDone : Cursor → Summary → List ℕ → List ℕ → PatternRead → List ℕ → List ℕ → Parsed Pattern → Type 0
-PatternDone c a keys enter r keys' enter' (parsed t rest) =
-    (r ≡ Some (c.atoms + atom_count t, summary_of c.atoms t a))
-    × (keys' ≡ through (keys_in (set_of c.case)) c.atoms t keys)
-    × (enter' ≡ through enter_in c.atoms t enter)
-PatternDone c a keys enter r keys' enter' fault = r ≡ None
+abbrev pub PatternDone : Cursor → Summary → Moves → PatternRead → Moves → Parsed Pattern → Type 0
+PatternDone c a t r t' (parsed p rest) =
+    (r ≡ Some (c.atoms + atom_count p, summary_of c.atoms p a))
+    × (t'.keys ≡ through (keys_in (set_of c.case)) c.atoms p t.keys)
+    × (t'.enter ≡ through enter_in c.atoms p t.enter)
+PatternDone c a t r t' fault = r ≡ None
 
-abbrev pub ReadsBranches : List ℕ → Cursor → Summary → List ℕ → List ℕ → PatternRead → List ℕ → List ℕ → Type 0
-ReadsBranches s c a keys enter r keys' enter' = (f : ℕ) → length s - c.at ≤ f → PatternDone c a keys enter r keys' enter' (read_branches f (drop c.at s))
+abbrev pub ReadsBranches : Cursor → Summary → Moves → PatternRead → Moves → Type 0
+ReadsBranches c a t r t' = (f : ℕ) → length c.bytes.now - c.at ≤ f → PatternDone c a t r t' (read_branches f (left c))

@@ -1,8 +1,7 @@
 // An atom: its reader stands in `brackets`; here it gets its number and its state.
-ghost use Rattle.std.specs.Prelude.{◌≡◌, eqb, drop, length};
-ghost use Rattle.brackets.specs.Brackets.{read_atom};
+ghost use Rattle.std.specs.Prelude.{◌≡◌, eqb};
 ghost use Rattle.pattern.specs.States.{atom_word};
-ghost use Rattle.pattern.specs.Cycle.{AtomDone, Ready};
+ghost use Rattle.pattern.specs.Cycle.{ReadsAtom};
 
 use crate::cursor::Cursor;
 use crate::shape::Shape;
@@ -20,15 +19,14 @@ fn atom_set(k: usize) -> u64
     }
 }
 
-impl Cursor {
+impl<'a> Cursor<'a> {
     // The atom at the cursor: the cursor behind it, and its shape. Its keys go into the table.
-    pub(crate) fn atom(self, s: &[u8], keys: &mut [u64; 256]) -> Option<(Cursor, Shape)>
-        requires { Ready s.now self }
-        ensures { AtomDone (length s.now) self keys.old result keys.new (read_atom (drop self.at s.now)) }
+    pub(crate) fn atom(self, keys: &mut [u64; 256]) -> Option<(Cursor<'a>, Shape)>
+        ensures { ReadsAtom self.entry keys.old result keys.new }
     {
         let set = atom_set(self.atoms);
         let here = AtomCursor { at: self.at };
-        let next = here.atom(s, self.case, set, keys)?;
+        let next = here.atom(self.bytes, self.case, set, keys)?;
         let shape = Shape {
             nothing: false,
             first: set,

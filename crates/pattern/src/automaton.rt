@@ -1,11 +1,12 @@
 // What reading a pattern yields: the tables of its automaton (document 01, "States and steps").
-ghost use Rattle.std.specs.Prelude.{◌≡◌, ◌≤◌, length};
+ghost use Rattle.std.specs.Prelude.{◌≡◌, ◌≤◌, length, true};
+ghost use Rattle.runs.specs.Keys.{is_line};
 ghost use Rattle.pattern.specs.Reader.{counted, read_branches, read_pattern};
-ghost use Rattle.pattern.specs.Cycle.{Ready};
 ghost use Rattle.pattern.specs.Automata.{accepting_of, read_figures, tables_of, verdict_figures};
 
 use crate::clean::clean;
 use crate::cursor::Cursor;
+use crate::shape::Moves;
 use crate::state::State;
 use crate::summary::Summary;
 use letters::Case;
@@ -56,11 +57,13 @@ fn summed(a: Summary, atoms: usize) -> Accepting
 
 // A pattern of up to 128 bytes, none of which is 0 or 10.
 fn read_clean(s: &[u8], case: Case) -> Result<Tables, Refusal>
-    requires { Ready s.now (record { at = 0; atoms = 0; case = case }) }
+    requires { (length s.now ≤ 128) × (is_line s.now ≡ true) }
     ensures { result ≡ tables_of case (counted (read_branches (length s.now) s.now)) }
 {
-    let mut keys = [0; 256];
-    let mut enter = [0; 32];
+    let mut moves = Moves {
+        keys: [0; 256],
+        enter: [0; 32],
+    };
     let none = Summary {
         first: 0,
         free: 0,
@@ -69,19 +72,19 @@ fn read_clean(s: &[u8], case: Case) -> Result<Tables, Refusal>
         empty: false,
         jump: false,
     };
-    let read = Cursor::start(case).branches(s, none, &mut keys, &mut enter);
+    let read = Cursor::start(s, case).branches(none, &mut moves);
     let Some((atoms, sum)) = read else {
         return Err(Refusal::PatternSyntax);
     };
     if atoms > 29 {
         return Err(Refusal::TooManyAtoms);
     }
-    enter[State::LINE_START.place()] = sum.first;
-    enter[State::MID_LINE.place()] = sum.free;
+    moves.enter[State::LINE_START.place()] = sum.first;
+    moves.enter[State::MID_LINE.place()] = sum.free;
     let accepting = summed(sum, atoms);
     Ok(Tables {
-        keys,
-        enter,
+        keys: moves.keys,
+        enter: moves.enter,
         accepting,
     })
 }

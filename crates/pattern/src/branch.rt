@@ -1,12 +1,8 @@
 // A branch of the whole pattern (document 01, "Patterns"): an optional `^`, pieces, an optional `$`.
-ghost use Rattle.std.specs.Prelude.{drop, length};
-ghost use Rattle.pattern.specs.Reader.{read_branch, read_rest};
-ghost use Rattle.pattern.specs.Cycle.{Ready};
-ghost use Rattle.pattern.specs.Branches.{BranchDone, EndDone};
+ghost use Rattle.pattern.specs.Branches.{EndDone, ReadsBranch, ReadsRest};
 
 use crate::cursor::{Cursor, ends_pieces};
-use crate::shape::Shape;
-use brackets::peek;
+use crate::shape::{Moves, Shape};
 
 // Whether a branch has `^`, its pieces' shape, and whether it has `$`.
 #[derive(Clone, Copy)]
@@ -16,52 +12,38 @@ pub(crate) struct BranchShape {
     pub end: bool,
 }
 
-impl Cursor {
+impl<'a> Cursor<'a> {
     // The optional `$` behind pieces.
-    fn branch_end(self, s: &[u8], start: bool, pieces: Shape) -> (Cursor, BranchShape)
-        requires { Ready s.now self }
-        ensures { EndDone s.now self start pieces result }
+    fn branch_end(self, start: bool, pieces: Shape) -> (Cursor<'a>, BranchShape)
+        ensures { EndDone self.entry start pieces result }
     {
-        let end = peek(s, self.at) == b'$';
+        let end = self.byte() == b'$';
         let here = if end { self.past() } else { self };
         (here, BranchShape { start, pieces, end })
     }
 
     // A branch whose optional `^` is passed.
-    fn branch_rest(
-        self,
-        s: &[u8],
-        start: bool,
-        keys: &mut [u64; 256],
-        enter: &mut [u64; 32],
-    ) -> Option<(Cursor, BranchShape)>
-        requires { Ready s.now self }
-        ensures { BranchDone (length s.now) self keys.old enter.old result keys.new enter.new (read_rest start (drop self.at s.now)) }
+    fn branch_rest(self, start: bool, moves: &mut Moves) -> Option<(Cursor<'a>, BranchShape)>
+        ensures { ReadsRest start self.entry moves.old result moves.new }
     {
-        let next = peek(s, self.at);
+        let next = self.byte();
         if ends_pieces(next) {
             if start | (next == b'$') {
-                return Some(self.branch_end(s, start, Shape::EMPTY));
+                return Some(self.branch_end(start, Shape::EMPTY));
             }
             return None;
         }
-        let (here, pieces) = self.branch(s, keys, enter)?;
-        Some(here.branch_end(s, start, pieces))
+        let (here, pieces) = self.branch(moves)?;
+        Some(here.branch_end(start, pieces))
     }
 
     // The branch of the whole pattern at the cursor, and the cursor behind it.
-    pub(crate) fn pattern_branch(
-        self,
-        s: &[u8],
-        keys: &mut [u64; 256],
-        enter: &mut [u64; 32],
-    ) -> Option<(Cursor, BranchShape)>
-        requires { Ready s.now self }
-        ensures { BranchDone (length s.now) self keys.old enter.old result keys.new enter.new (read_branch (drop self.at s.now)) }
+    pub(crate) fn pattern_branch(self, moves: &mut Moves) -> Option<(Cursor<'a>, BranchShape)>
+        ensures { ReadsBranch self.entry moves.old result moves.new }
     {
-        if peek(s, self.at) == b'^' {
-            return self.past().branch_rest(s, true, keys, enter);
+        if self.byte() == b'^' {
+            return self.past().branch_rest(true, moves);
         }
-        self.branch_rest(s, false, keys, enter)
+        self.branch_rest(false, moves)
     }
 }

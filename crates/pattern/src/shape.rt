@@ -1,9 +1,18 @@
-// What an expression that was read is like, and the table of what each state may enter.
+// What an expression that was read is like, and the tables of keys and states that it is read into.
 ghost use Rattle.std.specs.Prelude.{◌≡◌, cond, ◌^◌, ◌<◌};
 ghost use Rattle.std.specs.Int.Bits.{bit_or};
 ghost use Rattle.pattern.specs.Tables.{alt_shape, linked, seq_shape};
 
 use stateset::union;
+
+// The tables that the readers fill. A word is a set of states.
+#[derive(Clone, Copy)]
+pub(crate) struct Moves {
+    // For each key, the atoms whose set has it.
+    pub keys: [u64; 256],
+    // For each state, the atoms that it may enter.
+    pub enter: [u64; 32],
+}
 
 // Whether it can match nothing, and the states of the atoms that can come first and last in it.
 #[derive(Clone, Copy)]

@@ -4,9 +4,6 @@ use Rattle.pattern.proofs.Readings.{tables-told}
 use Rattle.pattern.proofs.Scans as laws
 use Rattle.pattern.proofs.automaton.read_pattern.Goals as goal
 
-pub read_clean-requires : goal.read_clean-requires
-read_clean-requires c = search (laws.pattern-ready)
-
 pub returns-then-n : goal.returns-then-n
 returns-then-n c = let e = laws.wrong-tables c.args.s.now refl c.if-n.true c.args.case in record { figures = tables-told _ _ e; tables = e }
 

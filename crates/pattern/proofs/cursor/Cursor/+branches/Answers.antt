@@ -8,11 +8,8 @@ returns-in_err-here t c = rw c.from_residual.ensures (search (laws.branches-faul
 pub returns-in-0 : goal.returns-in-0
 returns-in-0 t c = search (laws.branches-end, c.in_ok-here.ensures)
 
-pub past-requires : goal.past-requires
-past-requires t c = (search (laws.branches_at, c.in_ok-here.ensures), search (laws.branches-atoms, c.in_ok-here.ensures))
-
 pub branches-requires : goal.branches-requires
-branches-requires t c = (search (laws.branches-falls, c.in_ok-here.ensures), search (laws.branches-ready, c.in_ok-here.ensures))
+branches-requires t c = search (laws.branches-falls, c.in_ok-here.ensures)
 
 pub returns-in-124 : goal.returns-in-124
 returns-in-124 t c = search (laws.branches-more, c.in_ok-here.ensures)

@@ -4,4 +4,4 @@ use lib.ListN.{length}
 use Rattle.pattern.proofs.cursor.Cursor.+branches.Given as goal
 
 abbrev pub decreases-branches : goal.decreases-branches
-decreases-branches l = length l.s.now - l.self.at
+decreases-branches l = length l.self.bytes.now - l.self.at
