@@ -3,7 +3,6 @@ ghost use Rattle.std.specs.Prelude.{◌<◌, ◌≤◌, IfSome, length};
 
 use crate::numbers::{hash, prepare, small};
 use crate::show::{named, refused, text};
-use decimals::size;
 use depth::{Delimiters, Depths, depth};
 use refusal::Refusal;
 
@@ -19,7 +18,7 @@ fn whole(rt: &HostRuntime, name: &str, z: i64) {
     if z < 0 {
         text(rt, "-");
     }
-    named(rt, "", size(z));
+    named(rt, "", z.unsigned_abs());
 }
 
 // What is answered, with the hash of the work words after it.

@@ -3,10 +3,8 @@
 
 mod number;
 mod text;
-mod whole;
 mod wide;
 
 pub use number::number_in;
 pub use text::Draft;
-pub use whole::size;
 pub use wide::wide_in;

@@ -5,7 +5,7 @@ ghost use Rattle.survey.specs.Depths.{depth_told};
 ghost use Rattle.output.specs.Lines.{Line, depth_line, depths_text, whole_text};
 
 use crate::line::{LINE, put_field, refused_line};
-use decimals::{Draft, size};
+use decimals::Draft;
 use depth::Depths;
 use refusal::Refusal;
 
@@ -17,9 +17,9 @@ fn put_whole(line: &mut Draft, name: &[u8], z: i64)
 {
     line.put(name);
     if z < 0 {
-        return put_field(line, b"-", size(z));
+        return put_field(line, b"-", z.unsigned_abs());
     }
-    line.put_number(size(z));
+    line.put_number(z.unsigned_abs());
 }
 
 // `end E lowest L` and LF.
