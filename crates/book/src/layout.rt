@@ -110,7 +110,12 @@ fn layout_macros(s: &[u8], count: u16) -> Result<[usize; 1025], Refusal>
     let mut at = 7;
     offsets[0] = at;
     for n in 0..count {
-        at = MacroCheck { bytes: s, version, n }.whole(at)?;
+        at = MacroCheck {
+            bytes: s,
+            version,
+            n,
+        }
+        .whole(at)?;
         offsets[n as usize + 1] = at;
     }
     if at < s.len() {

@@ -3,7 +3,7 @@
 ghost use Rattle.std.specs.Prelude.{◌≡◌, ◌+◌, ◌^◌, ◌<◌};
 ghost use Rattle.brackets.specs.Answers.{cursor_at};
 
-// A place in a pattern, at an atom or inside one.
+// A place in a pattern, at an atom or inside one; any place, since `atom`, which is public, asks for none inside.
 #[derive(Clone, Copy)]
 pub struct AtomCursor {
     pub at: usize,

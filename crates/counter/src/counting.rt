@@ -23,7 +23,8 @@ pub struct Count {
     pub steps: u64,
 }
 
-// Macros 0 to m in turn: each calls only those whose reports stand already. Answers the steps.
+// Macros 0 to m in turn: each calls only those whose reports stand already. Answers the steps. No trait over what is kept: `macro_extent` of `find`
+// says why.
 fn fill(book: &Book, m: usize, tables: &Tables, work: &mut [u64]) -> u64
     requires { MacroFits book.now.bytes.now book.now.offsets m tables.now.accepting work.old }
     ensures { Filled tables.now.keys tables.now.enter tables.now.accepting (macros_in book.now.bytes.now) m work.old work.new result }
@@ -63,7 +64,8 @@ fn counted_macro(book: &Book, m: usize, tables: &Tables, work: &mut [u64]) -> Re
 }
 
 // How many lines of macro m's run match a pattern, with case ignored or not, and the steps, 0 in version 2 (document 01, "States and
-// steps", "Reports", "Refused"; document 02, S-8). The first (m + 1) × (s + 6) work words then hold the reports of macros 0 to m.
+// steps", "Reports", "Refused"; document 02, S-8). The first (m + 1) × (s + 6) work words then hold the reports of macros 0 to m. No struct of the
+// book, the pattern, the case and m here or in `find`: it would be made at each call, and taken apart in its first lines.
 pub fn count_book(
     book: &[u8],
     pattern: &[u8],

@@ -32,7 +32,7 @@ fn of_item(item: Item, keys: Delimiters, work: &[u64]) -> Unmatched
     }
 }
 
-// The run of macro i, whose calls go to macros whose words stand already.
+// The run of macro i, whose calls go to macros whose words stand already. No trait over what is kept: `macro_extent` of `find` says why.
 fn of_macro(book: &Book, i: usize, keys: Delimiters, work: &[u64]) -> Unmatched
     requires { MacroAt keys book.now.bytes.now book.now.offsets i work.now }
     ensures { result ≡ unmatched_in keys.opening keys.closing (expansion (macros_in book.now.bytes.now) i) }

@@ -29,7 +29,8 @@ fn is_no_delimiter(key: u8) -> bool
 }
 
 // A run's length, the closings that close no block of the run, and the openings of blocks that it leaves open. The depth falls to minus
-// these closings, and ends at these openings less these closings.
+// these closings, and ends at these openings less these closings. No ghost field says that it is `Sized`: `load` reads it from lent words, which
+// may hold anything.
 #[derive(Clone, Copy)]
 pub(crate) struct Unmatched {
     pub(crate) length: u64,

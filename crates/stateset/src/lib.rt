@@ -46,7 +46,7 @@ pub fn within(s: u64, a: u64) -> u64
     if s < 64 { a & ((1 << s) - 1) } else { a }
 }
 
-// The set if t holds, or else the empty one.
+// The set if t holds, or else the empty one: `cond`, of which the laws of moves and spans speak.
 pub fn chosen(t: bool, a: u64) -> u64
     ensures { result ≡ cond t a 0 }
 {
