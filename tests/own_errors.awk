@@ -4,7 +4,7 @@
 # place, a field or a goal that the code does not have; or that antt met a limit and has no verdict. One for which only `search` met a limit counts.
 function own(said) {
     return said ~ /^it is not proved that / || said ~ /^`(search|cc|grind|simp|rw)`: no proof of / || said ~ /^`omega`: .* does not follow/ ||
-        said ~ /^(computed as far as they go|as printed), the two (types|sides) (are|first differ|differ only) / ||
+        said ~ /^(computed as far as they go|as printed), the two types (first differ|differ only) / ||
         said ~ /^expected type `/ && said !~ /^expected type `([^` ]*[.])?(goal|Goals)[.]/
 }
 match($0, /^rt: must-fail [^ ]*: refused, as it must be: /) {

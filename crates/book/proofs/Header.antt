@@ -1,11 +1,11 @@
 -- The header of a book: one law for each way out of the code that reads it.
-use Prim.Native.Nat.{ℕ, ◌<◌, ◌≤◌}
+use Prim.Native.Nat.{ℕ, ◌≤◌}
 use mathlib.Core.Path.{◌≡◌, sym, ap, ◌∙◌}
 use mathlib.Core.Bool.{Bool, true, false, not, ◌&&◌}
 use mathlib.Core.List.{List}
 use lib.Dec.{leb}
 use lib.ListN.{length, drop}
-use borrow.Author.Tests.{lt-leb, le-leb, not-true, not-false, leb-true}
+use borrow.Author.Tests.{not-true, not-false, leb-true}
 use Rattle.refusal.specs.declared.Refusal.{Refusal}
 use Rattle.refusal.specs.declared.Refusal.TheVariants.{BadMagic, UnsupportedVersion, BadMacroCount}
 use Rattle.std.specs.Prelude.{Ok, Err}
@@ -17,13 +17,6 @@ use Rattle.book.proofs.Readings.{test-got, same-got}
 use Rattle.runs.proofs.Tests.{clash, and-fst, and_parts}
 
 module _ (s : List ℕ) where
-  -- the two answers of `has_magic`
-  pub mark-short : length s < 7 → false ≡ leb 7 (length s) && has_magic s
-  mark-short h = simp (lt-leb _ _ h)
-
-  pub mark-told : 7 ≤ length s → has_magic s ≡ leb 7 (length s) && has_magic s
-  mark-told h = simp (le-leb _ _ h)
-
   module _ (m : Bool) (e : m ≡ leb 7 (length s) && has_magic s) where
     pub header-magic : not m ≡ true → Err BadMagic ≡ header_of (read_header versions s)
     unfolding read_header

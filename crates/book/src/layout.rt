@@ -27,10 +27,7 @@ pub struct Book<'a> {
 fn has_magic(s: &[u8]) -> bool
     ensures { result ≡ leb 7 (length s.now) && has_magic s.now }
 {
-    if s.len() < 7 {
-        return false;
-    }
-    (s[0] == MAGIC[0]) & ((s[1] == MAGIC[1]) & (s[2] == MAGIC[2]))
+    7 <= s.len() && s.starts_with(&MAGIC)
 }
 
 // The macro count that a header gives.

@@ -6,7 +6,7 @@ use crate::item::{Item, Repeated, read_item};
 use crate::layout::Book;
 use crate::version::width_of;
 
-// The items of a macro, `count` of them, and keys of 0 behind them.
+// The items of a macro, `count` of them, and keys of 0 behind them: there is no heap for a list of just as many.
 #[derive(Clone, Copy)]
 pub struct Items {
     pub list: [Repeated; 64],

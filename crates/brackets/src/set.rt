@@ -1,4 +1,5 @@
 // The set of an atom's keys: it "says yes or no for every byte value from 0 to 255" (document 01, "Patterns").
+// A table has an entry for each byte, which is its index.
 ghost use Rattle.std.specs.Prelude.{◌≡◌, ◌<◌};
 ghost use Rattle.brackets.specs.Form.{byte, class, dot, plain, range};
 ghost use Rattle.brackets.specs.Promises.{Known, element_of, has_key, with_element, with_key};

@@ -15,10 +15,7 @@ const WORDS: usize = 4096;
 // A name and a whole number.
 fn whole(rt: &HostRuntime, name: &str, z: i64) {
     text(rt, name);
-    if z < 0 {
-        text(rt, "-");
-    }
-    named(rt, "", z.unsigned_abs());
+    let _ = rt.print(z);
 }
 
 // What is answered, with the hash of the work words after it.

@@ -16,10 +16,9 @@ pub(crate) fn small(bytes: &[u8], at: usize) -> usize
 pub(crate) fn large(bytes: &[u8], at: usize) -> u64
     requires { at + 8 ≤ length bytes.now }
 {
-    bytes[at..at + 8]
-        .iter()
-        .rev()
-        .fold(0, |n, &b| n << 8 | u64::from(b))
+    let mut eight = [0; 8];
+    eight.copy_from_slice(&bytes[at..at + 8]);
+    u64::from_le_bytes(eight)
 }
 
 fn rows(bytes: &[u8], at: usize) -> [u64; 32]

@@ -34,7 +34,7 @@ fn first(rt: &HostRuntime, bytes: &[u8]) -> Option<usize>
     }
 }
 
-// Answers every case up to a damaged one, behind which it is not known where the next begins.
+// Answers every case up to a damaged one, behind which it is not known where the next begins. By no `for`: how long a case is, is known behind it.
 pub(crate) fn all(rt: &HostRuntime, bytes: &[u8]) {
     let mut rest = bytes;
     while !rest.is_empty() {

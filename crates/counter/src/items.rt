@@ -46,7 +46,7 @@ fn after_passes(a: SpanCount, next: Repeated, work: &[u64], tables: &Tables) -> 
     joined(a, repeated(pass, next.times))
 }
 
-// All items of a macro.
+// All items of a macro. No trait over what is kept: `macro_extent` of `find` says why.
 pub(crate) fn items_report(items: &[Repeated], work: &[u64], tables: &Tables) -> MacroCount
     requires { ItemsFit items.now tables.now.accepting }
     ensures { ItemsCounted tables.now.keys tables.now.enter tables.now.accepting work.now items.now result }

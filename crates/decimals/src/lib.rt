@@ -1,4 +1,4 @@
-// Numbers in decimal digits, read and written, texts in a buffer, and the size of a whole number.
+// Numbers in decimal digits, read and written, and texts in a buffer.
 #![tactic(auto)]
 
 mod number;

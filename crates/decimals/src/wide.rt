@@ -15,6 +15,7 @@ fn wide_digit(n: u64, c: u8) -> Option<u64>
 }
 
 // The number that decimal digits write, with zeros in front or without; none if the text is no number, or one that is larger than 64 bits hold.
+// `number_in` has another step, and says why it is no other function.
 pub fn wide_in(text: &[u8]) -> Option<u64>
     ensures { result ≡ wide_in text.now }
 {

@@ -1,4 +1,5 @@
-// The three work words of a macro: run length, end depth, lowest depth, the depths in two's complement.
+// The three work words of a macro: run length, end depth, lowest depth, the depths in two's complement. Work words are lent as a
+// slice, and a macro's stand at its place there (document 02).
 ghost use Rattle.std.specs.Prelude.{◌≡◌, ◌+◌, ◌≤◌, length};
 ghost use Rattle.std.proofs.Math.IntN.{sub_ℕ};
 ghost use Rattle.depth.specs.Answer.{width, word};

@@ -51,6 +51,6 @@ module _ (old : List ℕ) (wide : length old ≡ 262208) (n : ℕ) (short : leng
 
 -- By the answer's case.
 module _ {found : Result LineAnswer Refusal} (keys : List ℕ) {old new : List ℕ} {k : ℕ} where
-  pub answer-refused : {r : Refusal} → found ≡ Err r → 29 ≤ length old → (29 ≤ length old → Line (refused_text (number r)) old new k) → Line (line_text (told_by found keys)) old new k
+  pub answer-refused : {r : Refusal} → found ≡ Err r → Line (refused_text (number r)) old new k → Line (line_text (told_by found keys)) old new k
   unfolding line_text
-  answer-refused e wide x = rw e (x wide)
+  answer-refused e x = rw e x

@@ -129,7 +129,7 @@ impl<'a> Search<'a> {
         }
     }
 
-    // The place of the line end that closes the line.
+    // The place of the line end that closes the line. By no `for`: from a macro it goes on in the one that an item calls.
     fn descend(&self, book: &Book) -> Place
         requires { SearchIn book.now.bytes.now book.now.offsets self.now }
         ensures { Descends book.now.bytes.now self.now result }

@@ -40,7 +40,7 @@ fn macro_extent(book: &Book, i: usize, extents: &[u64]) -> Extent
     all
 }
 
-// The words of macros 0 to m, in turn.
+// The words of macros 0 to m, in turn; no trait over what is kept, as above.
 pub(crate) fn fill_extents(book: &Book, m: usize, extents: &mut [u64])
     requires { WordsFit book.now.bytes.now book.now.offsets m extents.old }
     ensures { extents.new ≡ words_over (extent_words_of (macros_in book.now.bytes.now)) width (suc m) extents.old }

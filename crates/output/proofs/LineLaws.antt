@@ -75,17 +75,17 @@ pub count-lines : (k : Count) {old new : List ℕ} {n : ℕ} {c : Result Count R
 unfolding count_line
 count-lines k e l = rw e l
 
-pub count-refused : (r : Refusal) {old new : List ℕ} {n : ℕ} {c : Result Count Refusal} → c ≡ Err r → 29 ≤ length old → (29 ≤ length old → Line (refused_text (number r)) old new n) → Line (count_line (told_by c)) old new n
+pub count-refused : (r : Refusal) {old new : List ℕ} {n : ℕ} {c : Result Count Refusal} → c ≡ Err r → Line (refused_text (number r)) old new n → Line (count_line (told_by c)) old new n
 unfolding count_line
-count-refused r e wide l = rw (e, refusal-told r) (l wide)
+count-refused r e l = rw (e, refusal-told r) l
 
 pub survey-facts : (f : Facts) {old new : List ℕ} {n : ℕ} {s : Result Facts Refusal} → s ≡ Ok f → Line (facts_text f) old new n → Line (survey_line (survey_figures s)) old new n
 unfolding survey_line
 survey-facts f e l = rw e l
 
-pub survey-refused : (r : Refusal) {old new : List ℕ} {n : ℕ} {s : Result Facts Refusal} → s ≡ Err r → 29 ≤ length old → (29 ≤ length old → Line (refused_text (number r)) old new n) → Line (survey_line (survey_figures s)) old new n
+pub survey-refused : (r : Refusal) {old new : List ℕ} {n : ℕ} {s : Result Facts Refusal} → s ≡ Err r → Line (refused_text (number r)) old new n → Line (survey_line (survey_figures s)) old new n
 unfolding survey_line
-survey-refused r e wide l = rw (e, refusal-told r) (l wide)
+survey-refused r e l = rw (e, refusal-told r) l
 
 pub reach-listed : (n : ℕ) (list : List ℕ) {old new : List ℕ} {k i : ℕ} {r : Result ℕ Refusal} → r ≡ Ok n → length list ≡ 1024 → i ≡ min n 1024 → Line (list_text (take i list)) old new k → Line (reach_text (reached_figures r) list) old new k
 unfolding reach_text
@@ -95,9 +95,9 @@ reach-listed n list {old} {new} {k} e long f l = rw e (subst (λ (v : List ℕ).
     all true g = let h = leb-true n 1024 g in let same : min n 1024 ≡ n = omega arith in rw same refl
     all false g = let h = leb-false n 1024 g in take_all (min n 1024) list (omega arith) ∙ sym (take_all n list (omega arith))
 
-pub reach-refused : (q : Refusal) (list : List ℕ) {old new : List ℕ} {k : ℕ} {r : Result ℕ Refusal} → r ≡ Err q → 29 ≤ length old → (29 ≤ length old → Line (refused_text (number q)) old new k) → Line (reach_text (reached_figures r) list) old new k
+pub reach-refused : (q : Refusal) (list : List ℕ) {old new : List ℕ} {k : ℕ} {r : Result ℕ Refusal} → r ≡ Err q → Line (refused_text (number q)) old new k → Line (reach_text (reached_figures r) list) old new k
 unfolding reach_text
-reach-refused q list e wide l = rw (e, refusal-told q) (l wide)
+reach-refused q list e l = rw (e, refusal-told q) l
 
 -- The lines of a list.
 list-more : (js : List ℕ) (j : ℕ) → list_text (js ++ (j ∷ [])) ≡ list_text js ++ (numeral j ++ ending)

@@ -77,6 +77,6 @@ depth-lines k f g {old} {new} {n} e l =
     (subst (λ (z : ℤ). Line (depths_text z k.lowest) old new n) (to_z-of_z w64 k.end (record { sfits = f }))
     (subst (λ (z : ℤ). Line (depths_text (read k.end) z) old new n) (to_z-of_z w64 k.lowest (record { sfits = g })) l))
 
-pub depth-refused : (r : Refusal) {old new : List ℕ} {n : ℕ} {d : Result Depths Refusal} → d ≡ Err r → 29 ≤ length old → (29 ≤ length old → Line (refused_text (number r)) old new n) → Line (depth_line (depth_told d)) old new n
+pub depth-refused : (r : Refusal) {old new : List ℕ} {n : ℕ} {d : Result Depths Refusal} → d ≡ Err r → Line (refused_text (number r)) old new n → Line (depth_line (depth_told d)) old new n
 unfolding depth_line
-depth-refused r e wide l = rw (e, refusal-told r) (l wide)
+depth-refused r e l = rw (e, refusal-told r) l

@@ -7,6 +7,7 @@ use counter::Case;
 use display::{BUFFER, LineAnswer, SHOWN, line_reply};
 use output::write_front;
 use refusal::Refusal;
+use replies::Reply;
 
 // Which lines are asked for, and whether case is ignored.
 #[derive(Clone, Copy)]
@@ -16,25 +17,32 @@ struct Range {
     count: u64,
 }
 
+// What the lines are asked of.
+#[derive(Clone, Copy)]
+struct Run<'a> {
+    book: &'a [u8],
+    pattern: &'a [u8],
+    asked: Asked<'a>,
+}
+
 // Prints an answer, and says what it means; answers whether there may be a next line, which nobody reads where this one could not be written.
 // Behind the first line the end of them is no refusal.
 fn told(
     rt: &HostRuntime,
-    found: Result<LineAnswer, Refusal>,
+    reply: Reply<Result<LineAnswer, Refusal>>,
     out: &[u8],
-    length: usize,
     first: bool,
 ) -> bool {
-    match found {
-        Ok(LineAnswer::Shown(_)) => write_front(rt, out, length),
+    match reply.found {
+        Ok(LineAnswer::Shown(_)) => write_front(rt, out, reply.length),
         Ok(LineAnswer::Long(_)) => {
-            let written = write_front(rt, out, length);
+            let written = write_front(rt, out, reply.length);
             say::long_line(rt);
             written
         }
         Err(r) => {
             if first {
-                write_front(rt, out, length);
+                write_front(rt, out, reply.length);
                 explain(rt, Some(r));
             }
             false
@@ -42,35 +50,37 @@ fn told(
     }
 }
 
-// The k-th line of the macro that is asked for.
-fn one_line(
-    rt: &HostRuntime,
-    book: &[u8],
-    pattern: &[u8],
-    case: Case,
-    k: u64,
-    asked: Asked,
-    first: bool,
-) -> bool {
-    let mut line = [0; BUFFER];
-    let mut out = [0; SHOWN];
-    match line_reply(book, pattern, case, k, asked, &mut line, &mut out) {
-        Some(reply) => told(rt, reply.found, &out, reply.length, first),
-        None => {
-            say::no_number(rt);
-            false
+impl Run<'_> {
+    // The k-th line.
+    fn line(&self, rt: &HostRuntime, case: Case, k: u64, first: bool) -> bool {
+        let mut line = [0; BUFFER];
+        let mut out = [0; SHOWN];
+        match line_reply(
+            self.book,
+            self.pattern,
+            case,
+            k,
+            self.asked,
+            &mut line,
+            &mut out,
+        ) {
+            Some(reply) => told(rt, reply, &out, first),
+            None => {
+                say::no_number(rt);
+                false
+            }
         }
     }
-}
 
-// The lines, one after another, up to the last one that can be asked for.
-fn lines_in(rt: &HostRuntime, book: &[u8], pattern: &[u8], asked: Asked, lines: Range) {
-    for i in 0..lines.count {
-        let Some(k) = lines.first.checked_add(i) else {
-            return;
-        };
-        if !one_line(rt, book, pattern, lines.case, k, asked, i == 0) {
-            return;
+    // The lines, one after another, up to the last one that can be asked for.
+    fn lines(&self, rt: &HostRuntime, lines: Range) {
+        for i in 0..lines.count {
+            let Some(k) = lines.first.checked_add(i) else {
+                return;
+            };
+            if !self.line(rt, lines.case, k, i == 0) {
+                return;
+            }
         }
     }
 }
@@ -92,7 +102,12 @@ fn lines_by(rt: &HostRuntime, lines: Range) {
     let Some(asked) = asked_at(rt, 7, &mut digits) else {
         return;
     };
-    lines_in(rt, book, pattern, asked, lines);
+    let run = Run {
+        book,
+        pattern,
+        asked,
+    };
+    run.lines(rt, lines);
 }
 
 // So many lines from this one on.

@@ -8,7 +8,8 @@ ghost use Rattle.reach.specs.Promises.{Entered, Entering, Walked, called_by};
 use book::{Book, Item, space_for};
 use refusal::Refusal;
 
-// A walk through a book: which macros are listed already, and the list of them, so many at its front.
+// A walk through a book: which macros are listed already, and the list of them, so many at its front: it is lent, and there is no heap for one
+// that grows.
 #[derive(Drop)]
 struct Walker<'a, 'b> {
     book: &'a Book<'a>,

@@ -32,7 +32,7 @@ pub fn meets(a: u64, b: u64) -> bool
     (a & b) != 0
 }
 
-// How many members a set has.
+// How many members a set has: `count_below`, of which the laws of steps speak.
 pub fn size(a: u64) -> u64
     ensures { result ≡ count_below 64 (bit a) }
 {

@@ -7,6 +7,8 @@ use lib.ListN.{length}
 use Rattle.book.specs.Reading.{read_book}
 use Rattle.std.specs.Prelude.{Result}
 use Rattle.refusal.specs.declared.Refusal.{Refusal}
+use Rattle.refusal.specs.Figures.{Figures}
+use Rattle.command.specs.Reads.{BookFrom}
 use Rattle.reach.specs.Answer.{reached_figures}
 use Rattle.book.proofs.Refusals.{BookNumber}
 use Rattle.reach.proofs.AnswerLaws.{entries-alike, reached-beyond, reached-refusals}
@@ -33,11 +35,15 @@ module _ (book : List ℕ) (a : Asked) {o : Option ℕ} (e : o ≡ asked_number 
   reach_none f same b read = asked-nothing book b (book-read book b read) (λ m r. ReachedIn b m (reached_figures r) before after) (after ≡ before) a e f same
 
 -- What the command is refused for: 1 to 6, 20, and 10. With 1,024 entries 11 is never answered.
-module _ (book : List ℕ) (r : Result ℕ Refusal) (before after : List ℕ) (long : length before ≡ 1024) where
-  pub reach-last-refusals : ReachesAsked book Asked.Last (Some r) before after → BookNumber (reached_figures r).refusal ⊎ ((reached_figures r).refusal ≡ 10)
-  unfolding ReachesAsked
-  reach-last-refusals w = reached-refusals book before after (last_macro (read_book book)) (reached_figures r) long (w book (read-itself 264200 book))
+module _ (book before after : List ℕ) (long : length before ≡ 1024) where
+  pub reach-last-refusals : (f : Figures ℕ) → ((b : List ℕ) → BookFrom book b → ReachedIn b (last_macro (read_book b)) f before after) → BookNumber f.refusal ⊎ (f.refusal ≡ 10)
+  reach-last-refusals f w = reached-refusals book before after (last_macro (read_book book)) f long (w book (read-itself 264200 book))
 
-  pub reach-named-refusals : (text : Bor (List ℕ)) → ReachesAsked book (Asked.Named text) (Some r) before after → BookNumber (reached_figures r).refusal ⊎ ((reached_figures r).refusal ≡ 10)
+  -- as it is promised of the last macro
+  pub reach-last-asked : (r : Result ℕ Refusal) → ReachesAsked book Asked.Last (Some r) before after → BookNumber (reached_figures r).refusal ⊎ ((reached_figures r).refusal ≡ 10)
   unfolding ReachesAsked
-  reach-named-refusals text w = reached-refusals book before after (decimal text.now) (reached_figures r) long (w book (read-itself 264200 book)).1
+  reach-last-asked r w = reach-last-refusals (reached_figures r) w
+
+  pub reach-named-refusals : (text : Bor (List ℕ)) (r : Result ℕ Refusal) → ReachesAsked book (Asked.Named text) (Some r) before after → BookNumber (reached_figures r).refusal ⊎ ((reached_figures r).refusal ≡ 10)
+  unfolding ReachesAsked
+  reach-named-refusals text r w = reached-refusals book before after (decimal text.now) (reached_figures r) long (w book (read-itself 264200 book)).1

@@ -13,4 +13,4 @@ unfolding line_text
 returns-in-Ok-Long c = search rules
 
 pub returns-in-Err : goal.returns-in-Err
-returns-in-Err c = answer-refused _ c.in-Err.is (search rules) c.refused_line.ensures
+returns-in-Err c = answer-refused _ c.in-Err.is (c.refused_line.ensures (search rules))

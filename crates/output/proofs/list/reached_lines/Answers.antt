@@ -7,4 +7,4 @@ pub returns-in-Ok : goal.returns-in-Ok
 returns-in-Ok c = search (reach-listed, rules)
 
 pub returns-in-Err : goal.returns-in-Err
-returns-in-Err c = reach-refused _ _ c.in-Err.is (search rules) c.refused_line.ensures
+returns-in-Err c = reach-refused _ _ c.in-Err.is (c.refused_line.ensures (search rules))
