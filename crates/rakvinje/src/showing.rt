@@ -17,14 +17,6 @@ struct Range {
     count: u64,
 }
 
-// What the lines are asked of.
-#[derive(Clone, Copy)]
-struct Run<'a> {
-    book: &'a [u8],
-    pattern: &'a [u8],
-    asked: Asked<'a>,
-}
-
 // Prints an answer, and says what it means; answers whether there may be a next line, which nobody reads where this one could not be written.
 // Behind the first line the end of them is no refusal.
 fn told(
@@ -50,37 +42,36 @@ fn told(
     }
 }
 
-impl Run<'_> {
-    // The k-th line.
-    fn line(&self, rt: &HostRuntime, case: Case, k: u64, first: bool) -> bool {
-        let mut line = [0; BUFFER];
-        let mut out = [0; SHOWN];
-        match line_reply(
-            self.book,
-            self.pattern,
-            case,
-            k,
-            self.asked,
-            &mut line,
-            &mut out,
-        ) {
-            Some(reply) => told(rt, reply, &out, first),
-            None => {
-                say::no_number(rt);
-                false
-            }
+// The k-th line of the macro that is asked for. The book, the pattern and the macro stay parameters: the check has no borrow checker's part for a
+// struct that holds `Asked`, which holds a reference.
+fn one_line(
+    rt: &HostRuntime,
+    book: &[u8],
+    pattern: &[u8],
+    case: Case,
+    k: u64,
+    asked: Asked,
+    first: bool,
+) -> bool {
+    let mut line = [0; BUFFER];
+    let mut out = [0; SHOWN];
+    match line_reply(book, pattern, case, k, asked, &mut line, &mut out) {
+        Some(reply) => told(rt, reply, &out, first),
+        None => {
+            say::no_number(rt);
+            false
         }
     }
+}
 
-    // The lines, one after another, up to the last one that can be asked for.
-    fn lines(&self, rt: &HostRuntime, lines: Range) {
-        for i in 0..lines.count {
-            let Some(k) = lines.first.checked_add(i) else {
-                return;
-            };
-            if !self.line(rt, lines.case, k, i == 0) {
-                return;
-            }
+// The lines, one after another, up to the last one that can be asked for.
+fn lines_in(rt: &HostRuntime, book: &[u8], pattern: &[u8], asked: Asked, lines: Range) {
+    for i in 0..lines.count {
+        let Some(k) = lines.first.checked_add(i) else {
+            return;
+        };
+        if !one_line(rt, book, pattern, lines.case, k, asked, i == 0) {
+            return;
         }
     }
 }
@@ -102,12 +93,7 @@ fn lines_by(rt: &HostRuntime, lines: Range) {
     let Some(asked) = asked_at(rt, 7, &mut digits) else {
         return;
     };
-    let run = Run {
-        book,
-        pattern,
-        asked,
-    };
-    run.lines(rt, lines);
+    lines_in(rt, book, pattern, asked, lines);
 }
 
 // So many lines from this one on.
