@@ -159,6 +159,19 @@ decoded-few b offsets i =
     let s = part_from b offsets i in
     rw (decoded-front v s, items-length v (min 64 (length s / width v)) s) (omega arith)
 
+-- how many they are
+pub width-some : (version wide : ℕ) → wide ≡ width version → 0 < wide
+width-some version wide e = omega (arith, e, width-least version)
+
+pub item-many : (b offsets : List ℕ) (i : ℕ) {p : List ℕ} {v wide n : ℕ} → v ≡ version_in b → p ≡ part_from b offsets i → wide ≡ width v → n ≡ min (length p / wide) 64 → n ≡ length (decoded (items_from b offsets i))
+unfolding items_from
+item-many b offsets i {p} {v} {wide} {n} e f w h =
+    let x = version_in b in
+    let s = part_from b offsets i in
+    let turned : min (length s / width x) 64 ≡ min 64 (length s / width x) = omega arith in
+    let many : min (length s / width x) 64 ≡ length (decoded (items_in x s)) = rw (decoded-front x s, items-length x (min 64 (length s / width x)) s) turned in
+    rw (h, w, e, f) many
+
 pub items-few : (b offsets : List ℕ) (i : ℕ) → (items_from b offsets i).count ≤ 64
 unfolding items_from items_in
 items-few b offsets i = omega arith
