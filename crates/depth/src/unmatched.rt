@@ -91,12 +91,12 @@ impl Unmatched {
         ensures { result ≡ times_unmatched n self }
     {
         let passes = u64::from(n);
-        let length = self.length.saturating_mul(passes);
-        if Unmatched::LONGEST < length {
+        let whole = self.length.saturating_mul(passes);
+        if Unmatched::LONGEST < whole {
             return Unmatched::TOO_LONG;
         }
         Unmatched {
-            length,
+            length: whole,
             closings: self.closings + self.closings.saturating_sub(self.openings) * (passes - 1),
             openings: self.openings + self.openings.saturating_sub(self.closings) * (passes - 1),
         }

@@ -2,8 +2,8 @@
 use Rattle.depth.proofs.CodeLaws.{passes-long, passes-fit}
 use Rattle.depth.proofs.unmatched.Unmatched.repeated.Goals as goal
 
-pub returns-then-length-gt-LONGEST : goal.returns-then-length-gt-LONGEST
-returns-then-length-gt-LONGEST c = search (passes-long)
+pub returns-then-whole-gt-LONGEST : goal.returns-then-whole-gt-LONGEST
+returns-then-whole-gt-LONGEST c = search (passes-long)
 
 pub returns : goal.returns
 returns c = search (passes-fit)
