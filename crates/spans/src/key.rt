@@ -17,9 +17,10 @@ fn moved_states(a: Span, key: u8, tables: &Tables) -> Span
         let tail = states.moved(a.tail, key, tables);
         return ended_span(states.count, states.within(a.heads), tail, a.edges);
     }
+    let rows = a.rows;
     open_span(
         states.count,
-        states.moved_rows(&a.rows, key, tables),
+        states.moved_rows(&rows, key, tables),
         a.edges,
     )
 }
