@@ -1,6 +1,7 @@
 // `cuecount`: standard input is the pattern, LF, the book; it prints `lines N steps S` or `refused R`. Where standard input cannot be
 // read it prints nothing, and says why on standard error.
 #![tactic(auto)]
+
 ghost use Rattle.std.specs.Prelude.{◌≡◌, length};
 
 use command::READ;

@@ -68,6 +68,7 @@ impl Unmatched {
     }
 
     // One run and another behind it: openings of the first meet closings of the second.
+    #[tactic(auto, using(crate::proofs::CodeLaws::both_long, crate::proofs::CodeLaws::both_fit))]
     pub(crate) fn followed_by(self, next: Unmatched) -> Unmatched
         requires first { Sized self }
         requires second { Sized next }
@@ -85,6 +86,7 @@ impl Unmatched {
     }
 
     // A run n times. With each pass the keys that stay without a partner become more by what one pass has of the one sort over the other.
+    #[tactic(auto, using(crate::proofs::CodeLaws::passes_long))]
     pub(crate) fn repeated(self, n: u16) -> Unmatched
         requires sized { Sized self }
         requires some { 1 ≤ n }
