@@ -75,6 +75,8 @@ while read -r crate name contract; do
     row=${rows[$crate]-}
     cited="\`$name\`: (\`[^;]*)" none="\`$name\`.*: nothing"
     if [[ "$row;" =~ $cited ]]; then
+        # Of functions with one name the row speaks one by one, in the order of the code.
+        rows[$crate]=${row/"${BASH_REMATCH[0]}"/}
         quoted "${BASH_REMATCH[1]}"
         for definition in "${words[@]}"; do
             [[ $contract == *"$definition"* ]] || fault "the contract of $name of $crate does not cite $definition"

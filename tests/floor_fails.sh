@@ -41,7 +41,7 @@ lacks 'more of refusal is not in the table' crates/refusal/src/lib.rt sed -i '$a
 lacks 'there is no public function sum of reports' crates/reports/src/total.rt sed -i 's/^pub fn sum(/pub(crate) fn sum(/'
 lacks 'counter has 10 wrong programs' crates/counter/must-fail/count_zero.edit rm
 lacks 'refusal has 1 wrong programs' crates/refusal/must-fail/no_number.edit sed -i '/^new:/d'
-lacks 'wrong programs: 156 ' crates/refusal/must-fail/wrong_number.edit rm
+lacks 'wrong programs: 162 ' crates/refusal/must-fail/wrong_number.edit rm
 lacks 'rows of `paper-runs`: 45' crates/command/proofs/PaperRuns.antt sed -i '/row (program_steps example)/d'
 lacks 'rows of `paper-lines`: 11' crates/display/proofs/Examples.antt sed -i '/row (chase 144 1) (97 ∷ \[\]) 1 401/d'
 lacks 'too-short-iff does not stand' crates/find/proofs/Locating.antt sed -i 's/pub too-short-iff :/too-short-iff :/'

@@ -9,12 +9,12 @@ use lib.Seq.{drop-drop, set_at, append_snoc, get_or_at}
 use borrow.Author.Tests.{eq-eqb, ne_eqb}
 use Rattle.refusal.specs.declared.Refusal.{Refusal}
 use Rattle.refusal.specs.declared.Refusal.TheVariants.{MalformedBody}
-use Rattle.std.specs.Prelude.{Result, Ok, Err}
+use Rattle.std.specs.Prelude.{⊤, Result, Ok, Err}
 use Rattle.book.specs.Format.{Macro, versions, width}
 use Rattle.book.specs.Offset.{size, starts}
 use Rattle.book.specs.Reading.{Reading, got, refused, next, done, read_header, read_macro, read_macros, read_all, read_in, read_book, version_in}
-use Rattle.book.specs.Answer.{offsets_of, offsets_in, check_result, opened_figures}
-use Rattle.book.specs.Promises.{walk_of, header_of, table_of}
+use Rattle.book.specs.Answer.{offsets_of, offsets_in, check_result, checked_figures}
+use Rattle.book.specs.Promises.{walk_of, header_of, table_of, table_told}
 use Rattle.book.proofs.Header.{header-got, headed-macros, headed-refused}
 use Rattle.book.proofs.Offsets.{macro-got, starts-length, starts_more, whole as whole-reading}
 use Rattle.refusal.specs.Figures.{answered}
@@ -53,11 +53,11 @@ module _ (version : ℕ) (s : List ℕ) (ev : version ≡ version_in s) (count :
   as_read : (x : Result (List ℕ) Refusal) → x ≡ table_of version (read_all version count (drop 7 s)) → x ≡ answer
   as_read x e = rw ev at e
 
-  pub laid_none : (offsets : List ℕ) → offsets ≡ 7 ∷ replicate 1024 0 → Laid version s count offsets 7 0
+  pub laid_none : (offsets : List ℕ) → offsets ≡ replicate 1025 0 → Laid version s count (set offsets 0 7) 7 0
   unfolding starts
   laid_none offsets e =
       let all : count ≡ count - 0 = omega arith in
-      record { macros = []; many = refl; here = refl; table = e; reading = prepend-none _ ∙ ap (λ (k : ℕ). prepend [] (read_macros version 0 k (drop 7 s))) all }
+      record { macros = []; many = refl; here = refl; table = ap (λ (t : List ℕ). set t 0 7) e; reading = prepend-none _ ∙ ap (λ (k : ℕ). prepend [] (read_macros version 0 k (drop 7 s))) all }
 
   module _ (offsets : List ℕ) (at n : ℕ) (l : Laid version s count offsets at n) (w : Result ℕ Refusal) (h : n < count) (e : w ≡ walk_of (length s) (read_macro version n (drop at s))) where
     less : count - n ≡ suc (count - (n + 1))
@@ -121,39 +121,42 @@ module _ (s : List ℕ) (g : Result ℕ Refusal) (e : g ≡ header_of (read_head
       let r = header-got versions s k rest h in
       (r.long, r.few)
 
-  pub header-refused : {r : Refusal} → g ≡ Err r → opened_figures (Err r) ≡ check_result (read_book s)
+  pub header-refused : {r : Refusal} → g ≡ Err r → checked_figures (Err r) ≡ check_result (read_book s)
   unfolding read_book read_in
   header-refused {r} f = rw (headed-refused (read_header versions s) r (sym e ∙ f)) refl
 
-  module _ (k : ℕ) (f : g ≡ Ok k) (t : Result (List ℕ) Refusal) (h : t ≡ table_of (version_in s) (read_all (version_in s) k (drop 7 s))) where
+  module _ (k : ℕ) (f : g ≡ Ok k) (w : Result ⊤ Refusal) (o : List ℕ) (h : table_told w o ≡ table_of (version_in s) (read_all (version_in s) k (drop 7 s))) where
     whole : read_book s ≡ read_all (version_in s) k (drop 7 s)
     unfolding read_book read_in
     whole =
         let (rest, i) = headed-macros (read_header versions s) k (sym e ∙ f) in
         rw (i, (header-got versions s k rest i).behind)
 
-    pub macros-refused : {r : Refusal} → t ≡ Err r → opened_figures (Err r) ≡ check_result (read_book s)
-    macros-refused {r} i = rw whole (go (read_all (version_in s) k (drop 7 s)) (sym i ∙ h))
+    told : (x : Result ⊤ Refusal) → w ≡ x → table_told x o ≡ table_of (version_in s) (read_all (version_in s) k (drop 7 s))
+    told x i = ap (λ (y : Result ⊤ Refusal). table_told y o) (sym i) ∙ h
+
+    pub macros-refused : {r : Refusal} → w ≡ Err r → checked_figures (Err r) ≡ check_result (read_book s)
+    macros-refused {r} i = rw whole (go (read_all (version_in s) k (drop 7 s)) (told (Err r) i))
       where
-        go : (g : Reading (List Macro)) → Err r ≡ table_of (version_in s) g → opened_figures (Err r) ≡ check_result g
+        go : (g : Reading (List Macro)) → Err r ≡ table_of (version_in s) g → checked_figures (Err r) ≡ check_result g
         go (got ms rest) j = absurd (cc)
         go (refused q) j = let same : r ≡ q = cc in rw same refl
 
     -- as many macros as the header says
-    pub macros-sound : {o : List ℕ} → t ≡ Ok o → answered k ≡ check_result (read_book s)
+    pub macros-sound : {u : ⊤} → w ≡ Ok u → answered k ≡ check_result (read_book s)
     unfolding read_book
-    macros-sound {o} i = go (read_book s) refl (rw whole (sym i ∙ h))
+    macros-sound {u} i = go (read_book s) refl (rw whole (told (Ok u) i))
       where
         go : (g : Reading (List Macro)) → read_book s ≡ g → Ok o ≡ table_of (version_in s) g → answered k ≡ check_result g
         go (got ms rest) j l =
-            let (behind, w) = headed-macros (read_header versions s) k (sym e ∙ f) in
-            let many : k ≡ length ms = sym (header-got versions s k behind w).count ∙ (whole-reading versions s ms rest j).count in
+            let (behind, d) = headed-macros (read_header versions s) k (sym e ∙ f) in
+            let many : k ≡ length ms = sym (header-got versions s k behind d).count ∙ (whole-reading versions s ms rest j).count in
             ap answered many
         go (refused q) j l = absurd (cc)
 
-    pub macros-laid : {o : List ℕ} → t ≡ Ok o → o ≡ offsets_in s
+    pub macros-laid : {u : ⊤} → w ≡ Ok u → o ≡ offsets_in s
     unfolding offsets_in
-    macros-laid {o} i = rw whole (go (read_all (version_in s) k (drop 7 s)) (sym i ∙ h))
+    macros-laid {u} i = rw whole (go (read_all (version_in s) k (drop 7 s)) (told (Ok u) i))
       where
         go : (g : Reading (List Macro)) → Ok o ≡ table_of (version_in s) g → o ≡ offsets_of (version_in s) g
         go (got ms rest) j = cc

@@ -10,8 +10,8 @@ use mathlib.Core.List.Memᴰ
 use mathlib.Core.List.{List, [], ◌∷◌, ◌++◌, Memᴰ}
 use lib.Dec.{eqb}
 use borrow.Author.Tests.{lt-ltb, le-ltb}
-use lib.ListN.{length, drop, get_or, set, take, replicate, length-drop, length-take, take-append-drop}
-use lib.Seq.{append_snoc, drop-drop, get_or-take, set_at, take_all, take-append-le, take-nil}
+use lib.ListN.{length, drop, get_or, set, take, replicate, length-append, length-drop, length-replicate, length-take, take-append-drop}
+use lib.Seq.{append_snoc, drop-drop, get_or-take, length-take-le, set_at, take_all, take-append-le, take-nil}
 use Rattle.book.specs.declared.item.Item.TheVariants.{Key}
 use Rattle.std.specs.Prelude.{Option, Some, None, slice_get}
 use Rattle.std.proofs.lemmas.List.{take_more}
@@ -158,6 +158,42 @@ decoded-few b offsets i =
     let v = version_in b in
     let s = part_from b offsets i in
     rw (decoded-front v s, items-length v (min 64 (length s / width v)) s) (omega arith)
+
+-- how many they are
+pub width-some : (version wide : ℕ) → wide ≡ width version → 0 < wide
+width-some version wide e = omega (arith, e, width-least version)
+
+pub item-many : (b offsets : List ℕ) (i : ℕ) {p : List ℕ} {v wide n : ℕ} → v ≡ version_in b → p ≡ part_from b offsets i → wide ≡ width v → n ≡ min (length p / wide) 64 → n ≡ length (decoded (items_from b offsets i))
+unfolding items_from
+item-many b offsets i {p} {v} {wide} {n} e f w h =
+    let x = version_in b in
+    let s = part_from b offsets i in
+    let turned : min (length s / width x) 64 ≡ min 64 (length s / width x) = omega arith in
+    let many : min (length s / width x) 64 ≡ length (decoded (items_in x s)) = rw (decoded-front x s, items-length x (min 64 (length s / width x)) s) turned in
+    rw (h, w, e, f) many
+
+pub items-few : (b offsets : List ℕ) (i : ℕ) → (items_from b offsets i).count ≤ 64
+unfolding items_from items_in
+items-few b offsets i = omega arith
+
+pub items-wide : (b offsets : List ℕ) (i : ℕ) → length (items_from b offsets i).list ≡ 64
+unfolding items_from items_in
+items-wide b offsets i =
+    let v = version_in b in
+    let k = min 64 (length (part_from b offsets i) / width v) in
+    rw (length-append, items-length v k (part_from b offsets i), length-replicate) (omega arith)
+
+pub decoded-length : (b offsets : List ℕ) (i : ℕ) → length (decoded (items_from b offsets i)) ≡ (items_from b offsets i).count
+unfolding decoded
+decoded-length b offsets i = length-take-le (items_from b offsets i).count (items_from b offsets i).list (rw (items-wide b offsets i) (items-few b offsets i))
+
+-- the same of a place that holds the answer
+module _ (b offsets : List ℕ) (i : ℕ) {r : Items} (e : r ≡ items_from b offsets i) where
+  pub count-few : r.count ≤ 64
+  count-few = rw e (items-few b offsets i)
+
+  pub count_fits : r.count ≤ length r.list
+  count_fits = rw (e, items-wide b offsets i) (items-few b offsets i)
 
 -- the items that are shown
 pub shown : (r : Items) → length r.list ≡ 64 → take (min r.count 64) r.list ≡ decoded r

@@ -1,5 +1,5 @@
 -- What private functions promise each other; no public contract cites these.
-use Rattle.std.specs.Prelude.{ℕ, ◌-◌, List, Result, Ok, Err, length}
+use Rattle.std.specs.Prelude.{ℕ, ◌-◌, ⊤, List, Result, Ok, Err, length}
 use Rattle.refusal.specs.declared.Refusal.{Refusal}
 use Rattle.book.specs.Format.{Macro}
 use Rattle.book.specs.Reading.{Reading, got, refused}
@@ -18,3 +18,8 @@ header_of (refused r) = Err r
 abbrev pub table_of : ℕ → Reading (List Macro) → Result (List ℕ) Refusal
 table_of version (got ms rest) = Ok (offsets_of version (got ms rest))
 table_of version (refused r) = Err r
+
+-- what is told of them: the table, or why there is none
+abbrev pub table_told : Result ⊤ Refusal → List ℕ → Result (List ℕ) Refusal
+table_told (Ok u) offsets = Ok offsets
+table_told (Err r) offsets = Err r

@@ -3,14 +3,15 @@ ghost use Rattle.std.specs.Prelude.{◌≡◌};
 ghost use Rattle.book.specs.Reading.{read_book, version_in};
 ghost use Rattle.book.specs.Answer.{body_at, body_of, check_result, checked_figures, require_macro, refusal_of};
 
-use crate::layout::Book;
+use crate::layout::{Book, lay_out};
 use refusal::{Refusal, code};
 
 // Whether a book is sound (document 01, "The book"): its macro count, or the first fault in reading order.
 pub fn check(book: &[u8]) -> Result<u16, Refusal>
     ensures { checked_figures result ≡ check_result (read_book book.now) }
 {
-    Ok(Book::open(book)?.macros)
+    let mut offsets = [0; 1025];
+    lay_out(book, &mut offsets)
 }
 
 // The body of macro m, as that part of the book; the refusal's number goes to `refused`, 0 if there is none. Document 01, "Refused", has
@@ -20,13 +21,18 @@ pub fn body<'a>(book: &'a [u8], m: usize, refused: &mut u8) -> &'a [u8]
     ensures offset { result.ref_ptr ≡ body_at book.entry.ref_ptr (version_in book.now) m (require_macro m book.now) }
     ensures number { refused.new ≡ refusal_of (require_macro m book.now) }
 {
-    match Book::open(book) {
+    let mut found = Book {
+        bytes: book,
+        macros: 0,
+        offsets: [0; 1025],
+    };
+    match lay_out(book, &mut found.offsets) {
         Err(r) => {
             *refused = code(r);
             &book[..0]
         }
-        Ok(found) => {
-            if found.macros as usize <= m {
+        Ok(macros) => {
+            if macros as usize <= m {
                 *refused = code(Refusal::NoSuchMacro);
                 return &book[..0];
             }

@@ -1,9 +1,9 @@
 // The check of a whole book, in reading order (document 01, "Refused", 1 to 6, and document 02's 20), and the places of its macros.
-ghost use Rattle.std.specs.Prelude.{◌≡◌, ◌≤◌, ◌&&◌, IfOk, leb, length, drop};
+ghost use Rattle.std.specs.Prelude.{◌≡◌, ◌≤◌, ◌&&◌, IfOk, leb, length, drop, replicate};
 ghost use Rattle.book.specs.Format.{versions};
 ghost use Rattle.book.specs.Reading.{has_magic, read_all, read_book, read_header, read_item, read_items, read_macro, version_in};
-ghost use Rattle.book.specs.Answer.{check_result, offsets_in, opened_figures};
-ghost use Rattle.book.specs.Promises.{header_of, table_of, walk_of};
+ghost use Rattle.book.specs.Answer.{check_result, checked_figures, offsets_in, opened_figures};
+ghost use Rattle.book.specs.Promises.{header_of, table_of, table_told, walk_of};
 
 use crate::item::{Item, read_item};
 use crate::number::le16_at;
@@ -97,13 +97,12 @@ impl<'a> MacroCheck<'a> {
     }
 }
 
-// The macros of a book whose header gives `count`: where they stand.
-fn layout_macros(s: &[u8], count: u16) -> Result<[usize; 1025], Refusal>
-    requires { (7 ≤ length s.now) × (count ≤ 1024) }
-    ensures { result ≡ table_of (version_in s.now) (read_all (version_in s.now) count (drop 7 s.now)) }
+// The macros of a book whose header gives `count`: where they stand, in a table of zeros.
+fn layout_macros(s: &[u8], count: u16, offsets: &mut [usize; 1025]) -> Result<(), Refusal>
+    requires { ((7 ≤ length s.now) × (count ≤ 1024)) × (offsets.old ≡ replicate 1025 0) }
+    ensures { table_told result offsets.new ≡ table_of (version_in s.now) (read_all (version_in s.now) count (drop 7 s.now)) }
 {
     let version = version_of(s);
-    let mut offsets = [0; 1025];
     let mut at = 7;
     offsets[0] = at;
     for n in 0..count {
@@ -118,23 +117,34 @@ fn layout_macros(s: &[u8], count: u16) -> Result<[usize; 1025], Refusal>
     if at < s.len() {
         return Err(Refusal::MalformedBody);
     }
-    Ok(offsets)
+    Ok(())
+}
+
+// One walk over a book: the check of each byte, and in a table of zeros the places. The table is lent, so that it is not copied.
+pub(crate) fn lay_out(s: &[u8], offsets: &mut [usize; 1025]) -> Result<u16, Refusal>
+    requires { offsets.old ≡ replicate 1025 0 }
+    ensures figures { checked_figures result ≡ check_result (read_book s.now) }
+    ensures table { IfOk result (λ _. offsets.new ≡ offsets_in s.now) }
+{
+    let macros = read_header(s)?;
+    layout_macros(s, macros, offsets)?;
+    Ok(macros)
 }
 
 impl<'a> Book<'a> {
-    // One walk over the book: the check of each byte, and the places.
+    // A book that is sound, with the places of its macros.
     pub fn open(bytes: &'a [u8]) -> Result<Book<'a>, Refusal>
         ensures figures { opened_figures result ≡ check_result (read_book bytes.now) }
         ensures table { IfOk result (λ b. b.offsets ≡ offsets_in bytes.now) }
         ensures same { IfOk result (λ b. b.bytes ≡ bytes.entry) }
     {
-        let macros = read_header(bytes)?;
-        let offsets = layout_macros(bytes, macros)?;
-        Ok(Book {
+        let mut book = Book {
             bytes,
-            macros,
-            offsets,
-        })
+            macros: 0,
+            offsets: [0; 1025],
+        };
+        book.macros = lay_out(bytes, &mut book.offsets)?;
+        Ok(book)
     }
 
     // The version that its bytes give.

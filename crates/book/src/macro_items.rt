@@ -1,5 +1,5 @@
 // The items of one macro. Every table of offsets and every macro number is taken; those that fit no macro give no items.
-ghost use Rattle.std.specs.Prelude.{◌≡◌, slice_get};
+ghost use Rattle.std.specs.Prelude.{◌≡◌, length, slice_get};
 ghost use Rattle.book.specs.MacroItems.{decoded, items_from, items_in, part_at, part_from};
 
 use crate::item::{Item, Repeated, read_item};
@@ -70,6 +70,13 @@ impl<'a> Book<'a> {
         ensures { result ≡ items_from self.now.bytes.now self.now.offsets i }
     {
         items_in(self.part(i), self.version())
+    }
+
+    // How many items macro i has.
+    pub fn item_count(&self, i: usize) -> usize
+        ensures { result ≡ length (decoded (items_from self.now.bytes.now self.now.offsets i)) }
+    {
+        (self.part(i).len() / width_of(self.version())).min(64)
     }
 
     // Item k of macro i alone, for whoever has no room for all of them.

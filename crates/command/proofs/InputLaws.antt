@@ -24,7 +24,7 @@ use Rattle.std.specs.Prelude.{Result, Ok, Err}
 use Rattle.refusal.specs.declared.Refusal.{Refusal}
 use Rattle.counter.specs.declared.counting.Count.{Count}
 use Rattle.refusal.specs.declared.Refusal.TheVariants.{InputTooLong}
-use Rattle.command.specs.Input.{pattern_end, pattern_in, book_in, last_macro, last_result, program_result, told, told_by, program_answer, macro_answer}
+use Rattle.command.specs.Input.{pattern_end, pattern_in, book_in, last_macro, last_result, program_result, told, told_by, program_answer, macro_answer, last_answer}
 use Rattle.runs.specs.Keys.{line_end}
 use Rattle.std.specs.List.{position_or_len, position}
 use Rattle.std.specs.Prelude.{Option, None, Some}
@@ -122,3 +122,7 @@ module _ (r : Result Count Refusal) (after : List ℕ) where
   pub macro-told : (c : Case) (book pattern : List ℕ) (m : ℕ) → outcome r after ≡ book_result c book pattern m (replicate most_words 0) → told_by r ≡ macro_answer c book pattern m
   unfolding macro_answer
   macro-told c book pattern m e = told_of_lem e
+
+  pub last-told : (c : Case) (book pattern : List ℕ) → outcome r after ≡ last_result c book pattern (replicate most_words 0) → told_by r ≡ last_answer c book pattern
+  unfolding last_answer
+  last-told c book pattern e = told_of_lem e

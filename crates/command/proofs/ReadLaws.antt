@@ -24,7 +24,8 @@ use Rattle.command.specs.Buffers.{ReadFrom}
 use Rattle.command.specs.Input.{told_by, last_result, program_result, program_answer, macro_answer, last_answer}
 use Rattle.decimals.specs.Decimals.{decimal}
 use Rattle.command.specs.Asked.{asked_number, named_answer, asked_answer}
-use Rattle.command.specs.Reads.{ProgramAnswers}
+use Rattle.std.proofs.lemmas.Option.{same_Some}
+use Rattle.command.specs.Reads.{ProgramAnswers, CountsAsked}
 use Rattle.command.proofs.InputLaws.{answer-long, program-told, macro-told}
 use Rattle.command.proofs.AskedLaws.{asked-told}
 
@@ -91,7 +92,15 @@ module _ (book pattern : List ℕ) (c : Case) (a : Asked) {o : Option ℕ} (e : 
   pub counts-read : {m : ℕ} (after : List ℕ) (r : Result Count Refusal) → o ≡ Some m → outcome r after ≡ book_result c book pattern m (replicate most_words 0) → (b p : List ℕ) → ReadFrom 264200 book b → ReadFrom 129 pattern p → option_map told_by (Some r) ≡ asked_answer c b p a
   counts-read {m} after r f g b p h k = asked-told c book pattern a e f (macro-told r after c book pattern m g) ∙ sym (asked-prefix c book pattern a) ∙ rw (h, k) (asked-prefix c b p a)
 
--- what it promises, for those who go on from it
+-- what they promise, for those who go on from it
 pub program-answers : (n : ℕ) (input : List ℕ) (r : Result Count Refusal) → ProgramAnswers n input r → (w : List ℕ) → ReadFrom n input w → told_by r ≡ program_answer w
 unfolding ProgramAnswers
 program-answers n input r a = a
+
+pub counts-answers : (most few : ℕ) (book pattern : List ℕ) (c : Case) (a : Asked) (r : Option (Result Count Refusal)) → CountsAsked most few book pattern c a r → (b p : List ℕ) → ReadFrom most book b → ReadFrom few pattern p → option_map told_by r ≡ asked_answer c b p a
+unfolding CountsAsked
+counts-answers most few book pattern c a r h = h
+
+-- the same of the last macro, and of the one that a text names
+pub last-answers : (most few : ℕ) (book pattern : List ℕ) (c : Case) (r : Result Count Refusal) → CountsAsked most few book pattern c Asked.Last (Some r) → (b p : List ℕ) → ReadFrom most book b → ReadFrom few pattern p → told_by r ≡ last_answer c b p
+last-answers most few book pattern c r h b p f g = same_Some (told_by r) (last_answer c b p) (counts-answers most few book pattern c Asked.Last (Some r) h b p f g)

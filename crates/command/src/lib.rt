@@ -8,7 +8,7 @@ mod input;
 mod last;
 
 pub use asked::Asked;
-pub use buffer::{BOOK_READ, PATTERN_READ};
+pub use buffer::{BOOK_READ, PATTERN_READ, read_part};
 pub use counts::count_asked;
 pub use input::{READ, answer};
 pub use last::last_macro;

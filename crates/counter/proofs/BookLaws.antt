@@ -22,7 +22,7 @@ use Rattle.pattern.specs.Meaning.{Query, query}
 use Rattle.letters.specs.declared.Case.{Case}
 use Rattle.pattern.specs.Form.{Pattern}
 use Rattle.pattern.specs.Reader as reader
-use Rattle.pattern.specs.Automata.{Automaton, TablesOn}
+use Rattle.pattern.specs.Automata.{Automaton, TablesOn, verdict_figures, read_figures}
 use Rattle.pattern.specs.declared.automaton.Accepting.{Accepting}
 use Rattle.pattern.specs.declared.automaton.Tables.{Tables}
 use Rattle.pattern.proofs.Readings.{states-of}
@@ -88,15 +88,15 @@ module _ (c : Case) (version : ℕ) (book : Reading (List Macro)) (pattern : rea
 pub book-refused : (c : Case) (book : List ℕ) (p : reader.Read) (m : ℕ) (before : List ℕ) (r : Refusal) → opened_figures (Err r) ≡ check_result (read_book book) → stopped r before ≡ count_result c (version_in book) (read_book book) p m before
 book-refused c book p m before r e = stopped_by c (version_in book) (read_book book) p m before (front-book (read_book book) p (λ t. needed (query c t) m) m (length before) (book-refuses book e))
 
--- A sound book.
-module _ {book offsets : List ℕ} {macros : ℕ} (i : InBook book offsets macros) (c : Case) (s : List ℕ) {v : Result Tables Refusal} (tables : TablesOn c s v) (m : ℕ) (before : List ℕ) where
-  -- and a pattern that is refused
-  pub pattern-refused : {r : Refusal} → v ≡ Err r → stopped r before ≡ book_result c book s m before
-  pattern-refused e =
+-- A sound book, and a pattern that is refused.
+module _ {book offsets : List ℕ} {macros : ℕ} (i : InBook book offsets macros) (s : List ℕ) {v : Result Tables Refusal} {r : Refusal} (figures : verdict_figures v ≡ read_figures (reader.read_pattern s)) (e : v ≡ Err r) where
+  pub pattern-refused : (c : Case) (m : ℕ) (before : List ℕ) → stopped r before ≡ book_result c book s m before
+  pattern-refused c m before =
       stopped_by c (version_in book) (read_book book) (reader.read_pattern s) m before
-      (front-pattern (read_book book) (reader.read_pattern s) (λ t. needed (query c t) m) m (length before) i.sound (pattern-refuses c s tables e))
+      (front-pattern (read_book book) (reader.read_pattern s) (λ t. needed (query c t) m) m (length before) i.sound (pattern-refuses s figures e))
 
-  -- and one that is accepted
+-- A sound book, and a pattern that is accepted.
+module _ {book offsets : List ℕ} {macros : ℕ} (i : InBook book offsets macros) (c : Case) (s : List ℕ) {v : Result Tables Refusal} (tables : TablesOn c s v) (m : ℕ) (before : List ℕ) where
   module _ {a : Tables} (e : v ≡ Ok a) where
     accepted : InPattern c s a.keys a.enter a.accepting
     accepted = pattern-in c s tables e

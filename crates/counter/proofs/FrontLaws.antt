@@ -18,7 +18,7 @@ use Rattle.letters.specs.declared.Case.{Case}
 use Rattle.pattern.specs.Form.{Pattern}
 use Rattle.pattern.specs.Meaning.{query}
 use Rattle.pattern.specs.Reader as reader
-use Rattle.pattern.specs.Automata.{TablesOn}
+use Rattle.pattern.specs.Automata.{TablesOn, verdict_figures, read_figures}
 use Rattle.pattern.specs.declared.automaton.Accepting.{Accepting}
 use Rattle.pattern.specs.declared.automaton.Tables.{Tables}
 use Rattle.pattern.proofs.Readings.{read-accepted, read-refused, states-of}
@@ -26,10 +26,10 @@ use Rattle.counter.specs.Front.{pattern_step, front, InPattern}
 use Rattle.counter.specs.Counting.{stopped, count_of, needed, count_result}
 
 -- A pattern, by what `read_pattern` answers.
-module _ (c : Case) (s : List ℕ) {v : Result Tables Refusal} (tables : TablesOn c s v) where
-  pub pattern-refuses : {r : Refusal} → v ≡ Err r → pattern_step (reader.read_pattern s) ≡ refused r
-  pattern-refuses e = ap pattern_step (read-refused c s tables e)
+pub pattern-refuses : (s : List ℕ) {v : Result Tables Refusal} {r : Refusal} → verdict_figures v ≡ read_figures (reader.read_pattern s) → v ≡ Err r → pattern_step (reader.read_pattern s) ≡ refused r
+pattern-refuses s figures e = ap pattern_step (read-refused s figures e)
 
+module _ (c : Case) (s : List ℕ) {v : Result Tables Refusal} (tables : TablesOn c s v) where
   pub pattern-in : {a : Tables} → v ≡ Ok a → InPattern c s a.keys a.enter a.accepting
   pattern-in e =
       let a = read-accepted c s tables e in

@@ -1,5 +1,5 @@
 -- Laws of texts in a buffer.
-use Prim.Native.Nat.{ℕ, ◌+◌, ◌-◌, ◌≤◌}
+use Prim.Native.Nat.{ℕ, ◌+◌, ◌-◌, ◌<◌, ◌≤◌}
 use native.Mathlib.Nat.{add_assoc}
 use native.Mathlib.Omega.{arith}
 use mathlib.Core.Path.{◌≡◌, refl, sym, ap, ◌∙◌}
@@ -8,11 +8,36 @@ use mathlib.Core.List.{List, ◌++◌, append_assoc}
 use lib.Dec.{leb}
 use lib.ListN.{length, take, drop, length-append}
 use lib.Seq.{paste, drop-drop, take-length, length-paste, take-paste, drop-paste}
-use borrow.Author.Tests.{le-leb, leb-true}
+use borrow.Author.Tests.{le-leb, lt-leb, leb-true}
 use Rattle.decimals.specs.Texts.{put_at, place_after}
 
--- A text that there is room for.
+-- A text, by the room there is for it.
 module _ (out : List ℕ) (at : ℕ) (w : List ℕ) where
+  module _ (short : length out < at + length w) where
+    put-short : out ≡ put_at out at w
+    unfolding put_at
+    put-short = rw (lt-leb (at + length w) (length out) short) refl
+
+    place_short : at ≡ place_after out at w
+    unfolding place_after
+    place_short = rw (lt-leb (at + length w) (length out) short) refl
+
+  -- the place is behind the buffer
+  module _ (far : length out < at) where
+    pub put-beyond : out ≡ put_at out at w
+    put-beyond = put-short (omega arith)
+
+    pub place-beyond : at ≡ place_after out at w
+    place-beyond = place_short (omega arith)
+
+  -- the place is inside, and the text has no room
+  module _ (near : at ≤ length out) (few : length out - at < length w) where
+    pub put-none : out ≡ put_at out at w
+    put-none = put-short (omega arith)
+
+    pub place_none : at ≡ place_after out at w
+    place_none = place_short (omega arith)
+
   module _ (room : at + length w ≤ length out) where
     pub put_all : paste out at w (length w) ≡ put_at out at w
     unfolding put_at

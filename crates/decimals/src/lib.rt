@@ -6,5 +6,5 @@ mod text;
 mod wide;
 
 pub use number::number_in;
-pub use text::Draft;
+pub use text::{Draft, put_number, put_text};
 pub use wide::wide_in;

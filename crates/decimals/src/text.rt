@@ -2,6 +2,7 @@
 ghost use Rattle.std.specs.Prelude.{◌≡◌, ◌≤◌, length};
 ghost use Rattle.decimals.specs.Decimals.{numeral};
 ghost use Rattle.decimals.specs.Drafts.{Puts};
+ghost use Rattle.decimals.specs.Texts.{place_after, put_at};
 
 // A text that grows from the front of a buffer. Contracts read its fields: by the name of the reference a caller knows that what the draft
 // holds in the end is what the lent buffer holds.
@@ -53,4 +54,31 @@ impl Draft<'_> {
     {
         self.length
     }
+}
+
+// Puts a text from a place on, and answers the place behind it; without room for all of it, nothing is put.
+pub fn put_text(out: &mut [u8], at: usize, text: &[u8]) -> usize
+    ensures buffer { out.new ≡ put_at out.old at text.now }
+    ensures place { result ≡ place_after out.old at text.now }
+{
+    let mut draft = Draft {
+        bytes: out,
+        length: at,
+    };
+    draft.put(text);
+    draft.length
+}
+
+// The same with a number's digits, of which there are 20 at the most.
+pub fn put_number(out: &mut [u8], at: usize, n: u64) -> usize
+    ensures buffer { out.new ≡ put_at out.old at (numeral n) }
+    ensures place { result ≡ place_after out.old at (numeral n) }
+    ensures short { length (numeral n) ≤ 20 }
+{
+    let mut digits = Draft {
+        bytes: out,
+        length: at,
+    };
+    digits.put_number(n);
+    digits.length
 }

@@ -32,19 +32,19 @@ key-made opening closing k e f = same-unmatched refl (e ∙ byte-is (eqb k closi
 
 -- Two runs, by the sum of their lengths, which stops at the last word.
 module _ (a b : Unmatched) {n : ℕ} (e : n ≡ min (a.length + b.length) (2 ^ 64 - 1)) where
-  pub both-long : longest < n → too_long ≡ followed a b
-  both-long h = joined-over a b (omega (arith, e))
+  pub both_long : longest < n → too_long ≡ followed a b
+  both_long h = joined-over a b (omega (arith, e))
 
-  pub both-fit : n ≤ longest → {c o : ℕ} → c ≡ b.closings - a.openings → o ≡ a.openings - b.closings → record { length = n; closings = a.closings + c; openings = b.openings + o } ≡ followed a b
-  both-fit h f g = same-unmatched (omega (arith, e)) (rw f refl) (rw g refl) ∙ joined-fits a b (omega (arith, e))
+  pub both_fit : n ≤ longest → {c o : ℕ} → c ≡ b.closings - a.openings → o ≡ a.openings - b.closings → record { length = n; closings = a.closings + c; openings = b.openings + o } ≡ followed a b
+  both_fit h f g = same-unmatched (omega (arith, e)) (rw f refl) (rw g refl) ∙ joined-fits a b (omega (arith, e))
 
 -- A run so many times.
 module _ (u : Unmatched) {k p n : ℕ} (d : p ≡ k) (e : n ≡ min (u.length * p) (2 ^ 64 - 1)) where
   length-is : n ≡ min (u.length * k) (2 ^ 64 - 1)
   length-is = rw d at e
 
-  pub passes-long : longest < n → too_long ≡ times_unmatched k u
-  passes-long h = times-over k u (omega (arith, length-is))
+  pub passes_long : longest < n → too_long ≡ times_unmatched k u
+  passes_long h = times-over k u (omega (arith, length-is))
 
   pub passes-fit : n ≤ longest → {c o : ℕ} → c ≡ u.closings - u.openings → o ≡ u.openings - u.closings → record { length = n; closings = u.closings + c * (p - 1); openings = u.openings + o * (p - 1) } ≡ times_unmatched k u
   passes-fit h f g = same-unmatched (omega (arith, length-is)) (rw (f, d) refl) (rw (g, d) refl) ∙ times-fits k u (omega (arith, length-is))

@@ -68,6 +68,7 @@ impl Unmatched {
     }
 
     // One run and another behind it: openings of the first meet closings of the second.
+    #[tactic(auto, using(crate::proofs::CodeLaws::both_long, crate::proofs::CodeLaws::both_fit))]
     pub(crate) fn followed_by(self, next: Unmatched) -> Unmatched
         requires first { Sized self }
         requires second { Sized next }
@@ -85,18 +86,19 @@ impl Unmatched {
     }
 
     // A run n times. With each pass the keys that stay without a partner become more by what one pass has of the one sort over the other.
+    #[tactic(auto, using(crate::proofs::CodeLaws::passes_long))]
     pub(crate) fn repeated(self, n: u16) -> Unmatched
         requires sized { Sized self }
         requires some { 1 ≤ n }
         ensures { result ≡ times_unmatched n self }
     {
         let passes = u64::from(n);
-        let length = self.length.saturating_mul(passes);
-        if Unmatched::LONGEST < length {
+        let whole = self.length.saturating_mul(passes);
+        if Unmatched::LONGEST < whole {
             return Unmatched::TOO_LONG;
         }
         Unmatched {
-            length,
+            length: whole,
             closings: self.closings + self.closings.saturating_sub(self.openings) * (passes - 1),
             openings: self.openings + self.openings.saturating_sub(self.closings) * (passes - 1),
         }

@@ -15,7 +15,8 @@ use Rattle.decimals.specs.Drafts.{Puts}
 use Rattle.decimals.proofs.DraftLaws.{puts-near, puts-wide, Holds, holds-more}
 use Rattle.output.proofs.LineLaws.{line_of, three-put}
 use Rattle.output.specs.Lines.{Line, ending, refused_text}
-use Rattle.std.specs.Prelude.{Result, Err}
+use Rattle.std.specs.Prelude.{Result, Ok, Err}
+use Rattle.find.specs.declared.finding.FoundLine.{FoundLine}
 use Rattle.display.specs.declared.asked.LineAnswer.{LineAnswer}
 use Rattle.display.specs.Shown.{shown_keys}
 use Rattle.display.specs.Asked.{told_by}
@@ -51,6 +52,14 @@ module _ (old : List ℕ) (wide : length old ≡ 262208) (n : ℕ) (short : leng
 
 -- By the answer's case.
 module _ {found : Result LineAnswer Refusal} (keys : List ℕ) {old new : List ℕ} {k : ℕ} where
+  pub answer-shown : {i : FoundLine} → found ≡ Ok (LineAnswer.Shown i) → Line (shown_text i.number (take i.length keys)) old new k → Line (line_text (told_by found keys)) old new k
+  unfolding line_text
+  answer-shown e x = rw e x
+
+  pub answer-long : {i : FoundLine} → found ≡ Ok (LineAnswer.Long i) → Line (long_text i.number i.length) old new k → Line (line_text (told_by found keys)) old new k
+  unfolding line_text
+  answer-long e x = rw e x
+
   pub answer-refused : {r : Refusal} → found ≡ Err r → Line (refused_text (number r)) old new k → Line (line_text (told_by found keys)) old new k
   unfolding line_text
   answer-refused e x = rw e x

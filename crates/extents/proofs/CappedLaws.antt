@@ -16,12 +16,22 @@ pub capped-large : (n : ℕ) → most ≤ n → capped n ≡ most
 unfolding capped
 capped-large n h = grind arith
 
+pub capped_le : (n : ℕ) → capped n ≤ most
+capped_le n = either n most (λ h. rw (capped_small n (omega arith)) (omega arith)) (λ h. rw (capped-large n h) (omega arith))
+
 -- what is below the largest is the number itself
 pub capped-below : (n : ℕ) → capped n < most → capped n ≡ n
 capped-below n h = either n most (λ l. capped_small n (omega arith)) (λ l. absurd (go (capped-large n l)))
   where
     go : capped n ≡ most → ⊥
     go e = omega (arith, h, e)
+
+-- and what is the largest is at least that
+pub capped-most : (n : ℕ) → most ≤ capped n → most ≤ n
+capped-most n h = either n most (λ l. absurd (go l (capped_small n (omega arith)))) (λ l. l)
+  where
+    go : n < most → capped n ≡ n → ⊥
+    go l e = omega (arith, h, e)
 
 pub capped-zero : (n : ℕ) → eqb (capped n) 0 ≡ eqb n 0
 capped-zero n = either n most (λ h. ap (λ (k : ℕ). eqb k 0) (capped_small n (omega arith))) (λ h. ap (λ (k : ℕ). eqb k 0) (capped-large n h) ∙ sym (ne_eqb n 0 (omega arith)))

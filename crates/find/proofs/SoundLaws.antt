@@ -21,7 +21,7 @@ use Rattle.letters.specs.declared.Case.{Case}
 use Rattle.pattern.specs.Meaning.{query}
 use Rattle.pattern.specs.Form.{Pattern}
 use Rattle.pattern.specs.Reader as reader
-use Rattle.pattern.specs.Automata.{TablesOn}
+use Rattle.pattern.specs.Automata.{TablesOn, verdict_figures, read_figures}
 use Rattle.pattern.specs.declared.automaton.Tables.{Tables}
 use Rattle.pattern.proofs.Readings.{states-of}
 use Rattle.reports.specs.Words.{behind_rows}
@@ -53,15 +53,15 @@ pub record Placeable (b offsets : List ℕ) (c : Case) (s : List ℕ) (a : Table
   pub room : needed (query c pattern.tree) m ≤ length work
   pub settles : front (read_book b) (reader.read_pattern s) (λ t. needed (query c t) m) m (length work) ≡ settled (macros_in b, pattern.tree)
 
--- A sound book.
-module _ {b offsets : List ℕ} {macros : ℕ} (i : InBook b offsets macros) (c : Case) (s : List ℕ) {v : Result Tables Refusal} (tables : TablesOn c s v) where
-  -- and a pattern that is refused
-  pub pattern-refused : {r : Refusal} → v ≡ Err r → (m k : ℕ) (work : List ℕ) → placing (Err r) work ≡ placing_of c (read_book b) (reader.read_pattern s) m k work
-  pattern-refused e m k work =
+-- A sound book, and a pattern that is refused.
+module _ {b offsets : List ℕ} {macros : ℕ} (i : InBook b offsets macros) (s : List ℕ) {v : Result Tables Refusal} {r : Refusal} (figures : verdict_figures v ≡ read_figures (reader.read_pattern s)) (e : v ≡ Err r) where
+  pub pattern-refused : (c : Case) (m k : ℕ) (work : List ℕ) → placing (Err r) work ≡ placing_of c (read_book b) (reader.read_pattern s) m k work
+  pattern-refused c m k work =
       stopped_by c (read_book b) (reader.read_pattern s) m k work
-      (front-pattern (read_book b) (reader.read_pattern s) (λ t. needed (query c t) m) m (length work) i.sound (pattern-refuses c s tables e))
+      (front-pattern (read_book b) (reader.read_pattern s) (λ t. needed (query c t) m) m (length work) i.sound (pattern-refuses s figures e))
 
-  -- and one that is accepted
+-- A sound book, and a pattern that is accepted.
+module _ {b offsets : List ℕ} {macros : ℕ} (i : InBook b offsets macros) (c : Case) (s : List ℕ) {v : Result Tables Refusal} (tables : TablesOn c s v) where
   module _ {a : Tables} (e : v ≡ Ok a) where
     pub accepted : InPattern c s a.keys a.enter a.accepting
     accepted = pattern-in c s tables e

@@ -87,13 +87,17 @@ pub survey-refused : (r : Refusal) {old new : List ℕ} {n : ℕ} {s : Result Fa
 unfolding survey_line
 survey-refused r e l = rw (e, refusal-told r) l
 
-pub reach-listed : (n : ℕ) (list : List ℕ) {old new : List ℕ} {k i : ℕ} {r : Result ℕ Refusal} → r ≡ Ok n → length list ≡ 1024 → i ≡ min n 1024 → Line (list_text (take i list)) old new k → Line (reach_text (reached_figures r) list) old new k
+pub reach-listed : (n : ℕ) (list : List ℕ) {v old new : List ℕ} {k : ℕ} {r : Result ℕ Refusal} → r ≡ Ok n → Line (list_text v) old new k → v ≡ take (min n 1024) list → length list ≡ 1024 → Line (reach_text (reached_figures r) list) old new k
 unfolding reach_text
-reach-listed n list {old} {new} {k} e long f l = rw e (subst (λ (v : List ℕ). Line (list_text v) old new k) (ap (λ (j : ℕ). take j list) f ∙ all (leb n 1024) refl) l)
+reach-listed n list {v} {old} {new} {k} e l f long = rw e (subst (λ (v : List ℕ). Line (list_text v) old new k) (f ∙ all (leb n 1024) refl) l)
   where
     all : (b : Bool) → leb n 1024 ≡ b → take (min n 1024) list ≡ take n list
     all true g = let h = leb-true n 1024 g in let same : min n 1024 ≡ n = omega arith in rw same refl
     all false g = let h = leb-false n 1024 g in take_all (min n 1024) list (omega arith) ∙ sym (take_all n list (omega arith))
+
+-- first parts are one where their lengths are
+pub first-part : (list : List ℕ) {i j : ℕ} → i ≡ j → take i list ≡ take j list
+first-part list e = ap (λ (n : ℕ). take n list) e
 
 pub reach-refused : (q : Refusal) (list : List ℕ) {old new : List ℕ} {k : ℕ} {r : Result ℕ Refusal} → r ≡ Err q → Line (refused_text (number q)) old new k → Line (reach_text (reached_figures r) list) old new k
 unfolding reach_text

@@ -1,5 +1,6 @@
 -- What the answer of a reading says of the pattern.
 use Prim.Native.Nat.{ℕ, ◌≤◌}
+use native.Mathlib.Omega.{arith}
 use mathlib.Core.Path.{◌≡◌, refl, sym, ap, ◌∙◌}
 use mathlib.Core.Bool.{Bool, true, false, ◌&&◌, ◌||◌, cond}
 use mathlib.Core.List.{List}
@@ -8,12 +9,14 @@ use lib.ListN.{length}
 use borrow.Author.Tests.{leb-true}
 use Rattle.refusal.specs.declared.Refusal.{Refusal}
 use Rattle.refusal.specs.declared.Refusal.TheVariants.{PatternLength, PatternSyntax, TooManyAtoms}
+use Rattle.refusal.specs.Figures.{Figures}
+use Rattle.refusal.proofs.Number.{number-positive, number-injective}
 use Rattle.letters.specs.declared.Case.{Case}
 use Rattle.pattern.specs.Meaning.{Query, query}
 use Rattle.pattern.specs.declared.automaton.Accepting.{Accepting}
 use Rattle.pattern.specs.Reader.{Read, accepted, refused, counted, read_branches, read_pattern}
 use Rattle.brackets.specs.Brackets.{Parsed, parsed, fault}
-use Rattle.pattern.specs.Automata.{Automaton, verdict_figures, read_figures, tables_of, accepts, enter_table, key_table, TablesOn}
+use Rattle.pattern.specs.Automata.{Automaton, refused_pattern, verdict_figures, read_figures, tables_of, accepts, enter_table, key_table, TablesOn}
 use Rattle.pattern.specs.declared.automaton.Tables.{Tables}
 use Rattle.std.specs.Prelude.{Result, Ok, Err}
 use Rattle.pattern.specs.States.{ends_free, atom_word}
@@ -62,13 +65,13 @@ module _ (c : Case) (p : List ℕ) {v : Result Tables Refusal} (f : TablesOn c p
           }
       go (refused r) e g = clash (cc)
 
-  -- a pattern that is refused: the choice plays no part
-  pub read-refused : {r : Refusal} → v ≡ Err r → read_pattern p ≡ refused r
-  read-refused {r} h = go (read_pattern p) refl (sym h ∙ f)
-    where
-      go : (d : Read) → read_pattern p ≡ d → Err r ≡ tables_of c d → read_pattern p ≡ refused r
-      go (accepted t) e g = clash (cc)
-      go (refused s) e g = let same : s ≡ r = cc in e ∙ ap refused same
+-- a pattern that is refused: the choice and the tables play no part
+pub read-refused : (p : List ℕ) {v : Result Tables Refusal} {r : Refusal} → verdict_figures v ≡ read_figures (read_pattern p) → v ≡ Err r → read_pattern p ≡ refused r
+read-refused p {v} {r} f h = go (read_pattern p) refl (sym (ap verdict_figures h) ∙ f)
+  where
+    go : (d : Read) → read_pattern p ≡ d → refused_pattern r ≡ read_figures d → read_pattern p ≡ refused r
+    go (accepted t) e g = absurd (omega (arith, number-positive r, ap (λ (x : Figures Accepting). x.refusal) g))
+    go (refused s) e g = e ∙ ap refused (number-injective s r (sym (ap (λ (x : Figures Accepting). x.refusal) g)))
 
 -- the figures of an answer
 pub tables-figures : (c : Case) (d : Read) → verdict_figures (tables_of c d) ≡ read_figures d

@@ -102,6 +102,9 @@ module _ (b offsets : List ℕ) (i n : ℕ) (marks : List Bool) (list : List ℕ
     pub enter-room : n < length list
     enter-room = omega (arith, x.walk.count, once-room (length list) (take n list) i x.walk.single (λ j m. (x.walk.low j m).1) x.room new)
 
+    pub enter-small : n < 1024
+    enter-small = omega (arith, x.walk.count, once-room 1024 (take n list) i x.walk.single (λ j m. (x.walk.low j m).0) enter-macro new)
+
     front-is : take (n + 1) (set list n i) ≡ take n list ++ (i ∷ [])
     front-is = rw (add-one n) (take-suc-set list n i enter-room)
 

@@ -21,7 +21,7 @@ use Rattle.pattern.specs.Form.{atom_count}
 use Rattle.reports.specs.declared.span_count.SpanCount.{SpanCount}
 use Rattle.reports.specs.Reports.{span_count, empty_count, joined_counts}
 use Rattle.reports.specs.Repetition.{doubled, by_digits, repeated_count}
-use Rattle.reports.proofs.ReportLaws.{empty-count, count-size, join-counts}
+use Rattle.reports.proofs.ReportLaws.{empty-count, empty-small, count-size, join-counts, joined_small}
 
 -- one digit more
 digits_more : (n k : ℕ) (a : SpanCount) → by_digits n (k + 1) a ≡ cond (bit n k) (joined_counts (by_digits n k a) (doubled k a)) (by_digits n k a)
@@ -75,6 +75,20 @@ module _ {n : ℕ} {a all part : SpanCount} {left : ℕ} (r : Repeating n a all 
       above k l none =
           let e : k ≡ r.turns + 1 + (k - (r.turns + 1)) = omega arith in
           rw e (higher (k - (r.turns + 1)) ∙ rw none (bit-zero (k - (r.turns + 1))))
+
+-- no more than 32 states
+digits-small : (n k : ℕ) (a : SpanCount) → (by_digits n k a).span.s ≤ 32
+unfolding by_digits
+digits-small n zero a = empty-small a.span.s
+digits-small n (suc k) a = go (bit n k) (digits-small n k a)
+  where
+    go : (t : Bool) → (by_digits n k a).span.s ≤ 32 → (cond t (joined_counts (by_digits n k a) (doubled k a)) (by_digits n k a)).span.s ≤ 32
+    go true h = joined_small (by_digits n k a) (doubled k a)
+    go false h = h
+
+pub repeated-small : (n : ℕ) (a : SpanCount) → (repeated_count n a).span.s ≤ 32
+unfolding repeated_count
+repeated-small n a = digits-small n 16 a
 
 -- a digit, and the number of the digits up to it
 digit-is : (n k : ℕ) → bit n k ≡ eqb (n / 2 ^ k % 2) 1

@@ -22,7 +22,9 @@ fn leads_into(states: States, y: u64, a: Span) -> u64
     if a.ended {
         return chosen(states.meeting(a.tail, y), State::LINE_START.set());
     }
-    states.heads_through(&a.rows, y)
+    // The rows alone: a reference into the span would have all of it copied.
+    let rows = a.rows;
+    states.heads_through(&rows, y)
 }
 
 // The states from which the keys since the last line end of the one run after the other, less a final CR, are accepted.

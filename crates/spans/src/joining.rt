@@ -22,7 +22,9 @@ fn heads_across(states: States, a: Span, b: Span) -> u64
     if is_seam(a, b) {
         return states.within(a.edges.trimmed);
     }
-    states.heads_through(&a.rows, b.heads)
+    // The rows alone: a reference into the span would have all of it copied.
+    let rows = a.rows;
+    states.heads_through(&rows, b.heads)
 }
 
 // Whether the line across matches, where both have one.
@@ -44,14 +46,21 @@ pub fn join_spans(a: Span, b: Span) -> JoinedSpan
     let s = states.count;
     let edges = joined_edges(states, a, b);
     let span = match (a.ended, b.ended) {
-        (false, false) => open_span(s, states.rows_through(&a.rows, &b.rows), edges),
+        (false, false) => {
+            let left = a.rows;
+            let right = b.rows;
+            open_span(s, states.rows_through(&left, &right), edges)
+        }
         (false, true) => ended_span(s, heads_across(states, a, b), states.within(b.tail), edges),
-        (true, false) => ended_span(
-            s,
-            states.within(a.heads),
-            states.onward_from(a.tail, &b.rows),
-            edges,
-        ),
+        (true, false) => {
+            let right = b.rows;
+            ended_span(
+                s,
+                states.within(a.heads),
+                states.onward_from(a.tail, &right),
+                edges,
+            )
+        }
         (true, true) => ended_span(s, states.within(a.heads), states.within(b.tail), edges),
     };
     JoinedSpan {

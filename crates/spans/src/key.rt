@@ -17,9 +17,10 @@ fn moved_states(a: Span, key: u8, tables: &Tables) -> Span
         let tail = states.moved(a.tail, key, tables);
         return ended_span(states.count, states.within(a.heads), tail, a.edges);
     }
+    let rows = a.rows;
     open_span(
         states.count,
-        states.moved_rows(&a.rows, key, tables),
+        states.moved_rows(&rows, key, tables),
         a.edges,
     )
 }
@@ -29,12 +30,14 @@ fn moved_span(a: Span, key: u8, tables: &Tables) -> Span
     ensures { result ≡ moved_span tables.now.keys tables.now.enter tables.now.accepting a key }
 {
     let on = moved_states(a, key, tables);
-    let edges = if key == b'\r' {
-        return_edges(States::new(a.s), a, tables.accepting)
-    } else {
-        key_edges(a)
-    };
-    Span { edges, ..on }
+    if key == b'\r' {
+        let edges = return_edges(States::new(a.s), a, tables.accepting);
+        return Span { edges, ..on };
+    }
+    Span {
+        edges: key_edges(a),
+        ..on
+    }
 }
 
 // A line end alone.

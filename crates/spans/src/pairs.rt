@@ -27,5 +27,6 @@ pub fn pairs_in(a: Span) -> u64
     if a.ended {
         return size(states.within(a.tail));
     }
-    sizes(states, &a.rows)
+    let rows = a.rows;
+    sizes(states, &rows)
 }

@@ -7,7 +7,7 @@ use mathlib.Core.Path.{◌≡◌, refl, sym, ◌∙◌}
 use mathlib.Core.Bool.{Bool, true, false, cond, ◌&&◌, ◌||◌}
 use lib.Dec.{eqb, eqb-zero-suc, eqb-suc-zero, eqb-suc-suc}
 use lib.Pow.{pow-add, pow-lt, pow_pos, pow_mono, mod-pow-add}
-use lib.Bits.{bit_and, bit_or, and_step, or_step, or_lt, and_mask}
+use lib.Bits.{bit_and, bit_or, and_lt, and_step, or_step, or_lt, and_mask}
 use Rattle.stateset.specs.Set.{bit, word}
 
 -- the digits of a sum of a double and a digit
@@ -122,6 +122,11 @@ word-or s X Y =
     word-unique s (bit_or (word s X) (word s Y)) (λ p. X p || Y p) (or_lt s (word s X) (word s Y) (word_lt s X) (word_lt s Y))
     (λ p h. bit-or (word s X) (word s Y) p ∙ rw (bit_word s X p h, bit_word s Y p h))
 
+pub word_and : (s : ℕ) (X Y : ℕ → Bool) → bit_and (word s X) (word s Y) ≡ word s (λ p. X p && Y p)
+word_and s X Y =
+    word-unique s (bit_and (word s X) (word s Y)) (λ p. X p && Y p) (and_lt s (word s X) (word s Y) (word_lt s X) (word_lt s Y))
+    (λ p h. bit-and (word s X) (word s Y) p ∙ rw (bit_word s X p h, bit_word s Y p h))
+
 pub word-one : (s k : ℕ) → k < s → 2 ^ k ≡ word s (λ p. eqb k p)
 word-one s k h = word-unique s (2 ^ k) (λ p. eqb k p) (pow-lt h) (λ p l. bit-one k p)
 
@@ -180,8 +185,11 @@ bit-chosen false k p = bit-zero p
 -- The members below s.
 
 -- a power of two that a word holds, by a shift
-shifted : (s : ℕ) → s < 64 → 1 * 2 ^ s % 2 ^ 64 ≡ 2 ^ s
+pub shifted : (s : ℕ) → s < 64 → 1 * 2 ^ s % 2 ^ 64 ≡ 2 ^ s
 shifted s h = let l : 2 ^ s < 2 ^ 64 = pow-lt {i = s} {j = 64} h in let e : 1 * 2 ^ s ≡ 2 ^ s = omega arith in rw e (mod-eq_of_lt l)
+
+pub shifted-some : (s : ℕ) → s < 64 → 1 ≤ 1 * 2 ^ s % 2 ^ 64
+shifted-some s h = rw (shifted s h) (pow_pos s)
 
 -- a mask keeps them
 pub masked : (s x : ℕ) → s < 64 → bit_and x (1 * 2 ^ s % 2 ^ 64 - 1) ≡ word s (bit x)

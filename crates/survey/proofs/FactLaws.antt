@@ -16,7 +16,6 @@ use Rattle.book.specs.MacroItems.{decoded, items_from}
 use Rattle.book.specs.Reading.{Reading, got, refused, read_book, version_in, macros_in}
 use Rattle.book.specs.Answer.{check_result, offsets_in, opened_figures}
 use Rattle.book.specs.declared.layout.Book.{Book}
-use Rattle.book.specs.declared.macro_items.Items.{Items}
 use Rattle.book.proofs.LayoutLaws.{opened-refused, opened-sound, opened-count}
 use Rattle.book.proofs.MacroItems.{items-sound, decoded-few}
 use Rattle.book.proofs.Prefix.{book-prefix}
@@ -38,19 +37,19 @@ module _ (b offsets : List ℕ) where
   pub summed-none : (n : ℕ) → Summed b offsets n 0 0
   summed-none n = record { inside = omega arith; sums = sym (sum-none (λ i. length (decoded (items_from b offsets i)))); small = omega arith }
 
-  pub summed-more : {n i j sum : ℕ} {r : Items} {is : Macro} → Summed b offsets n i sum → i < n → j ≡ i → r ≡ items_from b offsets j → is ≡ decoded r → Summed b offsets n (i + 1) (sum + length is)
-  summed-more {n} {i} {j} {sum} {r} {is} s h f e d =
-      let count : length is ≡ length (decoded (items_from b offsets i)) = ap length (d ∙ ap decoded (e ∙ ap (λ (k : ℕ). items_from b offsets k) f)) in
+  pub summed-more : {n i j sum count : ℕ} → Summed b offsets n i sum → i < n → j ≡ i → count ≡ length (decoded (items_from b offsets j)) → Summed b offsets n (i + 1) (sum + count)
+  summed-more {n} {i} {j} {sum} {count} s h f e =
+      let same : count ≡ length (decoded (items_from b offsets i)) = e ∙ ap (λ (k : ℕ). length (decoded (items_from b offsets k))) f in
       record {
         inside = omega arith;
-        sums = rw (sum_more i (λ i. length (decoded (items_from b offsets i))), ← s.sums, count) refl;
-        small = omega (arith, s.small, count, decoded-few b offsets i);
+        sums = rw (sum_more i (λ i. length (decoded (items_from b offsets i))), ← s.sums, same) refl;
+        small = omega (arith, s.small, same, decoded-few b offsets i);
       }
 
   -- no sum wraps: a book has fewer than 65,536 macros
-  pub summed-fits : {n i j sum : ℕ} {r : Items} {is : Macro} → Summed b offsets n i sum → i < n → Fits w16 n → j ≡ i → r ≡ items_from b offsets j → is ≡ decoded r → Fits w64 (sum + length is)
-  summed-fits {n} {i} {j} {sum} {r} {is} s h w f e d =
-      let few : length is ≤ 64 = rw (d, e) (decoded-few b offsets j) in
+  pub summed-fits : {n i sum count : ℕ} (j : ℕ) → Summed b offsets n i sum → i < n → Fits w16 n → count ≡ length (decoded (items_from b offsets j)) → Fits w64 (sum + count)
+  summed-fits {n} {i} {sum} {count} j s h w e =
+      let few : count ≤ 64 = omega (arith, e, decoded-few b offsets j) in
       let small : n < 65536 = w.fits in
       record { fits = omega (arith, s.small) }
 

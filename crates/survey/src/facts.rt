@@ -23,8 +23,7 @@ fn items_below(book: &Book, n: u16) -> u64
 {
     let mut sum = 0;
     for i in 0..n {
-        let items = book.items(usize::from(i));
-        sum += items.as_slice().len() as u64;
+        sum += book.item_count(usize::from(i)) as u64;
     }
     sum
 }

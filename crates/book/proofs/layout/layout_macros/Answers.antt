@@ -1,12 +1,11 @@
 -- `layout_macros`. Invariant: n macros were read, their offsets stand in the table, and reading goes on behind the last.
 use native.Mathlib.Omega.{arith}
-use mathlib.Core.Path.{refl}
 use Rattle.std.proofs.lemmas.Result.{err_from_is_err_and}
 use Rattle.book.proofs.Laid.{laid_none, laid-refused, laid_more, laid-left, laid_end}
 use Rattle.book.proofs.layout.layout_macros.Goals as goal
 
 pub loop-n-init : goal.loop-n-init
-loop-n-init c = (omega arith, laid_none _ c.args.s.now c.version_of-version.ensures c.args.count _ refl)
+loop-n-init c = (omega arith, laid_none _ c.args.s.now c.version_of-version.ensures c.args.count _ c.requires.1)
 
 pub returns-in_err-at : goal.returns-in_err-at
 returns-in_err-at c =

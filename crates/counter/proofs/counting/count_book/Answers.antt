@@ -16,7 +16,7 @@ returns-in_err-tables c =
     let p = err_from_is_err_and c.from_residual-in_err-tables.result c.from_residual-in_err-tables.ensures.1 in
     let a = c.args in
     let i = book-in a.book.now c.in_ok-opened.opened c.in_ok-opened.ensures.figures c.in_ok-opened.ensures.table in
-    rw (p.1, p.2) (pattern-refused i a.case a.pattern.now c.in_err-tables.ensures.tables a.m a.work.now refl)
+    rw (p.1, p.2) (pattern-refused i a.pattern.now c.in_err-tables.ensures.figures refl a.case a.m a.work.now)
 
 pub overflow_add-width : goal.overflow_add-width
 overflow_add-width c =

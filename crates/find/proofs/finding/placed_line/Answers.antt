@@ -13,7 +13,7 @@ pub returns-in_err-tables : goal.returns-in_err-tables
 returns-in_err-tables c =
     let p = err_from_is_err_and c.from_residual.result c.from_residual.ensures.1 in
     let a = c.args in
-    rw (p.1, p.2) (pattern-refused c.requires a.case a.pattern.now c.in_err-tables.ensures.tables refl a.m a.k a.work.now)
+    rw (p.1, p.2) (pattern-refused c.requires a.pattern.now c.in_err-tables.ensures.figures refl a.case a.m a.k a.work.now)
 
 pub overflow_add-width : goal.overflow_add-width
 overflow_add-width c = width_fits c.requires c.args.case c.args.pattern.now c.in_ok-tables.ensures.tables refl

@@ -1,9 +1,9 @@
--- `Unmatched::repeated`: a run that becomes too long is not kept; else one sort of keys without a partner becomes more.
-use Rattle.depth.proofs.CodeLaws.{passes-long, passes-fit}
+-- `Unmatched::repeated`: of a run that does not become too long, one sort of keys without a partner becomes more.
+use Prim.Native.Nat.{◌≤◌}
+use native.Mathlib.Omega.{arith}
+use Rattle.depth.specs.Answer.{longest}
+use Rattle.depth.proofs.CodeLaws.{passes-fit}
 use Rattle.depth.proofs.unmatched.Unmatched.repeated.Goals as goal
 
-pub returns-then-length-gt-LONGEST : goal.returns-then-length-gt-LONGEST
-returns-then-length-gt-LONGEST c = search (passes-long)
-
 pub returns : goal.returns
-returns c = search (passes-fit)
+returns c = let short : c.saturating_mul-whole.result ≤ longest = omega arith in search (passes-fit)
