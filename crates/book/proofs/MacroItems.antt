@@ -1,4 +1,4 @@
--- The items of one macro: laws of what `items_of` answers, for those that fold over it, and of how it is read.
+-- The items of one macro: laws of what `Book::items` answers, for those that fold over it, and of how it is read.
 use Prim.Native.Nat.{ℕ, zero, suc, ◌+◌, ◌-◌, ◌*◌, ◌/◌, ◌<◌, ◌≤◌, min}
 use native.Mathlib.Nat.{suc-add, mul-le-mul, div-lt_iff_lt-mul, le-div_iff_mul-le}
 use native.Mathlib.Omega.{arith}

@@ -90,6 +90,7 @@ fn read_clean(s: &[u8], case: Case) -> Result<Tables, Refusal>
 }
 
 // Reads a pattern, with case ignored or not. Refused with 7, 8 and 9 of document 01's table, in that order.
+// Inlined: else the tables are cleared and copied once more on their way to the caller.
 #[inline(always)]
 pub fn read_pattern(s: &[u8], case: Case) -> Result<Tables, Refusal>
     ensures figures { verdict_figures result ≡ read_figures (read_pattern s.now) }
