@@ -18,11 +18,7 @@ fn moved_states(a: Span, key: u8, tables: &Tables) -> Span
         return ended_span(states.count, states.within(a.heads), tail, a.edges);
     }
     let rows = a.rows;
-    open_span(
-        states.count,
-        states.moved_rows(&rows, key, tables),
-        a.edges,
-    )
+    open_span(states.count, states.moved_rows(&rows, key, tables), a.edges)
 }
 
 // A key that is no line end: the states behind it, and the edges, which a CR takes from the states before it.
