@@ -387,8 +387,9 @@ expect 0 'sound version 1 macros 1024 items 65536 bytes 133127' '' "${within[@]}
 expect 0 'lines 1 steps 5043200' '' "${within[@]}" count "$(many x 29)" "$room/longest" 1023
 expect 0 1023 '' "${within[@]}" reach "$room/longest"
 expect 0 1023 '' "${within[@]}" reach "$room/longest" "$(many 0 131000)1023"
-# Macros one inside the other, with 1 MiB of stack beyond the program's buffers, which are less than 600 KiB, and 914 KiB where lines are shown.
-beyond=(bash -c 'ulimit -s 1600; exec "$@"' - "$r")
+# Macros one inside the other, with 1 MiB of stack beyond the program's buffers, which have 409 KiB for a reach list; where lines are shown, they have
+# 1,042 KiB, and less is left.
+beyond=(bash -c 'ulimit -s 1433; exec "$@"' - "$r")
 finding=(bash -c 'ulimit -s 1938; exec "$@"' - "$r")
 expect 0 "$(seq 1023 -1 0)" '' "${beyond[@]}" reach "$room/chain"
 # 64 keys, and 1,023 macros of 64 calls: the first item of each calls the macro below, the others macro 0.

@@ -6,15 +6,16 @@ use mathlib.Core.Bool.{true}
 use mathlib.Core.List.{List, []}
 use lib.ListN.{length, drop}
 use borrow.Author.Tests.{lt-ltb, le-ltb}
+use denote.Ref.{Bor}
 use Rattle.refusal.specs.declared.Refusal.{Refusal}
 use Rattle.refusal.specs.Figures.{Figures}
 use Rattle.refusal.proofs.Number.{number-injective, number-positive}
-use Rattle.std.specs.Prelude.{Ok, Err}
+use Rattle.std.specs.Prelude.{Result, Ok, Err, IfOk}
 use Rattle.book.specs.declared.layout.Book.{Book}
 use Rattle.runs.specs.Keys.{member}
 use Rattle.book.specs.Format.{Macro, versions, well_formed}
 use Rattle.book.specs.Reading.{Reading, got, refused, le16, read_in, read_book, version_in, macros_of, macros_in}
-use Rattle.book.specs.Answer.{check_result, checked_figures, opened_figures}
+use Rattle.book.specs.Answer.{check_result, checked_figures, layout, offsets_in, offsets_of, opened_figures}
 use Rattle.book.proofs.Offsets.{Whole, whole}
 use Rattle.book.proofs.Coding.{read-well}
 
@@ -54,6 +55,22 @@ module _ (b : List ℕ) where
 
     pub opened-count : k.macros ≡ length (macros_in b)
     opened-count = checked-count k.macros e
+
+-- So the clauses of `open` decide its whole answer: two answers that meet them for the same bytes are the same.
+module _ (s : Bor (List ℕ)) where
+  places : (k : Book) (m : ℕ) (o : List ℕ) → k.macros ≡ m → k.offsets ≡ o → k.bytes ≡ s → k ≡ record { bytes = s; macros = m; offsets = o }
+  places k m o many table same =
+      ap (λ (p : Bor (List ℕ)). record { bytes = p; macros = k.macros; offsets = k.offsets }) same
+      ∙ ap (λ (n : ℕ). record { bytes = s; macros = n; offsets = k.offsets }) many
+      ∙ ap (λ (t : List ℕ). record { bytes = s; macros = m; offsets = t }) table
+
+  pub layout-figures : {v : Result Book Refusal} → opened_figures v ≡ check_result (read_book s.now) → IfOk v (λ k. k.offsets ≡ offsets_in s.now) → IfOk v (λ k. k.bytes ≡ s) → v ≡ layout s
+  unfolding layout offsets_in
+  layout-figures {v = Ok k} figures table same =
+      let sound = opened-sound s.now k figures in
+      let there : k.offsets ≡ offsets_of (version_in s.now) (got (macros_in s.now) []) = table ∙ ap (offsets_of (version_in s.now)) sound in
+      rw sound (ap Ok (places k (length (macros_in s.now)) (offsets_of (version_in s.now) (got (macros_in s.now) [])) (opened-count s.now k figures) there same))
+  layout-figures {v = Err r} figures table same = rw (opened-refused s.now figures) refl
 
 -- a book that has a macro was read
 pub read-in : (b : List ℕ) {i : ℕ} → i < length (macros_in b) → (rest : List ℕ) × (read_book b ≡ got (macros_in b) rest)

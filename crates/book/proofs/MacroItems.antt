@@ -15,7 +15,7 @@ use lib.Seq.{append_snoc, drop-drop, get_or-take, length-take-le, set_at, take_a
 use Rattle.book.specs.declared.item.Item.TheVariants.{Key}
 use Rattle.std.specs.Prelude.{Option, Some, None, slice_get}
 use Rattle.std.proofs.lemmas.List.{take_more}
-use Rattle.std.proofs.lemmas.Option.{get_or_from_slice_get, slice_get-get_or, slice_get_past, slice_get_within}
+use Rattle.std.proofs.lemmas.Option.{get_or_from_slice_get, slice_get-get_or, slice_get_past, slice_get_read, slice_get_within}
 use Rattle.book.specs.declared.macro_items.Items.{Items}
 use Rattle.book.specs.Format.{repeated, Macro, versions, width}
 use Rattle.book.specs.declared.item.Repeated.{Repeated}
@@ -266,6 +266,21 @@ module _ (is : Macro) (k : ℕ) where
       clash-none : {x : Repeated} → None ≡ Some x → take k is ≡ is
       clash-none f = absurd (cc)
 
+-- The same of the items that a list holds, by its places and its count.
+module _ (r : Items) (k : ℕ) (h : k < r.count) {x : Repeated} (f : slice_get r.list k ≡ Some x) where
+  pub decoded-at : slice_get (decoded r) k ≡ Some x
+  unfolding decoded
+  decoded-at =
+      let inside : k < length r.list = slice_get_within r.list k x f in
+      let held : get_or r.list k x ≡ x = get_or_from_slice_get r.list k x x f in
+      slice_get_read (take r.count r.list) (length (take r.count r.list)) k x refl (rw length-take (omega arith)) (sym (get_or-take r.count r.list k x h ∙ held))
+
+  pub decoded-more : take (k + 1) (decoded r) ≡ take k (decoded r) ++ (x ∷ [])
+  decoded-more = item-more (decoded r) k decoded-at
+
+  pub decoded-in : Memᴰ x (decoded r)
+  decoded-in = item-in (decoded r) k decoded-at
+
 -- the bytes behind are no matter
 front-take : (version k n : ℕ) (b : List ℕ) → width version * k ≤ n → front_items version k (take n b) ≡ front_items version k b
 unfolding front_items
@@ -299,3 +314,18 @@ items-sound b i h =
 -- the same where a place holds the answer for a macro of the book
 pub items-are : (b offsets : List ℕ) (i : ℕ) → offsets ≡ offsets_in b → i < length (macros_in b) → decoded (items_from b offsets i) ≡ get_or (macros_in b) i []
 items-are b offsets i table inside = rw table (items-sound b i inside)
+
+module _ (b offsets : List ℕ) (i : ℕ) (table : offsets ≡ offsets_in b) (inside : i < length (macros_in b)) {r : Items} (e : r ≡ items_from b offsets i) where
+  own : decoded r ≡ get_or (macros_in b) i []
+  own = rw e (items-are b offsets i table inside)
+
+  -- its first items, where these are all
+  pub items-all : (k : ℕ) → r.count ≤ k → take k (decoded r) ≡ get_or (macros_in b) i []
+  items-all k h = take_all k (decoded r) (rw (e, decoded-length b offsets i, ← e) h) ∙ own
+
+  module _ (k : ℕ) (h : k < r.count) {x : Repeated} (f : slice_get r.list k ≡ Some x) where
+    pub items_more : take (k + 1) (decoded r) ≡ take k (decoded r) ++ (x ∷ [])
+    items_more = decoded-more r k h f
+
+    pub item-among : Memᴰ x (get_or (macros_in b) i [])
+    item-among = rw own at (decoded-in r k h f)

@@ -1,5 +1,6 @@
 -- What each operation of the book answers, by the definitions of the book.
 use Rattle.std.specs.Prelude.{ℕ, ◌+◌, ◌-◌, cond, List, [], ◌++◌, Result, Ok, Err, ltb, length, replicate}
+use denote.Ref.{Bor}
 use Rattle.refusal.specs.declared.Refusal.{Refusal}
 use Rattle.refusal.specs.declared.Refusal.TheVariants.{NoSuchMacro}
 use Rattle.refusal.specs.Number as Number
@@ -31,6 +32,14 @@ offsets_of version (refused r) = replicate 1025 0
 -- those of a book's bytes, by its version
 unfoldable pub offsets_in : List ℕ → List ℕ
 offsets_in b = offsets_of (version_in b) (read_book b)
+
+-- what opening a book answers, whole; no public contract cites it, since the figures, the table and the bytes decide it (`layout-figures`)
+abbrev pub layout_for : Bor (List ℕ) → Reading (List Macro) → Result Book Refusal
+layout_for s (got ms rest) = Ok (record { bytes = s; macros = length ms; offsets = offsets_of (version_in s.now) (got ms rest) })
+layout_for s (refused r) = Err r
+
+unfoldable pub layout : Bor (List ℕ) → Result Book Refusal
+layout s = layout_for s (read_book s.now)
 
 -- 10 after 1 to 6 and 20: "m not below M"
 unfoldable pub require_macro : ℕ → Reader (List Macro)

@@ -16,9 +16,10 @@ use Rattle.pattern.specs.Meaning.{Query, query}
 use Rattle.pattern.specs.declared.automaton.Accepting.{Accepting}
 use Rattle.pattern.specs.Reader.{Read, accepted, refused, counted, read_branches, read_pattern}
 use Rattle.brackets.specs.Brackets.{Parsed, parsed, fault}
-use Rattle.pattern.specs.Automata.{Automaton, refused_pattern, verdict_figures, read_figures, tables_of, accepts, enter_table, key_table, TablesOn}
+use Rattle.pattern.specs.Automata.{Automaton, refused_pattern, verdict_figures, read_figures, entered_by, enter_read, tables_of, accepts, enter_table, key_table, TablesOn}
 use Rattle.pattern.specs.declared.automaton.Tables.{Tables}
 use Rattle.std.specs.Prelude.{Result, Ok, Err}
+use Rattle.std.proofs.lemmas.Option.{same_Some}
 use Rattle.pattern.specs.States.{ends_free, atom_word}
 use Rattle.pattern.specs.Moves.{states, jumps, accepting}
 use Rattle.stateset.specs.Set.{word}
@@ -81,19 +82,20 @@ tables-figures c (refused r) = refl
 pub tables-told : (c : Case) (d : Read) {v : Result Tables Refusal} → v ≡ tables_of c d → verdict_figures v ≡ read_figures d
 tables-told c d e = ap verdict_figures e ∙ tables-figures c d
 
+-- and its table of entering
+pub tables-entered : (c : Case) (d : Read) {v : Result Tables Refusal} → v ≡ tables_of c d → entered_by v ≡ enter_read d
+tables-entered c d e = ap entered_by e ∙ go d
+  where
+    go : (r : Read) → entered_by (tables_of c r) ≡ enter_read r
+    go (accepted t) = refl
+    go (refused r) = refl
+
 -- Read by either choice, a pattern is accepted or refused alike, with the same number of atoms and of states, and the same table of entering.
 pub verdict-alike : (c d : Case) (p : List ℕ) {v w : Result Tables Refusal} → TablesOn c p v → TablesOn d p w → (verdict_figures v ≡ verdict_figures w) × ((a b : Tables) → v ≡ Ok a → w ≡ Ok b → a.enter ≡ b.enter)
 verdict-alike c d p {v} {w} f g = (
   tables-told c (read_pattern p) f ∙ sym (tables-told d (read_pattern p) g),
-  λ a b h k. alike (read_pattern p) a b (sym h ∙ f) (sym k ∙ g),
+  λ a b h k. same_Some a.enter b.enter (ap entered_by (sym h) ∙ tables-entered c (read_pattern p) f ∙ sym (tables-entered d (read_pattern p) g) ∙ ap entered_by k),
 )
-  where
-    alike : (r : Read) (a b : Tables) → Ok a ≡ tables_of c r → Ok b ≡ tables_of d r → a.enter ≡ b.enter
-    alike (accepted t) a b h k =
-        let left : a ≡ record { keys = key_table (query c t); enter = enter_table t; accepting = accepts t } = cc in
-        let right : b ≡ record { keys = key_table (query d t); enter = enter_table t; accepting = accepts t } = cc in
-        ap (λ (x : Tables). x.enter) left ∙ sym (ap (λ (x : Tables). x.enter) right)
-    alike (refused r) a b h k = clash (cc)
 
 pub states-alike : (c d : Case) (t : Pattern) → states (query c t) ≡ states (query d t)
 states-alike c d t = refl

@@ -1,5 +1,5 @@
 -- What reading a pattern yields, by the definitions on its tree: the tables of its automaton, or a refusal.
-use Rattle.std.specs.Prelude.{ℕ, ◌+◌, ◌≤◌, ◌≡◌, ◌||◌, cond, List, Result, Ok, Err, eqb}
+use Rattle.std.specs.Prelude.{ℕ, ◌+◌, ◌≤◌, ◌≡◌, ◌||◌, cond, List, Option, Some, None, Result, Ok, Err, eqb}
 use Rattle.std.specs.Int.Bits.{bit_or}
 use Rattle.stateset.specs.Set.{word}
 use Rattle.refusal.specs.declared.Refusal.{Refusal}
@@ -52,6 +52,15 @@ verdict_figures (Err r) = refused_pattern r
 abbrev pub read_figures : Read → Figures Accepting
 read_figures (accepted t) = answered (accepts t)
 read_figures (refused r) = refused_pattern r
+
+-- the table of entering of an answer, and of a reading; none where it is refused
+abbrev pub entered_by : Result Tables Refusal → Option (List ℕ)
+entered_by (Ok a) = Some a.enter
+entered_by (Err r) = None
+
+abbrev pub enter_read : Read → Option (List ℕ)
+enter_read (accepted t) = Some (enter_table t)
+enter_read (refused r) = None
 
 -- the tables of a reading, or why it is refused
 abbrev pub tables_of : Case → Read → Result Tables Refusal

@@ -2,7 +2,7 @@
 ghost use Rattle.std.specs.Prelude.{◌≡◌, ◌≤◌, length, true};
 ghost use Rattle.runs.specs.Keys.{is_line};
 ghost use Rattle.pattern.specs.Reader.{counted, read_branches, read_pattern};
-ghost use Rattle.pattern.specs.Automata.{accepting_of, read_figures, tables_of, verdict_figures};
+ghost use Rattle.pattern.specs.Automata.{accepting_of, enter_read, entered_by, read_figures, tables_of, verdict_figures};
 
 use crate::clean::clean;
 use crate::cursor::Cursor;
@@ -94,6 +94,7 @@ fn read_clean(s: &[u8], case: Case) -> Result<Tables, Refusal>
 #[inline(always)]
 pub fn read_pattern(s: &[u8], case: Case) -> Result<Tables, Refusal>
     ensures figures { verdict_figures result ≡ read_figures (read_pattern s.now) }
+    ensures entered { entered_by result ≡ enter_read (read_pattern s.now) }
     ensures tables { result ≡ tables_of case (read_pattern s.now) }
 {
     let n = s.len();
