@@ -275,8 +275,8 @@ module _ (r : Items) (k : ℕ) (h : k < r.count) {x : Repeated} (f : slice_get r
       let held : get_or r.list k x ≡ x = get_or_from_slice_get r.list k x x f in
       slice_get_read (take r.count r.list) (length (take r.count r.list)) k x refl (rw length-take (omega arith)) (sym (get_or-take r.count r.list k x h ∙ held))
 
-  pub decoded-more : take (k + 1) (decoded r) ≡ take k (decoded r) ++ (x ∷ [])
-  decoded-more = item-more (decoded r) k decoded-at
+  pub items_more : take (k + 1) (decoded r) ≡ take k (decoded r) ++ (x ∷ [])
+  items_more = item-more (decoded r) k decoded-at
 
   pub decoded-in : Memᴰ x (decoded r)
   decoded-in = item-in (decoded r) k decoded-at
@@ -323,9 +323,5 @@ module _ (b offsets : List ℕ) (i : ℕ) (table : offsets ≡ offsets_in b) (in
   pub items-all : (k : ℕ) → r.count ≤ k → take k (decoded r) ≡ get_or (macros_in b) i []
   items-all k h = take_all k (decoded r) (rw (e, decoded-length b offsets i, ← e) h) ∙ own
 
-  module _ (k : ℕ) (h : k < r.count) {x : Repeated} (f : slice_get r.list k ≡ Some x) where
-    pub items_more : take (k + 1) (decoded r) ≡ take k (decoded r) ++ (x ∷ [])
-    items_more = decoded-more r k h f
-
-    pub item-among : Memᴰ x (get_or (macros_in b) i [])
-    item-among = rw own at (decoded-in r k h f)
+  pub item-among : (k : ℕ) → k < r.count → {x : Repeated} → slice_get r.list k ≡ Some x → Memᴰ x (get_or (macros_in b) i [])
+  item-among k h f = rw own at (decoded-in r k h f)
